@@ -21,22 +21,29 @@ fn a_source_over_memory_gives_pieces_and_fails_where_it_is_told(
 
 #[test]
 fn all_bytes_are_read_up_to_the_limit(rt: HostRuntime) -> Result<(), Fail> {
-    // the piece of a call, the limit, the call that fails (0 for none), and what is read of "abcde"
+    // the piece of a call, the limit, the call that fails (0 for none), and what comes of "abcde"
     let rows = [
-        (1, 5, 0, Some(5)),
-        (5, 6, 0, Some(5)),
-        (3, 4, 0, None),
-        (1, 5, 6, None),
-        (1, 5, 9, Some(5)),
+        (1, 5, 0, "abcde"),
+        (5, 6, 0, "abcde"),
+        (3, 4, 0, "too long"),
+        // The limit falls inside the second piece, and a fault would come after it.
+        (2, 3, 3, "too long"),
+        (1, 5, 6, "failed"),
+        (1, 5, 9, "abcde"),
     ];
-    for (piece, most, fails, read) in rows {
+    for (piece, most, fails, comes) in rows {
         let bytes = b"abcde".as_slice().to_vec(rt.alloc())?;
         let failing = [fails].as_slice().to_vec(rt.alloc())?;
         let mut source = MemorySource::new(bytes, piece, failing);
-        let result = read_all(rt.alloc(), &mut source, most);
+        let text = match read_all(rt.alloc(), &mut source, most) {
+            Ok(read) => read,
+            Err(ReadEnd::Long) => b"too long".as_slice().to_vec(rt.alloc())?,
+            Err(ReadEnd::Failed) => b"failed".as_slice().to_vec(rt.alloc())?,
+            Err(ReadEnd::Memory(end)) => return Err(end.into()),
+        };
         assert_eq!(rt;
-            result.ok().map(|bytes| bytes.len()),
-            read,
+            text.as_slice(),
+            comes.as_bytes(),
             "at {piece} {most} {fails}"
         );
     }
