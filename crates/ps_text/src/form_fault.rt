@@ -1,0 +1,11 @@
+use crate::form_name::FormName;
+
+/// The first fault of a text that isn't of its form, and where it stands.
+#[derive(Clone, Copy, Debug, PartialEq, Eq, PartialOrd, Ord, Hash)]
+pub struct FormFault {
+    /// The line's number.
+    pub line: u32,
+    /// The field's number in its line, from 1, or 0 for the line as a whole.
+    pub field: u32,
+    pub what: FormName,
+}
