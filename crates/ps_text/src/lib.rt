@@ -10,6 +10,7 @@ mod form_name;
 
 
 mod place;
+mod reader;
 
 
 
@@ -22,3 +23,4 @@ pub use form_end::FormEnd;
 pub use form_fault::FormFault;
 pub use form_name::FormName;
 pub use place::Place;
+pub use reader::Reader;
