@@ -6,6 +6,9 @@ ghost use Rattle.std.specs.Option.{SomeIff};
 ghost use Rattle.std.specs.Str.Parse.{digits_value};
 ghost use Rattle.std.specs.Int.{w128};
 ghost use Rattle.ps_text.specs.Decimal.{IsDecimal, IsSignedDecimal, are_digits, is_run, is_canonical, counts_as_decimal, u128_of, u32_of, i128_of, narrow, positive_of, negative_of};
+ghost use Rattle.ps_text.specs.Reading.{natural32, natural, integer, count};
+
+use crate::form_name::FormName;
 
 fn are_digits(bytes: &[u8]) -> bool
     ensures { result ≡ are_digits bytes.now }
@@ -139,4 +142,53 @@ pub fn read_i128(field: &[u8]) -> Option<i128>
     ensures function { result ≡ i128_of field.now }
 {
     signed_number_of(field)
+}
+
+/// A field of a form that is a decimal of 32 bits.
+pub fn natural32(field: &[u8]) -> Result<u32, FormName>
+    ensures { result ≡ natural32 field.now }
+{
+    if counts_as_decimal(field) {
+        read_u32(field).ok_or(FormName::Number)
+    } else {
+        Err(FormName::Field)
+    }
+}
+
+/// A field of a form that is a decimal of 128 bits.
+pub fn natural(field: &[u8]) -> Result<u128, FormName>
+    ensures { result ≡ natural field.now }
+{
+    if counts_as_decimal(field) {
+        read_u128(field).ok_or(FormName::Number)
+    } else {
+        Err(FormName::Field)
+    }
+}
+
+/// A field of a form that is a signed decimal of 128 bits.
+pub fn integer(field: &[u8]) -> Result<i128, FormName>
+    ensures { result ≡ integer field.now }
+{
+    if counts_as_decimal(field) {
+        read_i128(field).ok_or(FormName::Number)
+    } else {
+        Err(FormName::Field)
+    }
+}
+
+/// A field of a form that is a stated count, at most its limit.
+pub fn count(limit: u32, field: &[u8]) -> Result<u32, FormName>
+    ensures { result ≡ count limit field.now }
+{
+    match natural32(field) {
+        Ok(n) => {
+            if n <= limit {
+                Ok(n)
+            } else {
+                Err(FormName::Limit)
+            }
+        }
+        Err(what) => Err(what),
+    }
 }

@@ -4,7 +4,7 @@ ghost use Rattle.std.specs.Prelude.{◌≡◌, ℕ, ◌+◌, ◌<◌, ◌≤◌,
 ghost use Rattle.ps_text.specs.Tokens.{field_len, has_newline, next_field, tokens, ahead};
 ghost use Rattle.ps_text.specs.Reading.{start, Reads, fault_at, line_fault, field_at, leaf_at, word_at, line_at, end_at, only_at, done_at, natural32, natural, integer, count, header_at, begins_at};
 
-use crate::decimal::{counts_as_decimal, read_i128, read_u128, read_u32};
+use crate::decimal::{count, integer, natural, natural32};
 use crate::form_fault::FormFault;
 use crate::form_name::FormName;
 use std::marker::Model;
@@ -184,5 +184,78 @@ impl<'a> Reader<'a> {
     {
         self.line(word)?;
         self.end()
+    }
+
+    /// Takes the next field, a decimal of 32 bits.
+    #[tactic(auto, unfolding(crate::specs::Reading::leaf_at, crate::specs::Reading::and_then))]
+    pub fn natural32(&mut self) -> Result<u32, FormFault>
+        ensures { Reads (λ x. x) result self.new (leaf_at natural32 self.old) }
+    {
+        let fault = self.fault(FormName::Number);
+        let field = self.field()?;
+        match natural32(field) {
+            Ok(n) => Ok(n),
+            Err(what) => Err(fault.named(what)),
+        }
+    }
+
+    /// Takes the next field, a decimal of 128 bits.
+    #[tactic(auto, unfolding(crate::specs::Reading::leaf_at, crate::specs::Reading::and_then))]
+    pub fn natural(&mut self) -> Result<u128, FormFault>
+        ensures { Reads (λ x. x) result self.new (leaf_at natural self.old) }
+    {
+        let fault = self.fault(FormName::Number);
+        let field = self.field()?;
+        match natural(field) {
+            Ok(n) => Ok(n),
+            Err(what) => Err(fault.named(what)),
+        }
+    }
+
+    /// Takes the next field, a signed decimal of 128 bits.
+    #[tactic(auto, unfolding(crate::specs::Reading::leaf_at, crate::specs::Reading::and_then))]
+    pub fn integer(&mut self) -> Result<i128, FormFault>
+        ensures { Reads (λ x. x) result self.new (leaf_at integer self.old) }
+    {
+        let fault = self.fault(FormName::Number);
+        let field = self.field()?;
+        match integer(field) {
+            Ok(n) => Ok(n),
+            Err(what) => Err(fault.named(what)),
+        }
+    }
+
+    /// Takes the next field, a stated count, at most `limit`.
+    #[tactic(auto, unfolding(crate::specs::Reading::leaf_at, crate::specs::Reading::and_then))]
+    pub fn count(&mut self, limit: u32) -> Result<u32, FormFault>
+        ensures { Reads (λ x. x) result self.new (leaf_at (count limit) self.old) }
+    {
+        let fault = self.fault(FormName::Number);
+        let field = self.field()?;
+        match count(limit, field) {
+            Ok(n) => Ok(n),
+            Err(what) => Err(fault.named(what)),
+        }
+    }
+
+    /// Takes a line of a word and a stated count, at most `limit`.
+    #[tactic(auto, unfolding(crate::specs::Reading::header_at, crate::specs::Reading::and_then))]
+    pub fn header(&mut self, word: &[u8], limit: u32) -> Result<u32, FormFault>
+        ensures { Reads (λ x. x) result self.new (header_at word.now limit self.old) }
+    {
+        self.line(word)?;
+        let n = self.count(limit)?;
+        self.end()?;
+        Ok(n)
+    }
+
+    /// Whether an ended line begins here with this word. Looks no further than to the end of the line.
+    pub fn begins(&self, word: &[u8]) -> bool
+        ensures { result ≡ begins_at word.now self.now }
+    {
+        match self.peek() {
+            Some(field) => field == word && self.has_line(),
+            None => false,
+        }
     }
 }
