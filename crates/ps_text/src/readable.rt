@@ -1,0 +1,31 @@
+//! What is read from a reader, and lists of it.
+
+ghost use Rattle.std.specs.Prelude.{◌≡◌, Result};
+ghost use Rattle.ps_text.specs.Reading.{At, Gives, times_at, while_at};
+ghost use Rattle.ps_text.specs.declared.form_fault.FormFault.{FormFault};
+
+use crate::form_end::FormEnd;
+use crate::reader::Reader;
+use std::alloc::Global;
+
+/// A value that stands in a text as some fields or lines.
+pub trait Readable: Sized + Drop {
+    /// What is read, and the place after it, or the first fault.
+    ghost reading: { At → Result (Self × At) FormFault };
+
+    fn take<'a>(alloc: Global, reader: &mut Reader<'a>) -> Result<Self, FormEnd>
+        ensures { Gives (λ x. x) result reader.new (reading reader.old) };
+}
+
+/// This many, one after the other.
+#[tactic(auto, using(crate::proofs::Loop::times_none, crate::proofs::Loop::times_more, crate::proofs::Loop::times_all, crate::proofs::Loop::times_fails))]
+pub fn times<'a, T: Readable>(alloc: Global, count: u32, reader: &mut Reader<'a>) -> Result<Vec<T>, FormEnd>
+    ensures { Gives (λ v. v.items) result reader.new (times_at T.reading count reader.old) }
+{
+    let mut list = Vec::new(alloc);
+    for _ in 0..count {
+        let x = T::take(alloc, reader)?;
+        list.push(x)?;
+    }
+    Ok(list)
+}
