@@ -22,7 +22,7 @@ byte_is b = byte_from b (eqb b 32) (eqb b 10) refl refl
   byte_from b false false p q = inside p q
 
 -- the tokens of some bytes begin with a field
-onto_begins : (b : ℕ) (ts : List Token) → (f : List ℕ) × (rest : List Token) × (token_onto b ts ≡ Field f ∷ rest)
+pub onto_begins : (b : ℕ) (ts : List Token) → (f : List ℕ) × (rest : List Token) × (token_onto b ts ≡ Field f ∷ rest)
 onto_begins b ts =
     elim (byte_is b) [
       | blank p ↦ ([], ts, rw p refl)

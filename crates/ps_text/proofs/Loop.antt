@@ -9,7 +9,7 @@ use Rattle.ps_text.specs.declared.form_name.FormName.TheVariants as name
 use Rattle.ps_text.specs.declared.form_fault.FormFault.{FormFault}
 use Rattle.ps_text.specs.declared.form_end.FormEnd.{FormEnd}
 use Rattle.ps_text.specs.declared.form_end.FormEnd.TheVariants.{Fault, Memory}
-use Rattle.ps_text.specs.Reading.{At, Read, and_then, ◌>>=◌, Gives, placed, leaf_at, times_at, list_from, list_at, goes_on, member_at}
+use Rattle.ps_text.specs.Reading.{At, Read, and_then, ◌>>=◌, Gives, placed, leaf_at, times_at, list_from, list_at, goes_on, member_at, begins_at, line_fault, while_at}
 use Rattle.ps_text.specs.Tokens.{Token, Field, Newline, next_field}
 
 -- what was read before, and what is still read
@@ -132,3 +132,41 @@ unfolding and_then
 many_fails goes leaf step front state at f total h e =
     let one : list_at goes leaf step state at ≡ Err f = list_by_members goes leaf step state at ∙ ap (λ r. r >>= λ x. then_list goes leaf step state x.0 x.1) e in
     sym h.same ∙ ap (with_front front) one
+
+-- lines that begin with a word, in a loop that may take `left` more
+pub record Whiles {A : Type 0} (word : List ℕ) (read : Read A) (front : List A) (left : ℕ) (at : At) (total : Result (List A × At) FormFault) : Type 0 where
+  pub same : with_front front (while_at word read left at) ≡ total
+
+pub whiles_none : {A : Type 0} (word : List ℕ) (read : Read A) (n : ℕ) (at : At) → Whiles word read [] n at (while_at word read n at)
+whiles_none word read n at = record { same = with_front-none (while_at word read n at) }
+
+none_begins : {A : Type 0} (word : List ℕ) (read : Read A) (n : ℕ) (at : At) → begins_at word at ≡ false → while_at word read n at ≡ Ok ([], at)
+unfolding while_at
+none_begins word read zero at h = rw h refl
+none_begins word read (suc n) at h = rw h refl
+
+pub whiles_stop : {A : Type 0} (word : List ℕ) (read : Read A) (front : List A) (n : ℕ) (at : At) (total : Result (List A × At) FormFault) → Whiles word read front n at total → begins_at word at ≡ false → total ≡ Ok (front, at)
+unfolding and_then
+whiles_stop {A = A} word read front n at total h stop = sym h.same ∙ ap (with_front front) (none_begins word read n at stop) ∙ ap (λ (ns : List A). Ok (ns, at)) (append-nil front)
+
+pub whiles_limit : {A : Type 0} (word : List ℕ) (read : Read A) (front : List A) (n i : ℕ) (at : At) (total : Result (List A × At) FormFault) → Whiles word read front (n - i) at total → n ≤ i → begins_at word at ≡ true → total ≡ Err (line_fault at name.Limit)
+unfolding and_then while_at
+whiles_limit word read front n i at total h le more =
+    let k : n - i ≡ 0 = omega arith in
+    let one : while_at word read (n - i) at ≡ Err (line_fault at name.Limit) = rw (k, more) refl in
+    sym h.same ∙ ap (with_front front) one
+
+pub whiles_more : {A : Type 0} (word : List ℕ) (read : Read A) (front : List A) (n i : ℕ) (at after : At) (x : A) (total : Result (List A × At) FormFault) → Whiles word read front (n - i) at total → i < n → begins_at word at ≡ true → Gives (λ (y : A). y) (Ok x) after (read at) → Whiles word read (front ++ x ∷ []) (n - (i + 1)) after total
+unfolding and_then while_at
+whiles_more word read front n i at after x total h lt more e =
+    let k : n - i ≡ suc (n - (i + 1)) = omega arith in
+    let one : with_front front (while_at word read (n - i) at) ≡ with_front (front ++ x ∷ []) (while_at word read (n - (i + 1)) after) = rw (k, more, e) (with_front-more front x (while_at word read (n - (i + 1)) after)) in
+    record { same = sym one ∙ h.same }
+
+pub whiles_fails : {A X : Type 0} (view : X → List A) (word : List ℕ) (read : Read A) (front : List A) (n i : ℕ) (at now after : At) (e : FormEnd) (total : Result (List A × At) FormFault) → Whiles word read front (n - i) at total → i < n → begins_at word at ≡ true → Gives (λ (y : A). y) (Err e) now (read at) → Gives view (Err e) after total
+unfolding and_then while_at
+whiles_fails view word read front n i at now after (Memory m) total h lt more e = tt
+whiles_fails view word read front n i at now after (Fault f) total h lt more e =
+    let k : n - i ≡ suc (n - (i + 1)) = omega arith in
+    let one : with_front front (while_at word read (n - i) at) ≡ Err f = rw (k, more, e) refl in
+    sym h.same ∙ one

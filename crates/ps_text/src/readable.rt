@@ -5,6 +5,7 @@ ghost use Rattle.ps_text.specs.Reading.{At, Gives, times_at, while_at};
 ghost use Rattle.ps_text.specs.declared.form_fault.FormFault.{FormFault};
 
 use crate::form_end::FormEnd;
+use crate::form_name::FormName;
 use crate::reader::Reader;
 use std::alloc::Global;
 
@@ -26,6 +27,30 @@ pub fn times<'a, T: Readable>(alloc: Global, count: u32, reader: &mut Reader<'a>
     for _ in 0..count {
         let x = T::take(alloc, reader)?;
         list.push(x)?;
+    }
+    Ok(list)
+}
+
+/// As long as an ended line begins with the word, and at most `limit`: `Limit` at the first line that is too much.
+#[tactic(auto, using(crate::proofs::Loop::whiles_none, crate::proofs::Loop::whiles_more, crate::proofs::Loop::whiles_stop, crate::proofs::Loop::whiles_limit))]
+pub fn while_lines<'a, T: Readable>(
+    alloc: Global,
+    word: &[u8],
+    limit: u32,
+    reader: &mut Reader<'a>,
+) -> Result<Vec<T>, FormEnd>
+    ensures { Gives (λ v. v.items) result reader.new (while_at word.now T.reading limit reader.old) }
+{
+    let mut list = Vec::new(alloc);
+    for _ in 0..limit {
+        if !reader.begins(word) {
+            return Ok(list);
+        }
+        let x = T::take(alloc, reader)?;
+        list.push(x)?;
+    }
+    if reader.begins(word) {
+        return Err(FormEnd::Fault(reader.line_fault(FormName::Limit)));
     }
     Ok(list)
 }
