@@ -1,0 +1,5 @@
+pub mod Canonical
+pub mod Merging
+pub mod Ring
+pub mod Uniqueness
+pub mod Variables

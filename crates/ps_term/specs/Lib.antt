@@ -1,0 +1,6 @@
+pub mod Front
+pub mod Pairs
+pub mod Row
+pub mod Sums
+pub mod Term
+pub mod Var

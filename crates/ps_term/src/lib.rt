@@ -1,0 +1,9 @@
+//! Linear terms over whole numbers, and the rows `term <= 0` that are made of them.
+#![tactic(auto)]
+
+pub mod laws;
+pub mod pairs;
+pub mod row;
+pub mod sums;
+pub mod term;
+pub mod var;
