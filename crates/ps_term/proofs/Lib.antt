@@ -1,4 +1,5 @@
 pub mod Canonical
+pub mod Lookups
 pub mod Merging
 pub mod Ring
 pub mod Uniqueness

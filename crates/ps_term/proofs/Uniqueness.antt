@@ -26,7 +26,7 @@ pairs_value-zero [] = refl
 pairs_value-zero (p ∷ ps) = rw (mul-zero p.1, pairs_value-zero ps) refl
 
 -- ---- the front pair
-coefficient-first : (p : Var × ℤ) (ps : List (Var × ℤ)) → IsCanonical (p ∷ ps) → coefficient p.0 (p ∷ ps) ≡ p.1
+pub coefficient-first : (p : Var × ℤ) (ps : List (Var × ℤ)) → IsCanonical (p ∷ ps) → coefficient p.0 (p ∷ ps) ≡ p.1
 coefficient-first p ps c =
     let h : coefficient p.0 ps ≡ pos 0 = coefficient-below p.0 ps (IsBelowAll-canonical p.0 ps c.1 c.2) in
     coefficient-same p.0 p ps (var_eq_refl p.0) ∙ omega (arith, ints)

@@ -1,4 +1,4 @@
--- The front of lists of pairs, as the merge of two of them takes it.
+-- The front of lists of pairs, as look-ups and the merge of two lists take it.
 use Rattle.std.specs.Prelude.{ℤ, pos, List, [], ◌∷◌, Option, Some, None, if◌then◌else◌}
 use Rattle.std.specs.Ordering.{int_eq}
 use Rattle.ps_term.specs.declared.var.Var.{Var}
@@ -10,6 +10,11 @@ least_front [] [] = None
 least_front [] (q ∷ qs) = Some q.0
 least_front (p ∷ ps) [] = Some p.0
 least_front (p ∷ ps) (q ∷ qs) = if var_lt q.0 p.0 then Some q.0 else Some p.0
+
+-- the variable of the first pair, if there is one
+abbrev pub first_variable : List (Var × ℤ) → Option Var
+first_variable [] = None
+first_variable (p ∷ ps) = Some p.0
 
 -- the first coefficient, if it is that of the variable, or else 0
 abbrev pub front_coefficient : Var → List (Var × ℤ) → ℤ

@@ -1,4 +1,5 @@
 pub mod Front
+pub mod Lookup
 pub mod Pairs
 pub mod Row
 pub mod Sums

@@ -1,7 +1,10 @@
 //! The pairs of a term: each variable once, with its coefficient.
-ghost use Rattle.std.specs.Prelude.{◌≡◌, IfOk};
-ghost use Rattle.ps_term.specs.Pairs.{IsCanonical};
+ghost use Rattle.std.specs.Prelude.{◌≡◌, ◌≢◌, pos, IfOk, IfSome};
+ghost use Rattle.ps_term.specs.declared.var.Var.{Var};
+ghost use Rattle.ps_term.specs.Lookup.{IsAfter, IsBefore};
+ghost use Rattle.ps_term.specs.Pairs.{coefficient, IsCanonical};
 
+use crate::lookup::{coefficient_of, next_variable};
 use crate::var::Var;
 use std::alloc::{AllocError, Global};
 use std::marker::Model;
@@ -47,6 +50,23 @@ impl Pairs {
         ensures canonical { IsCanonical result.now }
     {
         self.list.as_slice()
+    }
+
+    /// The variable's coefficient, which is 0 where it doesn't stand; by a binary search.
+    pub fn coefficient(&self, variable: Var) -> i128
+        ensures { result ≡ coefficient variable self.now }
+    {
+        coefficient_of(self.list.as_slice(), variable)
+    }
+
+    /// The first variable after `last`, or the first of all for `None`; by a binary search.
+    pub fn next_after(&self, last: Option<Var>) -> Option<Var>
+        ensures skipped { (x : Var) → IsAfter last x → IsBefore x result
+            → coefficient x self.now ≡ pos 0 }
+        ensures stands { IfSome result
+            (λ x. IsAfter last x × (coefficient x self.now ≢ pos 0)) }
+    {
+        next_variable(self.list.as_slice(), last)
     }
 
     /// A copy, in time and memory of the list's length.

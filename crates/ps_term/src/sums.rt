@@ -2,14 +2,15 @@
 ghost use Rattle.std.specs.Prelude.{◌≡◌, ◌+ℤ◌, ◌*ℤ◌, ◌++◌, FitsSigned, SomeIff, IfOk, OnOk, IsErrOf, ℤ};
 ghost use Rattle.std.specs.Int.{w128};
 ghost use Rattle.ps_term.specs.declared.var.Var.{Var};
-ghost use Rattle.ps_term.specs.Front.{after_front, front_coefficient, kept_pair, least_front};
+ghost use Rattle.ps_term.specs.Front.{front_coefficient, kept_pair, least_front};
 ghost use Rattle.ps_term.specs.Pairs.{coefficient, IsCanonical, pairs_value};
 ghost use Rattle.ps_term.specs.Sums.{PairsFit, ScaledFits, TermFits};
 ghost use Rattle.ps_term.specs.Term.{value};
 
+use crate::front::{in_front, past_front};
 use crate::pairs::Pairs;
 use crate::term::{Term, TermEnd};
-use crate::var::{Var, is_before, is_same};
+use crate::var::{Var, is_before};
 use std::alloc::{AllocError, Global};
 
 /// `so_far + by * n`, or `None` where the product or the sum lies outside `i128`.
@@ -92,24 +93,6 @@ fn sum_in_front(
     ensures start { FitsSigned w128 (front_coefficient variable left.now) }
 {
     scaled_sum(in_front(variable, left), by, in_front(variable, right))
-}
-
-fn in_front(variable: Var, pairs: &[(Var, i128)]) -> i128
-    ensures { result ≡ front_coefficient variable pairs.now }
-{
-    match pairs.first() {
-        Some(pair) if is_same(variable, pair.0) => pair.1,
-        _ => 0,
-    }
-}
-
-fn past_front(variable: Var, pairs: &[(Var, i128)]) -> &[(Var, i128)]
-    ensures { result.now ≡ after_front variable pairs.now }
-{
-    match pairs {
-        [pair, rest @ ..] if is_same(variable, pair.0) => rest,
-        _ => pairs,
-    }
 }
 
 fn keep(list: &mut Vec<(Var, i128)>, variable: Var, coefficient: i128) -> Result<(), AllocError>
