@@ -65,7 +65,7 @@ field_found line field [] = record { is = tt }
 field_found line field (Newline ∷ ts) = record { is = tt }
 field_found line field (Field f ∷ ts) = record { is = refl }
 
-placed_found : {A : Type 0} (line field : ℕ) (r : Result A FormName) (Q : A → Type 0) → IfOk r Q → Finds (placed line field r) Q
+pub placed_found : {A : Type 0} (line field : ℕ) (r : Result A FormName) (Q : A → Type 0) → IfOk r Q → Finds (placed line field r) Q
 placed_found line field (Ok x) Q h = record { is = h }
 placed_found line field (Err what) Q h = record { is = tt }
 
