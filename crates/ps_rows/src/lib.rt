@@ -1,13 +1,14 @@
-// A library with one function.
+//! Rows with their multipliers, as a text of lines: the form of what is to be refuted.
 #![tactic(auto)]
 
-ghost use Rattle.std.specs.Prelude.{◌≡◌};
-ghost use Rattle.ps_rows.specs.Echo.{echo_of};
+mod claim;
+mod multipliers;
+mod printing;
+mod reading;
+mod rows;
 
-// The `ensures` clause is the contract: what `echo` returns is `echo_of` of its argument, a definition
-// in `specs/Echo.antt`, which a caller's clause can cite too.
-pub fn echo(x: usize) -> usize
-    ensures { result ≡ echo_of x }
-{
-    x
-}
+pub use claim::Claim;
+pub use multipliers::Multipliers;
+pub use printing::print_rows;
+pub use reading::{MOST_ROWS, read_rows};
+pub use rows::Rows;
