@@ -1,0 +1,11 @@
+//! Linear terms over whole numbers, and the rows `term <= 0` that are made of them.
+#![tactic(auto)]
+
+mod front;
+pub mod laws;
+mod lookup;
+pub mod pairs;
+pub mod row;
+pub mod sums;
+pub mod term;
+pub mod var;

@@ -1,0 +1,35 @@
+//! Terms: whole-number combinations of variables plus a constant.
+ghost use Rattle.std.specs.Prelude.{◌≡◌, IfOk};
+
+use crate::pairs::Pairs;
+use std::alloc::{AllocError, Global};
+use thiserror::Error;
+
+/// The sum of each coefficient times its variable, plus the constant.
+#[derive(Debug, Drop)]
+pub struct Term {
+    pub pairs: Pairs,
+    pub constant: i128,
+}
+
+/// Why no term was made.
+#[derive(Debug, Drop, Error)]
+pub enum TermEnd {
+    /// A product or a partial sum lies outside `i128`.
+    #[error("a value is past 128 bits")]
+    Past128,
+    #[error("out of memory")]
+    Memory(AllocError),
+}
+
+impl Term {
+    /// A copy, in time and memory of the number of pairs.
+    pub fn copy(&self, alloc: Global) -> Result<Term, AllocError>
+        ensures { IfOk result (λ term. term ≡ self.now) }
+    {
+        Ok(Term {
+            pairs: self.pairs.copy(alloc)?,
+            constant: self.constant,
+        })
+    }
+}

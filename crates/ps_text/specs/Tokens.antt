@@ -1,0 +1,63 @@
+-- A text as one list: its fields, and the ends of its lines.
+use Rattle.std.specs.Prelude.{ℕ, ◌+◌, Bool, true, false, ◌||◌, Option, Some, None, List, [], ◌∷◌, ◌++◌, map, ◌==◌, if◌then◌else◌}
+use Rattle.std.specs.List.{flat_map}
+
+pub data Token : Type 0 where
+  Field : List ℕ → Token
+  Newline : Token
+
+-- A byte before what it stands before: it begins the first field, or is one of its own.
+abbrev pub onto : ℕ → List Token → List Token
+onto b (Field f ∷ ts) = Field (b ∷ f) ∷ ts
+onto b ts = Field (b ∷ []) ∷ ts
+
+-- A byte before the tokens of what follows it: a blank ends a field, and a line feed also ends its line.
+abbrev pub token_onto : ℕ → List Token → List Token
+token_onto b ts = if b == 32 then Field [] ∷ ts else (if b == 10 then Field [] ∷ (Newline ∷ ts) else onto b ts)
+
+-- The tokens of a text. What stands after the last line feed has no end of a line after it.
+abbrev pub tokens : List ℕ → List Token
+tokens [] = []
+tokens (b ∷ bs) = token_onto b (tokens bs)
+
+-- How many bytes stand before the first blank or line feed.
+abbrev pub field_len : List ℕ → ℕ
+field_len [] = 0
+field_len (b ∷ bs) = if b == 32 || b == 10 then 0 else field_len bs + 1
+
+-- The tokens ahead, the line's end first where its last field was taken with the line feed.
+abbrev pub ahead : Bool → List ℕ → List Token
+ahead true bytes = Newline ∷ tokens bytes
+ahead false bytes = tokens bytes
+
+-- Whether a line ends somewhere ahead.
+abbrev pub has_newline : List Token → Bool
+has_newline [] = false
+has_newline (Newline ∷ ts) = true
+has_newline (Field f ∷ ts) = has_newline ts
+
+-- The next field of the line, where it has one.
+abbrev pub next_field : List Token → Option (List ℕ)
+next_field (Field f ∷ ts) = Some f
+next_field ts = None
+
+-- ---- the other way: what lines are spelled by
+
+-- A field that isn't the first one stands after a blank.
+abbrev pub after_blank : List ℕ → List ℕ
+after_blank field = 32 ∷ field
+
+-- A line is its first word and its further fields, after a blank each, and ends with a line feed.
+abbrev pub line_bytes : List ℕ × List (List ℕ) → List ℕ
+line_bytes line = line.0 ++ (flat_map after_blank line.1 ++ 10 ∷ [])
+
+-- The bytes of a text that is a list of lines.
+abbrev pub text_bytes : List (List ℕ × List (List ℕ)) → List ℕ
+text_bytes lines = flat_map line_bytes lines
+
+abbrev pub line_tokens : List ℕ × List (List ℕ) → List Token
+line_tokens line = Field line.0 ∷ (map Field line.1 ++ Newline ∷ [])
+
+-- The tokens of a text that is a list of lines.
+abbrev pub text_tokens : List (List ℕ × List (List ℕ)) → List Token
+text_tokens lines = flat_map line_tokens lines
