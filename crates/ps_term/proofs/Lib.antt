@@ -1,4 +1,6 @@
 pub mod Canonical
+pub mod Ceilings
+pub mod Divisions
 pub mod Lookups
 pub mod Merging
 pub mod Ring

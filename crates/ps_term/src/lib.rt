@@ -4,8 +4,11 @@
 mod front;
 pub mod laws;
 mod lookup;
+pub mod negation;
 pub mod pairs;
 pub mod row;
 pub mod sums;
 pub mod term;
+pub mod tightening;
 pub mod var;
+pub mod whole;
