@@ -7,6 +7,7 @@ mod lookup;
 pub mod negation;
 pub mod pairs;
 pub mod row;
+pub mod substitution;
 pub mod sums;
 pub mod term;
 pub mod tightening;
