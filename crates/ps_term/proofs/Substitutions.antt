@@ -7,20 +7,20 @@ use Rattle.std.proofs.lemmas.List.{drop_more}
 use Rattle.ps_term.specs.declared.term.Term.{Term}
 use Rattle.ps_term.specs.declared.var.Var.{Var}
 use Rattle.ps_term.specs.Pairs.{IsCanonical, coefficient, pairs_value}
-use Rattle.ps_term.specs.Substitution.{replacement, values_after, SubstitutionFits}
+use Rattle.ps_term.specs.Substitution.{replacement, values_after, SubstitutionFitsFrom}
 use Rattle.ps_term.specs.Sums.{TermFits}
 use Rattle.ps_term.specs.Term.{value}
 use Rattle.ps_term.specs.Var.{var_eq}
 
 -- the sum so far, by its coefficients
 abbrev pub FitsFrom : List (Var × Term) → Term → List (Var × ℤ) → ℤ → Type 0
-FitsFrom after sum rest last = SubstitutionFits after (λ x. coefficient x sum.pairs) sum.constant rest last
+FitsFrom after sum rest last = SubstitutionFitsFrom after (λ x. coefficient x sum.pairs) sum.constant rest last
 
 pub record Substituted (after : List (Var × Term)) (pairs : List (Var × ℤ)) (last : ℤ) (sum : Term) (rest : List (Var × ℤ)) : Type 0 where
   pub canonical : IsCanonical sum.pairs
   pub worth : (v : Var → ℤ) → (value v sum +ℤ pairs_value (values_after v after) rest) ≡ pairs_value (values_after v after) pairs
-  pub fits : FitsFrom after sum rest last → SubstitutionFits after (λ _. pos 0) (pos 0) pairs last
-  pub fit : SubstitutionFits after (λ _. pos 0) (pos 0) pairs last → FitsFrom after sum rest last
+  pub fits : FitsFrom after sum rest last → SubstitutionFitsFrom after (λ _. pos 0) (pos 0) pairs last
+  pub fit : SubstitutionFitsFrom after (λ _. pos 0) (pos 0) pairs last → FitsFrom after sum rest last
 
 pub Substituted-start : (after : List (Var × Term)) (pairs : List (Var × ℤ)) (last : ℤ) (sum : Term) → sum ≡ record { pairs = []; constant = pos 0 } → Substituted after pairs last sum pairs
 Substituted-start after pairs last sum e =
@@ -31,8 +31,8 @@ Substituted-turn after pairs last sum new p rest s canonical worth coefficients 
     record {
       canonical = canonical;
       worth = λ v. omega (arith, ints, s.worth v, worth v);
-      fits = λ h. s.fits (fits.0, fits.1, subst₂ (λ (f : Var → ℤ) (k : ℤ). SubstitutionFits after f k rest last) same constant h);
-      fit = λ h. subst₂ (λ (f : Var → ℤ) (k : ℤ). SubstitutionFits after f k rest last) (sym same) (sym constant) (s.fit h).2;
+      fits = λ h. s.fits (fits.0, fits.1, subst₂ (λ (f : Var → ℤ) (k : ℤ). SubstitutionFitsFrom after f k rest last) same constant h);
+      fit = λ h. subst₂ (λ (f : Var → ℤ) (k : ℤ). SubstitutionFitsFrom after f k rest last) (sym same) (sym constant) (s.fit h).2;
     }
   where
     same : ◌≡◌ {A = Var → ℤ} (λ x. coefficient x new.pairs) (λ x. coefficient x sum.pairs +ℤ (p.1 *ℤ coefficient x (replacement after p.0).pairs))
@@ -44,7 +44,7 @@ Substituted-step after all pairs last sum new i d s l canonical worth coefficien
     Substituted-turn after all last sum new (get_or pairs i d) (drop (i + 1) pairs) (subst (λ (ps : List (Var × ℤ)). Substituted after all last sum ps) (drop_more pairs i d l) s) canonical worth coefficients constant fits
 
 -- a place whose replaced term doesn't fit
-pub Substituted-refused : (after : List (Var × Term)) (all pairs : List (Var × ℤ)) (last : ℤ) (sum : Term) (i : ℕ) (d : Var × ℤ) → Substituted after all last sum (drop i pairs) → i < length pairs → ¬ TermFits sum (get_or pairs i d).1 (replacement after (get_or pairs i d).0) → ¬ SubstitutionFits after (λ _. pos 0) (pos 0) all last
+pub Substituted-refused : (after : List (Var × Term)) (all pairs : List (Var × ℤ)) (last : ℤ) (sum : Term) (i : ℕ) (d : Var × ℤ) → Substituted after all last sum (drop i pairs) → i < length pairs → ¬ TermFits sum (get_or pairs i d).1 (replacement after (get_or pairs i d).0) → ¬ SubstitutionFitsFrom after (λ _. pos 0) (pos 0) all last
 Substituted-refused after all pairs last sum i d s l past h =
     let here : FitsFrom after sum (get_or pairs i d ∷ drop (i + 1) pairs) last = subst (λ (ps : List (Var × ℤ)). FitsFrom after sum ps last) (drop_more pairs i d l) (s.fit h) in
     past (here.0, here.1)

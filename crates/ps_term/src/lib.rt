@@ -10,6 +10,8 @@ pub mod row;
 pub mod substitution;
 pub mod sums;
 pub mod term;
+#[cfg(test)]
+mod tests;
 pub mod tightening;
 pub mod var;
 pub mod whole;

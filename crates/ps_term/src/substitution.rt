@@ -1,5 +1,5 @@
 //! Terms put for variables.
-ghost use Rattle.std.specs.Prelude.{◌≡◌, ◌+ℤ◌, ◌*ℤ◌, pos, ℤ, IfOk, OnOk, IsErrOf};
+ghost use Rattle.std.specs.Prelude.{◌≡◌, ◌+ℤ◌, ◌*ℤ◌, ℤ, IfOk, OnOk, IsErrOf};
 ghost use Rattle.ps_term.specs.declared.var.Var.{Var};
 ghost use Rattle.ps_term.specs.Pairs.{coefficient, IsCanonical};
 ghost use Rattle.ps_term.specs.Substitution.{replacement, SubstitutionFits, values_after};
@@ -11,8 +11,8 @@ use crate::term::{Term, TermEnd};
 use crate::var::{Var, is_same};
 use std::alloc::Global;
 
-/// The term `a` with the term of `after` put for each variable that `after` names; the others stay. Of
-/// two pairs of one variable the first counts.
+/// The term `a` with the term of `after` put for each variable that `after` names; the others stay. No
+/// variable is to stand twice in `after`; where one does, its first pair counts.
 ///
 /// From the term 0, the terms that are put are scaled by the coefficients and added in the order of the
 /// pairs of `a`, and its constant is added last. It is `Past128` where a product or a partial sum in
@@ -22,16 +22,17 @@ pub fn substitute(alloc: Global, a: &Term, after: &[(Var, Term)]) -> Result<Term
     ensures worth { IfOk result (λ term. (values : Var → ℤ)
         → value values term ≡ value (values_after values after.now) a.now) }
     ensures canonical { IfOk result (λ term. IsCanonical term.pairs) }
-    ensures fits { OnOk result
-        (SubstitutionFits after.now (λ _. pos 0) (pos 0) a.now.pairs a.now.constant) }
-    ensures past { IsErrOf result TermEnd.Past128
-        → ¬ SubstitutionFits after.now (λ _. pos 0) (pos 0) a.now.pairs a.now.constant }
+    ensures fits { OnOk result (SubstitutionFits after.now a.now) }
+    ensures past { IsErrOf result TermEnd.Past128 → ¬ SubstitutionFits after.now a.now }
 {
     let mut sum = Term::from_constant(alloc, 0);
     for pair in a.pairs.as_slice() {
         sum = add_replaced(alloc, &sum, pair.1, pair.0, after)?;
     }
-    let constant = sum.constant.checked_add(a.constant).ok_or(TermEnd::Past128)?;
+    let constant = sum
+        .constant
+        .checked_add(a.constant)
+        .ok_or(TermEnd::Past128)?;
     Ok(Term {
         pairs: sum.pairs,
         constant,

@@ -5,8 +5,8 @@ use Rattle.ps_term.specs.Term.{value}
 use Rattle.ps_term.proofs.Negations.{negated, TermFits-negation}
 use Rattle.ps_term.proofs.negation.negate.Goals as goal
 
-pub returns-in-Ok-clause-law : goal.returns-in-Ok-clause-law
-returns-in-Ok-clause-law c =
+pub returns-in-Ok-clause-negates : goal.returns-in-Ok-clause-negates
+returns-in-Ok-clause-negates c =
     λ values. negated (value values c.in-Ok.term) (value values c.args.row.now.term) (subst (λ (t : Term). value values c.in-Ok.term ≡ (value values t +ℤ (negsuc 0 *ℤ value values c.args.row.now.term))) c.from_constant-one.ensures (c.in-Ok.ensures.worth values))
 
 -- an error is the same beside any type of values
