@@ -118,10 +118,6 @@ divides_times f d (p ∷ ps) (q ∷ qs) z h =
     let size : unsigned_abs p.1 ≡ f * unsigned_abs q.1 = ap unsigned_abs z.0.1 ∙ unsigned_abs-mul (pos f) q.1 in
     All-cons (λ r. (f * d) ∣ unsigned_abs r.1) p ps (subst (λ (n : ℕ). (f * d) ∣ n) (sym size) (mul-dvd-mul_left d f (All-head (λ r. d ∣ unsigned_abs r.1) q qs h))) (divides_times f d ps qs z.1 (All-tail (λ r. d ∣ unsigned_abs r.1) q qs h))
 
-
-
-
-
 pub divided_coprime : (f d : ℕ) (ps qs : List (Var × ℤ)) → 0 < f → IsCommonFactor ps f → AreDivided f ps qs → DividesAll d qs → d ≡ 1
 divided_coprime f d ps qs h c z all =
     let times : (f * d) ∣ f = c.greatest (f * d) (divides_times f d ps qs z all) in

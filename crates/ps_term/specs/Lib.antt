@@ -4,6 +4,7 @@ pub mod Lookup
 pub mod Negation
 pub mod Pairs
 pub mod Row
+pub mod Substitution
 pub mod Sums
 pub mod Term
 pub mod Tightened

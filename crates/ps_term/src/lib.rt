@@ -7,8 +7,11 @@ mod lookup;
 pub mod negation;
 pub mod pairs;
 pub mod row;
+pub mod substitution;
 pub mod sums;
 pub mod term;
+#[cfg(test)]
+mod tests;
 pub mod tightening;
 pub mod var;
 pub mod whole;

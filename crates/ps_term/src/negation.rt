@@ -14,7 +14,7 @@ use std::alloc::Global;
 /// satisfy that one. It is `Past128` where -1 times a coefficient or the constant, or 1 with the latter
 /// added, lies outside `i128`.
 pub fn negate(alloc: Global, row: &Row) -> Result<Row, TermEnd>
-    ensures law { IfOk result (λ new. (values : Var → ℤ)
+    ensures negates { IfOk result (λ new. (values : Var → ℤ)
         → Holds values new ↔ ¬ Holds values row.now) }
     ensures coefficients { IfOk result (λ new. (x : Var)
         → coefficient x new.term.pairs ≡ neg_ℤ (coefficient x row.now.term.pairs)) }

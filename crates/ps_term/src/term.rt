@@ -20,6 +20,7 @@ pub enum TermEnd {
     /// A product or a partial sum lies outside `i128`.
     #[error("a value is past 128 bits")]
     Past128,
+    /// No memory was left.
     #[error("out of memory")]
     Memory(AllocError),
 }

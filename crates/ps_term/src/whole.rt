@@ -27,8 +27,8 @@ pub fn ceil_div(a: i128, b: i128) -> i128
     ceil_quotient(a, b as u128)
 }
 
-/// The least number whose `b`-fold is at least `a`, for any divisor of 128 bits.
-pub fn ceil_quotient(a: i128, b: u128) -> i128
+// The same for any divisor of 128 bits.
+pub(crate) fn ceil_quotient(a: i128, b: u128) -> i128
     requires { 1 ≤ b }
     ensures { IsCeiling a (pos b) result }
 {
