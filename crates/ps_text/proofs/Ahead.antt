@@ -49,10 +49,6 @@ abbrev pub behind : List ℕ → List Token
 behind [] = []
 behind (c ∷ bs) = ahead (eqb c 10) bs
 
-pub field_len-le : (bs : List ℕ) → field_len bs ≤ length bs
-field_len-le [] = omega arith
-field_len-le (b ∷ bs) = let h = field_len-le bs in cond_both (eqb b 32 || eqb b 10) 0 (field_len bs + 1) (λ n. n ≤ suc (length bs)) (λ _. omega arith) (λ _. omega (arith, h))
-
 field_len-stops : (b : ℕ) (bs : List ℕ) → (eqb b 32 || eqb b 10) ≡ true → field_len (b ∷ bs) ≡ 0
 field_len-stops b bs h = cond-true _ _ _ h
 
