@@ -61,8 +61,8 @@ spanning_more bytes start at end spans h is lt test =
     let ahead-is : tokens (drop at bytes) ≡ Field (span_text bytes (new_span at end)) ∷ tokens (drop (end + 1) bytes) = field_ahead bytes at end is lt ∙ ap (λ (t : Bool). Field (span_text bytes (new_span at end)) ∷ ahead t (drop (end + 1) bytes)) test in
     record {
       same = ap (λ (fs : List (List ℕ)). onto_lines fs (lines_of (tokens (drop (end + 1) bytes)))) (sym (texts_more bytes spans (new_span at end)))
-        ∙ sym (onto_lines-more texts (span_text bytes (new_span at end)) (lines_of (tokens (drop (end + 1) bytes))))
-        ∙ ap (λ (ts : List Token). onto_lines texts (lines_of ts)) (sym ahead-is) ∙ h.same;
+          ∙ sym (onto_lines-more texts (span_text bytes (new_span at end)) (lines_of (tokens (drop (end + 1) bytes))))
+          ∙ ap (λ (ts : List Token). onto_lines texts (lines_of ts)) (sym ahead-is) ∙ h.same;
       within = within_more bytes at end spans is lt h.within;
       from = omega (arith, h.from, is);
       inside = omega (arith, lt);
@@ -73,9 +73,12 @@ pub spanning_all : (bytes : List ℕ) (start at end : ℕ) (spans : List Span) �
 spanning_all bytes start at end spans h is lt test =
     let texts : List (List ℕ) = map (span_text bytes) spans in
     let text : List ℕ = span_text bytes (new_span at end) in
-    let ahead-is : tokens (drop at bytes) ≡ Field text ∷ (Newline ∷ tokens (drop (end + 1) bytes)) = field_ahead bytes at end is lt ∙ ap (λ (t : Bool). Field text ∷ ahead t (drop (end + 1) bytes)) test in
-    (sym h.same ∙ ap (λ (ts : List Token). onto_lines texts (lines_of ts)) ahead-is ∙ ap (λ (fs : List (List ℕ)). fs ∷ lines_of (tokens (drop (end + 1) bytes))) (texts_more bytes spans (new_span at end)),
-      within_more bytes at end spans is lt h.within, omega (arith, h.from, is), omega (arith, lt))
+    let ahead-is : tokens (drop at bytes) ≡ Field text ∷ (Newline ∷ tokens (drop (end + 1) bytes)) = field_ahead bytes at end is lt ∙ ap (λ (t : Bool). Field text ∷ ahead t (drop (end + 1) bytes)) test in (
+      sym h.same ∙ ap (λ (ts : List Token). onto_lines texts (lines_of ts)) ahead-is ∙ ap (λ (fs : List (List ℕ)). fs ∷ lines_of (tokens (drop (end + 1) bytes))) (texts_more bytes spans (new_span at end)),
+      within_more bytes at end spans is lt h.within,
+      omega (arith, h.from, is),
+      omega (arith, lt),
+    )
 
 -- one field, with nothing behind it
 alone : (bs : List ℕ) → field_len bs ≡ length bs → lines_of (tokens bs) ≡ []
@@ -107,8 +110,8 @@ going_more bytes first start number lines fields after h p =
     let rest : List (ℕ × List (List ℕ)) = numbered (number + 1) (lines_of (tokens (drop after bytes))) in
     record {
       same = ap (λ r. r ++ rest) (map-append (numbered_fields bytes) lines (line ∷ []))
-        ∙ append_assoc (map (numbered_fields bytes) lines) (numbered_fields bytes line ∷ []) rest
-        ∙ ap (λ r. map (numbered_fields bytes) lines ++ numbered number r) (sym p.0) ∙ h.same;
+          ∙ append_assoc (map (numbered_fields bytes) lines) (numbered_fields bytes line ∷ []) rest
+          ∙ ap (λ r. map (numbered_fields bytes) lines ++ numbered number r) (sym p.0) ∙ h.same;
       within = All-push (IsLineWithin (length bytes)) lines line h.within p.1;
       counts = omega (arith, h.counts, p.2);
       inside = p.3;

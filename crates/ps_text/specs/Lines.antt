@@ -41,4 +41,4 @@ IsLineWithin len line = All (IsWithin len) line.fields
 abbrev pub IsLineAhead : List ℕ → ℕ → Option (List Span × ℕ) → Type 0
 IsLineAhead bytes start None = lines_of (tokens (drop start bytes)) ≡ []
 IsLineAhead bytes start (Some p) =
-  (lines_of (tokens (drop start bytes)) ≡ map (span_text bytes) p.0 ∷ lines_of (tokens (drop p.1 bytes))) × All (IsWithin (length bytes)) p.0 × (start < p.1) × (p.1 ≤ length bytes)
+    (lines_of (tokens (drop start bytes)) ≡ map (span_text bytes) p.0 ∷ lines_of (tokens (drop p.1 bytes))) × All (IsWithin (length bytes)) p.0 × (start < p.1) × (p.1 ≤ length bytes)
