@@ -183,10 +183,20 @@ flat_map-map : {X A B : Type 0} (s : B → List A) (f : X → B) (xs : List X) �
 flat_map-map s f [] = refl
 flat_map-map s f (x ∷ xs) = ap (λ r. s (f x) ++ r) (flat_map-map s f xs)
 
--- the multipliers' line, put in pieces
-pub printed_multipliers : (out word numbers done : List ℕ) (ns : List ℕ) → word ≡ out ++ codes "by" → numbers ≡ word ++ flat_map (λ n. after_blank (decimal n)) ns → done ≡ numbers ++ 10 ∷ [] → done ≡ out ++ line_bytes (multipliers_line ns)
-printed_multipliers out word numbers done ns a b c = ?
+-- a line of numbers, put in pieces
+pub printed_numbers : (out word word_done numbers_done : List ℕ) (ns : List ℕ) → word_done ≡ out ++ word → numbers_done ≡ word_done ++ flat_map (λ n. after_blank (decimal n)) ns → numbers_done ++ 10 ∷ [] ≡ out ++ line_bytes (word, map decimal ns)
+printed_numbers out word word_done numbers_done ns a b =
+    ap (λ (m : List ℕ). m ++ 10 ∷ []) (b ∙ ap (λ (m : List ℕ). m ++ flat_map (λ n. after_blank (decimal n)) ns) a)
+    ∙ append_assoc (out ++ word) (flat_map (λ n. after_blank (decimal n)) ns) (10 ∷ [])
+    ∙ append_assoc out word (flat_map (λ n. after_blank (decimal n)) ns ++ 10 ∷ [])
+    ∙ ap (λ (r : List ℕ). out ++ (word ++ (r ++ 10 ∷ []))) (sym (flat_map-map after_blank decimal ns))
 
--- the whole text, put in pieces
-pub printed_claim : (claim : Claim) (head rows multipliers done : List ℕ) → head ≡ line_bytes (codes "rows", decimal (length claim.rows) ∷ []) → rows ≡ head ++ flat_map (λ r. line_bytes (row_line r)) claim.rows → multipliers ≡ rows ++ line_bytes (multipliers_line claim.multipliers) → done ≡ multipliers ++ line_bytes (codes "end", []) → done ≡ text_bytes (claim_lines claim)
-printed_claim claim head rows multipliers done a b c d = ?
+-- a whole text, put in pieces
+pub printed_text : (first by last : List ℕ × List (List ℕ)) (rows : List Row) (head_done rows_done by_done done : List ℕ) → head_done ≡ line_bytes first → rows_done ≡ head_done ++ flat_map (λ r. line_bytes (row_line r)) rows → by_done ≡ rows_done ++ line_bytes by → done ≡ by_done ++ line_bytes last → done ≡ text_bytes (first ∷ (map row_line rows ++ (by ∷ (last ∷ []))))
+printed_text first by last rows head_done rows_done by_done done a b c d =
+    let lines : List ℕ = flat_map (λ r. line_bytes (row_line r)) rows in
+    d ∙ ap (λ (m : List ℕ). m ++ line_bytes last) (c ∙ ap (λ (m : List ℕ). m ++ line_bytes by) (b ∙ ap (λ (m : List ℕ). m ++ lines) a))
+    ∙ append_assoc (line_bytes first ++ lines) (line_bytes by) (line_bytes last)
+    ∙ append_assoc (line_bytes first) lines (line_bytes by ++ line_bytes last)
+    ∙ ap (λ (r : List ℕ). line_bytes first ++ (lines ++ (line_bytes by ++ r))) (sym (append-nil (line_bytes last)))
+    ∙ ap (λ (r : List ℕ). line_bytes first ++ r) (sym (spread_mapped line_bytes row_line rows (by ∷ (last ∷ []))))

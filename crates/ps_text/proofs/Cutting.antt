@@ -98,8 +98,8 @@ free_of_digits : (byte : ℕ) → 10 ≤ digit_value byte → (bs : List ℕ) �
 free_of_digits byte high [] d = tt
 free_of_digits byte high (b ∷ bs) d = (ne_eqb _ _ (λ e. absurd (other b e d.0)), free_of_digits byte high bs d.1)
   where
-  other : (b : ℕ) → b ≡ byte → digit_value b < 10 → ⊥
-  other b e lt = let same : digit_value b ≡ digit_value byte = ap digit_value e in omega (arith, same, lt, high)
+    other : (b : ℕ) → b ≡ byte → digit_value b < 10 → ⊥
+    other b e lt = let same : digit_value b ≡ digit_value byte = ap digit_value e in omega (arith, same, lt, high)
 
 pub decimal_free : (byte n : ℕ) → 10 ≤ digit_value byte → n < 10 ^ 64 → IsFree byte (decimal n)
 decimal_free byte n high lt = free_of_digits byte high (decimal n) (decimal-is n lt).digits

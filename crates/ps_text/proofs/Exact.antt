@@ -89,9 +89,9 @@ leaf_exact leaf text fits is = record { found = leaf_found leaf text fits is; ag
 word_found : (word f : List ℕ) → IfOk (word_leaf word f) (λ x. (f ≡ word) × Unit {0})
 word_found word f = by_test (bytes_eq f word) refl
   where
-  by_test : (t : Bool) → bytes_eq f word ≡ t → IfOk (if t then Ok tt else Err name.Word) (λ (x : Unit {0}). (f ≡ word) × Unit {0})
-  by_test true e = ((bytes_eq-Decides f word).0 e, tt)
-  by_test false e = tt
+    by_test : (t : Bool) → bytes_eq f word ≡ t → IfOk (if t then Ok tt else Err name.Word) (λ (x : Unit {0}). (f ≡ word) × Unit {0})
+    by_test true e = ((bytes_eq-Decides f word).0 e, tt)
+    by_test false e = tt
 
 word_is_leaf : (word : List ℕ) → IsPlain word → IsLeaf (word_leaf word) (λ _. word) Always
 word_is_leaf word plain = record {
@@ -117,9 +117,9 @@ line_found : (word : List ℕ) → IsPlain word → (at : At) → Finds (line_at
 unfolding line_at
 line_found word plain at = by_test (has_newline at.tokens)
   where
-  by_test : (t : Bool) → Finds (if t then word_at word at else Err (record { line = at.line; field = 0; what = name.Cut })) (λ y. (at.tokens ≡ (Field word ∷ []) ++ y.1.tokens) × Unit {0})
-  by_test true = (word_exact word plain).found at
-  by_test false = record { is = tt }
+    by_test : (t : Bool) → Finds (if t then word_at word at else Err (record { line = at.line; field = 0; what = name.Cut })) (λ y. (at.tokens ≡ (Field word ∷ []) ++ y.1.tokens) × Unit {0})
+    by_test true = (word_exact word plain).found at
+    by_test false = record { is = tt }
 
 line_again : (word : List ℕ) → IsPlain word → (at : At) (x : Unit {0}) (rest : List Token) → Unit {0} → at.tokens ≡ (Field word ∷ []) ++ rest → Ended rest → Gets (line_at word at) (λ y. (y.0 ≡ x) × (y.1.tokens ≡ rest))
 unfolding line_at

@@ -1,0 +1,12 @@
+use Rattle.std.proofs.Common.{◌≡◌, ◌++◌, ◌+◌, ◌-◌, ◌≤◌, length, map, drop}
+use Rattle.std.specs.Prelude.{All}
+use Rattle.ps_text.specs.Tokens.{tokens}
+use Rattle.ps_text.specs.Lines.{lines_of, numbered, numbered_fields, IsLineWithin}
+use Rattle.ps_text.proofs.LineList.{Going}
+use Rattle.ps_text.proofs.splitting.lines.Given as goal
+
+abbrev pub invariant-going : goal.invariant-going
+invariant-going l = Going l.bytes l.first l.start l.number l.lines.items
+
+abbrev pub decreases-going : goal.decreases-going
+decreases-going l = length l.bytes - l.start
