@@ -204,3 +204,28 @@ Walked-end rows ns last cancels w n =
       yes = λ f. past_all (λ x. weighted (λ t. coefficient x t.pairs) rows ns ≡ pos 0) last (w.yes f) (λ x a. weighted-zero (λ t. coefficient x t.pairs) rows ns (recursion_from_All (λ r. coefficient x r.term.pairs ≡ pos 0) rows (n.skipped x a tt)));
       no = w.no;
     }
+
+-- ---- between two turns: all up to some variable was taken, and this is the next
+pub record Walking (rows : List Row) (ns : List ℕ) (next : Option Var) (cancels : Bool) : Type 0 where
+  pub last : Option Var
+  pub walked : Walked rows ns last cancels
+  pub follows : IsNext last rows next
+
+pub Walking-start : (rows : List Row) (ns : List ℕ) (next : Option Var) → IsNext None rows next → Walking rows ns next true
+Walking-start rows ns next n = record { last = None; walked = Walked-start rows ns; follows = n }
+
+pub Walking-turn : (rows : List Row) (ns : List ℕ) (y : Var) (next : Option Var) (cancels cancel new : Bool) → Walking rows ns (Some y) cancels → IsNext (Some y) rows next → SumsFit (λ t. coefficient y t.pairs) (pos 0) rows ns → (cancel ≡ true → weighted (λ t. coefficient y t.pairs) rows ns ≡ pos 0) → (weighted (λ t. coefficient y t.pairs) rows ns ≡ pos 0 → cancel ≡ true) → new ≡ (cancels && cancel) → Walking rows ns next new
+Walking-turn rows ns y next cancels cancel new w n fits told tells e =
+    record { last = Some y; walked = Walked-turn rows ns w.last cancels cancel new y w.walked w.follows fits told tells e; follows = n }
+
+pub Walking-end : (rows : List Row) (ns : List ℕ) (cancels : Bool) → Walking rows ns None cancels → WalkedAll rows ns cancels
+Walking-end rows ns cancels w = Walked-end rows ns w.last cancels w.walked w.follows
+
+-- how many pairs are left from the next variable on, and one more where there is a next variable
+abbrev pub count_from : Option Var → List Row → ℕ
+count_from None rows = 0
+count_from (Some x) rows = 1 + count_left (Some x) rows
+
+pub count_from-falls : (rows : List Row) (y : Var) (next : Option Var) → IsNext (Some y) rows next → count_from next rows < count_from (Some y) rows
+count_from-falls rows y None n = omega arith
+count_from-falls rows y (Some z) n = omega (arith, count_left-falls (Some y) rows z n)

@@ -5,8 +5,9 @@ ghost use Rattle.ps_term.specs.Row.{Holds};
 ghost use Rattle.ps_farkas.specs.Refutes.{AllSumsFit, Refutes, VariablesCancel, VariablesFit};
 
 use crate::past::Past128;
-use crate::walk::next_variable;
-use crate::weigh::{Part, total};
+use crate::visit::visit;
+use crate::walk::first_variable;
+use crate::weigh::constant_total;
 use ps_term::row::Row;
 
 /// Whether the multipliers show that no whole numbers satisfy all rows: there is one for each row, and
@@ -14,8 +15,9 @@ use ps_term::row::Row;
 /// answer is `false`. It is `Past128` where a product, or a partial sum of one variable or of the
 /// constants in row order, lies outside `i128`.
 ///
-/// The call takes no memory. Its time is that of the number of different variables times that of the
-/// rows, each with a binary search in its pairs.
+/// The call takes no memory. Its time is at most that of the number of different variables times that of
+/// the rows, each with a binary search in its pairs; where rows have like variables the searches take
+/// constant time.
 pub fn refutes(rows: &[Row], lambda: &[u128]) -> Result<bool, Past128>
     ensures answer { IfOk result (λ yes. IsTrue yes ↔ Refutes rows.now lambda.now) }
     ensures sound { IfOk result (λ yes. IsTrue yes
@@ -29,7 +31,7 @@ pub fn refutes(rows: &[Row], lambda: &[u128]) -> Result<bool, Past128>
         return Ok(false);
     }
     let cancels = all_cancel(rows, lambda).ok_or(Past128)?;
-    let constant = total(rows, lambda, Part::Constant).ok_or(Past128)?;
+    let constant = constant_total(rows, lambda).ok_or(Past128)?;
     Ok(cancels && constant >= 1)
 }
 
@@ -41,11 +43,13 @@ fn all_cancel(rows: &[Row], lambda: &[u128]) -> Option<bool>
     ensures past { IfNone result (¬ VariablesFit rows.now lambda.now) }
 {
     let mut cancels = true;
-    let mut last = None;
-    'walking: while let Some(variable) = next_variable(rows, last) {
-        let sum = total(rows, lambda, Part::Coefficient(variable))?;
-        cancels &= sum == 0;
-        last = Some(variable);
+    let mut next = first_variable(rows);
+    let mut near = 0;
+    'walking: while let Some(variable) = next {
+        let found = visit(rows, lambda, variable, near)?;
+        cancels &= found.sum == 0;
+        next = found.next;
+        near = found.near;
     }
     Some(cancels)
 }

@@ -1,22 +1,23 @@
 // The walk over the variables of rows in ascending order, which takes no memory.
-ghost use Rattle.std.specs.Prelude.{◌≡◌};
+ghost use Rattle.std.specs.Prelude.{◌≡◌, None};
 ghost use Rattle.ps_farkas.specs.Walk.{IsNext, lesser_of};
 
 use ps_term::row::Row;
 use ps_term::var::{Var, is_before};
 
-// The least variable of the rows that is after the last one.
-pub(crate) fn next_variable(rows: &[Row], last: Option<Var>) -> Option<Var>
-    ensures { IsNext last rows.now result }
+// The least variable of the rows.
+pub(crate) fn first_variable(rows: &[Row]) -> Option<Var>
+    ensures { IsNext None rows.now result }
 {
-    let mut next = None;
+    let mut first = None;
     for row in rows {
-        next = lesser(next, row.term.pairs.next_after(last));
+        first = lesser(first, row.term.pairs.next_after(None));
     }
-    next
+    first
 }
 
-fn lesser(a: Option<Var>, b: Option<Var>) -> Option<Var>
+// The lesser of two variables, where they are there.
+pub(crate) fn lesser(a: Option<Var>, b: Option<Var>) -> Option<Var>
     ensures { result ≡ lesser_of a b }
 {
     match (a, b) {

@@ -1,3 +1,4 @@
+pub mod Bound
 pub mod Factors
 pub mod Front
 pub mod Lookup
