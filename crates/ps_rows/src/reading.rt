@@ -10,7 +10,7 @@ ghost use Rattle.ps_rows.specs.Reading.{row_at, multipliers_at, claim_at};
 use crate::claim::Claim;
 use crate::multipliers::Multipliers;
 use crate::rows::Rows;
-use ps_term::row::Row;
+use ps_term::Row;
 use ps_term_text::take_term;
 use ps_text::{Form, FormEnd, Natural, Reader, times};
 use std::alloc::Global;

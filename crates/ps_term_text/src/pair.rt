@@ -6,7 +6,7 @@ ghost use Rattle.ps_text.specs.Reading.{Reads, leaf_at, member_at};
 ghost use Rattle.ps_term_text.specs.Reading.{ascends, ordered, pair_of, pair_from, pair_after, has_star};
 
 use crate::variable::{looks_variable, variable_of};
-use ps_term::var::{Var, is_before};
+use ps_term::{Var, is_before};
 use ps_text::{FormName, Leaf, counts_as_decimal, cut, read_i128};
 
 fn pair_of(parts: (&[u8], &[u8])) -> Option<(Var, i128)>

@@ -4,8 +4,8 @@ ghost use Rattle.ps_text.specs.Reading.{Gives};
 ghost use Rattle.ps_term_text.specs.Reading.{term_at};
 
 use crate::pair::PairLeaf;
-use ps_term::pairs::Pairs;
-use ps_term::term::Term;
+use ps_term::Pairs;
+use ps_term::Term;
 use ps_text::{FormEnd, Reader, Until, list};
 use std::alloc::Global;
 

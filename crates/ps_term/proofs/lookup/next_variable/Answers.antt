@@ -1,9 +1,4 @@
-<<<<<<< HEAD
-use Rattle.std.proofs.Common.{◌≢◌, pos, Option, IfSome, rules, of_calls, subst, sym, ap, ◌∙◌}
-use Rattle.std.proofs.lemmas.Fn.{always_returns_same}
-=======
 use Rattle.std.proofs.Common.{◌≢◌, pos, Option, IfSome, subst, sym, ap, ◌∙◌}
->>>>>>> 4edbd4ecc588e2c2e64ce8c9abf8685beffbce2c
 use Rattle.ps_term.specs.declared.var.Var.{Var}
 use Rattle.ps_term.specs.declared.bound.Bound.{Bound}
 use Rattle.std.specs.List.Sorted.{IsPartitionPoint}
