@@ -37,7 +37,11 @@ impl Form for RowLine {
 
 // The line of multipliers, as many as there are rows.
 #[tactic(auto, unfolding(crate::specs::Reading::multipliers_at, ps_text::specs::Reading::and_then))]
-fn take_multipliers<'a>(alloc: Global, count: u32, reader: &mut Reader<'a>) -> Result<Multipliers, FormEnd>
+fn take_multipliers<'a>(
+    alloc: Global,
+    count: u32,
+    reader: &mut Reader<'a>,
+) -> Result<Multipliers, FormEnd>
     ensures { Gives (λ x. x) result reader.new (multipliers_at count reader.old) }
 {
     reader.line(b"by")?;

@@ -48,7 +48,10 @@ fn ordered(before: Option<(Var, i128)>, pair: Option<(Var, i128)>) -> Result<(Va
     }
 }
 
-fn pair_from(before: Option<(Var, i128)>, parts: Option<(&[u8], &[u8])>) -> Result<(Var, i128), FormName>
+fn pair_from(
+    before: Option<(Var, i128)>,
+    parts: Option<(&[u8], &[u8])>,
+) -> Result<(Var, i128), FormName>
     ensures { result ≡ pair_from before (option_map (λ p. (p.0.now, p.1.now)) parts.entry) }
 {
     match parts {

@@ -10,8 +10,8 @@ use ps_term::Var;
 use ps_text::{put_digits, put_integer, put_signed_digits, put_word};
 use std::alloc::AllocError;
 
-/// Puts a variable as a part of a field; nothing for a havoc, which has no spelling.
-pub fn put_variable(out: &mut Vec<u8>, variable: Var) -> Result<(), AllocError>
+// A variable as a part of a field; nothing for a havoc, which has no spelling.
+fn put_variable(out: &mut Vec<u8>, variable: Var) -> Result<(), AllocError>
     ensures { OnOk result (out.new.items ≡ out.old.items ++ variable_text variable) }
 {
     match variable {
@@ -29,8 +29,8 @@ pub fn put_variable(out: &mut Vec<u8>, variable: Var) -> Result<(), AllocError>
     }
 }
 
-/// Puts a pair of a term as a further field of a line.
-pub fn put_pair(out: &mut Vec<u8>, pair: (Var, i128)) -> Result<(), AllocError>
+// A pair of a term as a further field of a line.
+fn put_pair(out: &mut Vec<u8>, pair: (Var, i128)) -> Result<(), AllocError>
     ensures { OnOk result (out.new.items ≡ out.old.items ++ after_blank (pair_text pair)) }
 {
     put_word(out, b" ")?;
@@ -48,7 +48,7 @@ fn put_pairs(out: &mut Vec<u8>, pairs: &[(Var, i128)]) -> Result<(), AllocError>
     Ok(())
 }
 
-/// Puts a term as further fields of a line.
+/// Puts a term as further fields of a line. A havoc in it has no spelling, so what stands for it isn't read back.
 pub fn put_term(out: &mut Vec<u8>, term: &Term) -> Result<(), AllocError>
     ensures { OnOk result (out.new.items ≡ out.old.items ++ flat_map after_blank (term_fields term.now)) }
 {
