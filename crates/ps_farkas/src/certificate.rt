@@ -57,9 +57,7 @@ fn all_cancel(rows: &[Row], lambda: &[u128]) -> Option<bool>
 #[cfg(test)]
 mod tests {
     use super::*;
-    use ps_term::Pairs;
-    use ps_term::Term;
-    use ps_term::Var;
+    use ps_term::{Pairs, Term, Var};
     use std::alloc::{AllocError, Global};
     use std::test::Fail;
 
