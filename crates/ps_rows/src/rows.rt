@@ -1,3 +1,4 @@
+//! Lists of rows.
 ghost use Rattle.std.specs.Prelude.{◌≡◌, IfOk};
 
 use ps_term::Row;

@@ -1,3 +1,4 @@
+//! A claim is printed and read back.
 use super::*;
 use std::test::Fail;
 

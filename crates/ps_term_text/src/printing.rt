@@ -5,8 +5,7 @@ ghost use Rattle.std.specs.List.{flat_map};
 ghost use Rattle.ps_text.specs.Tokens.{after_blank};
 ghost use Rattle.ps_term_text.specs.Spelling.{variable_text, pair_text, term_fields};
 
-use ps_term::Term;
-use ps_term::Var;
+use ps_term::{Term, Var};
 use ps_text::{put_digits, put_integer, put_signed_digits, put_word};
 use std::alloc::AllocError;
 

@@ -8,8 +8,7 @@ ghost use Rattle.ps_term_text.specs.Reading.{term_at};
 ghost use Rattle.ps_term_text.specs.Spelling.{term_fields, TermFits};
 
 use crate::pair::PairLeaf;
-use ps_term::Pairs;
-use ps_term::Term;
+use ps_term::{Pairs, Term};
 use ps_text::{FormEnd, Reader, Until, list};
 use std::alloc::Global;
 

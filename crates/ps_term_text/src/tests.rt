@@ -1,3 +1,4 @@
+//! Terms are read from fields and printed.
 ghost use Rattle.std.specs.Prelude.{◌<◌, length};
 
 use super::*;

@@ -1,3 +1,4 @@
+//! Lines as the places of their fields.
 ghost use Rattle.std.specs.Prelude.{◌≡◌, IfOk};
 
 use crate::spans::Spans;

@@ -1,3 +1,4 @@
+//! Lists of places of fields.
 ghost use Rattle.std.specs.Prelude.{◌≡◌, IfOk};
 
 use crate::span::Span;

@@ -1,3 +1,4 @@
+//! Decimals, lines and a small form.
 use super::*;
 use std::test::Fail;
 
