@@ -52,6 +52,17 @@ impl<T> Sequence<T> {
     }
 }
 
+impl<T: Copy> Sequence<T> {
+    /// The members of a slice, in time and memory of its length.
+    pub fn from_slice(alloc: Global, members: &[T]) -> Result<Sequence<T>, AllocError>
+        ensures { IfOk result (λ copy. copy ≡ members.now) }
+    {
+        Ok(Sequence {
+            list: Vec::from_slice(alloc, members)?,
+        })
+    }
+}
+
 impl<T: Duplicate> Sequence<T> {
     /// A copy, in time and memory of its members.
     pub fn copy(&self, alloc: Global) -> Result<Sequence<T>, AllocError>

@@ -1,0 +1,8 @@
+//! Graphs of programs, and what executions of texts and error traces of graphs are.
+#![tactic(auto)]
+
+mod edge;
+mod graph;
+
+pub use edge::{Edge, Pick};
+pub use graph::Graph;
