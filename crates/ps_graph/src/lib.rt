@@ -3,6 +3,7 @@
 
 mod edge;
 mod graph;
+pub mod worked;
 
 pub use edge::{Edge, Pick};
 pub use graph::Graph;
