@@ -1,12 +1,13 @@
 -- How the edges of a graph follow the text.
-use Rattle.std.specs.Prelude.{◌≡◌, ◌≢◌, ℕ, ℤ, Bool, true, false, ◌==◌, List, [], ◌∷◌, ◌++◌, map, filter, if◌then◌else◌}
+use Rattle.std.specs.Prelude.{◌≡◌, ◌≢◌, ℕ, ℤ, Bool, true, false, ◌==◌, List, [], ◌∷◌, ◌++◌, map, filter, Option, Some, None, option_map, if◌then◌else◌}
 use Rattle.ps_command.specs.declared.command.Command.{Command}
 use Rattle.ps_command.specs.declared.op.Op.{Op}
 use Rattle.ps_command.specs.declared.op.Op.TheVariants.{Assume, Assign, Havoc}
 use Rattle.ps_graph.specs.Alternatives.{bound_value}
-use Rattle.ps_graph.specs.Facts.{ops_of}
+use Rattle.ps_command.specs.Values.{Values}
+use Rattle.ps_graph.specs.Facts.{IsIn, ops_of, after_edge}
 use Rattle.ps_graph.specs.Paths.{Act, Needs, Sets, Takes, Chooses, Breaks, is_failing, picks_of, paths, ways}
-use Rattle.ps_graph.specs.Step.{Thread, Runs, Failed}
+use Rattle.ps_graph.specs.Step.{Thread, Runs, Failed, step}
 use Rattle.ps_graph.specs.declared.edge.Edge.{Edge}
 use Rattle.ps_syntax.specs.Sum.{sum_value}
 use Rattle.ps_syntax.specs.declared.stmt.Stmt.{Stmt}
@@ -71,3 +72,17 @@ RestStands commands edges (s ∷ rest) a z = (b : ℕ) × (a ≢ 1) × Stands co
 abbrev pub ThreadStands : List Command → List Edge → ℕ → Thread → ℕ → Type 0
 ThreadStands commands edges z (Runs rest) a = RestStands commands edges rest a z
 ThreadStands commands edges z Failed a = a ≡ 1
+
+-- one step of a thread at a location along an edge: the values and the location after it
+abbrev pub along : List Command → Edge → ℕ → Values → List ℤ → Option (Values × ℕ)
+along commands e a v cs = if e.source == a then option_map (λ (w : Values). (w, e.target)) (after_edge commands e v cs) else None
+
+-- Where a thread stands at a location, each step of it is a step along an edge, and each step along an edge is a step
+-- of it, with the same choices and to the same values; and after it the thread stands at the target.
+pub record StepsAreEdges (commands : List Command) (edges : List Edge) (z : ℕ) : Type 0 where
+  pub forth : (t : Thread) (a : ℕ) → ThreadStands commands edges z t a →
+      (v : Values) (cs : List ℤ) (w : Values) (u : Thread) → step t v cs ≡ Some (w, u) →
+      (e : Edge) × (b : ℕ) × IsIn e edges × (along commands e a v cs ≡ Some (w, b)) × ThreadStands commands edges z u b
+  pub back : (t : Thread) (a : ℕ) → ThreadStands commands edges z t a →
+      (v : Values) (cs : List ℤ) (e : Edge) (w : Values) (b : ℕ) → IsIn e edges → along commands e a v cs ≡ Some (w, b) →
+      (u : Thread) × (step t v cs ≡ Some (w, u)) × ThreadStands commands edges z u b
