@@ -1,3 +1,5 @@
 pub mod Agreement
 pub mod Bools
+pub mod Choices
+pub mod Members
 pub mod Truths
