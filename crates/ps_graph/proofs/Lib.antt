@@ -2,4 +2,5 @@ pub mod Agreement
 pub mod Bools
 pub mod Choices
 pub mod Members
+pub mod OneThread
 pub mod Truths
