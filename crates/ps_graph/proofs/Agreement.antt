@@ -4,8 +4,8 @@ use Rattle.std.specs.Prelude.{Option, Some, None}
 use Rattle.std.specs.Ordering.{int_eq}
 use Rattle.std.proofs.lemmas.Int.{ints}
 use Rattle.ps_command.specs.Values.{Values, value_at, with_value}
-use Rattle.ps_graph.proofs.Truths.{all_hold, any_hold, any_hold-true, any_hold-false}
-use Rattle.ps_graph.specs.Alternatives.{Bound, bound_holds, alternatives}
+use Rattle.ps_graph.proofs.Truths.{any_hold-true, any_hold-false}
+use Rattle.ps_graph.specs.Alternatives.{Bound, bound_holds, all_hold, any_hold, alternatives}
 use Rattle.ps_graph.specs.Paths.{Act, Needs, Sets, Takes, Chooses, Breaks, gives, is_failing, needs, ways, followed, paths, paths_all}
 use Rattle.ps_graph.specs.Picks.{choice_of}
 use Rattle.ps_graph.specs.Step.{Outcome, Goes, Fails, Stops, decided, then_do, branch, within, within_all}

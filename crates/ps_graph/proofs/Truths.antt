@@ -1,11 +1,10 @@
 -- The alternatives of a condition hold exactly where the condition is true.
 use Rattle.std.proofs.Common.{◌≡◌, Bool, true, false, not, ◌&&◌, ◌||◌, refl, sym, ◌∙◌, ap, ap₂, ℤ, pos, ◌+ℤ◌, ◌-ℤ◌, ◌≤ℤ◌, ◌<ℤ◌, List, [], ◌∷◌, ◌++◌, map, arith}
 use Rattle.std.specs.Prelude.{int_lt, int_le}
-use Rattle.std.specs.List.{list_all, list_any}
 use Rattle.std.specs.Ordering.{int_eq}
 use Rattle.std.proofs.lemmas.Int.{ints}
 use Rattle.ps_graph.proofs.Bools.{and_true, or_false, or_assoc, and_assoc, and_or, or_and, not_and, not_or, not_not, same_test}
-use Rattle.ps_graph.specs.Alternatives.{Bound, bound_holds, at_most, less_than, opposite, of_relation, product, alternatives, one_of_each, one_of_any}
+use Rattle.ps_graph.specs.Alternatives.{Bound, bound_holds, all_hold, any_hold, at_most, less_than, opposite, of_relation, product, alternatives, one_of_each, one_of_any}
 use Rattle.ps_syntax.specs.Cond.{compares, is_true, truth, all_true, some_true}
 use Rattle.ps_syntax.specs.Sum.{sum_value}
 use Rattle.ps_syntax.specs.declared.cond.Cond.{Cond, Rel, Not', And', Or', Row_of-Cond, end_of-Cond, more_of-Cond}
@@ -14,14 +13,6 @@ use Rattle.ps_syntax.specs.declared.relation.Sign.{Sign}
 use Rattle.ps_syntax.specs.declared.relation.Sign.TheVariants.{Less, LessEq, Greater, GreaterEq, Equal, NotEqual}
 use Rattle.ps_syntax.specs.declared.sum.Sum.{Sum}
 use Rattle.ps_term.specs.declared.var.Var.{Var}
-
--- all bounds of an alternative hold
-abbrev pub all_hold : (Var → ℤ) → List Bound → Bool
-all_hold values bs = list_all (bound_holds values) bs
-
--- all bounds of some alternative hold
-abbrev pub any_hold : (Var → ℤ) → List (List Bound) → Bool
-any_hold values alts = list_any (all_hold values) alts
 
 le_yes : (a b : ℤ) → int_le a b ≡ true → a ≤ℤ b
 le_yes a b h = grind (arith, ints)

@@ -1,5 +1,6 @@
 -- The alternatives of a condition: lists of bounds, of which all hold in one list exactly where the condition is true.
 use Rattle.std.specs.Prelude.{ℤ, pos, ◌+ℤ◌, ◌-ℤ◌, Bool, true, false, not, List, [], ◌∷◌, ◌++◌, map, int_le, if◌then◌else◌}
+use Rattle.std.specs.List.{list_all, list_any}
 use Rattle.ps_syntax.specs.Sum.{sum_value}
 use Rattle.ps_syntax.specs.declared.cond.Cond.{Cond, Rel, Not', And', Or', Row_of-Cond, end_of-Cond, more_of-Cond}
 use Rattle.ps_syntax.specs.declared.relation.Relation.{Relation}
@@ -21,6 +22,14 @@ bound_value values b = (sum_value values b.left -ℤ sum_value values b.right) +
 -- the bound holds of values
 abbrev pub bound_holds : (Var → ℤ) → Bound → Bool
 bound_holds values b = int_le (bound_value values b) (pos 0)
+
+-- all bounds of an alternative hold
+abbrev pub all_hold : (Var → ℤ) → List Bound → Bool
+all_hold values bs = list_all (bound_holds values) bs
+
+-- all bounds of some alternative hold
+abbrev pub any_hold : (Var → ℤ) → List (List Bound) → Bool
+any_hold values alts = list_any (all_hold values) alts
 
 -- left <= right
 abbrev pub at_most : Sum → Sum → Bound

@@ -9,3 +9,4 @@ pub mod Paths
 pub mod Picks
 pub mod Step
 pub mod Threads
+pub mod Walks

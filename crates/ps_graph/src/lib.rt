@@ -3,6 +3,7 @@
 
 mod edge;
 mod graph;
+pub mod laws;
 pub mod worked;
 
 pub use edge::{Edge, Pick};
