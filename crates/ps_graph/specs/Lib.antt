@@ -5,6 +5,7 @@ pub mod Execution
 pub mod Facts
 pub mod Follows
 pub mod Initial
+pub mod Letters
 pub mod Paths
 pub mod Picks
 pub mod Step
