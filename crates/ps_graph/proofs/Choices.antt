@@ -42,13 +42,13 @@ tied (Needs b ∷ p) [] s v cs = absurd s
 tied (Needs b ∷ p) (Assume r ∷ ops) s v cs =
     at (holds (value_at v) r) (bound_holds (value_at v) b) (ap (λ z. int_le z (pos 0)) (s.0 (value_at v))) (tied p ops s.1 v cs)
   where
-  at : (t u : Bool) → t ≡ u → option_and_then (run_left ops v) (fit (picks_of p) cs) ≡ ended (gives p v cs) →
-      option_and_then (λ (q : List ℤ × List ℤ). option_map (λ (w : Values). (w, q.1)) (if t then run ops v q.0 else None)) (fit (picks_of p) cs)
-      ≡ ended (if u then gives p v cs else Stops)
-  at true true h e = e
-  at true false h e = cc
-  at false true h e = cc
-  at false false h e = never (fit (picks_of p) cs)
+    at : (t u : Bool) → t ≡ u → option_and_then (run_left ops v) (fit (picks_of p) cs) ≡ ended (gives p v cs) →
+        option_and_then (λ (q : List ℤ × List ℤ). option_map (λ (w : Values). (w, q.1)) (if t then run ops v q.0 else None)) (fit (picks_of p) cs)
+        ≡ ended (if u then gives p v cs else Stops)
+    at true true h e = e
+    at true false h e = cc
+    at false true h e = cc
+    at false false h e = never (fit (picks_of p) cs)
 tied (Needs b ∷ p) (Assign y t ∷ ops) s v cs = absurd s
 tied (Needs b ∷ p) (Havoc y ∷ ops) s v cs = absurd s
 tied (Sets x m ∷ p) [] s v cs = absurd s
@@ -66,18 +66,18 @@ tied (Takes x ∷ p) (Havoc y ∷ ops) s v (c ∷ cs) =
     ∙ ap (λ z. option_and_then (run_left ops (with_value v z c)) (fit (picks_of p) cs)) s.0
     ∙ tied p ops s.1 (with_value v x c) cs
   where
-  at : (o : Option (List ℤ × List ℤ)) →
-      option_and_then (run_left (Havoc y ∷ ops) v) (option_map (λ (q : List ℤ × List ℤ). (c ∷ q.0, q.1)) o)
-      ≡ option_and_then (run_left ops (with_value v y c)) o
-  at None = refl
-  at (Some q) = refl
+    at : (o : Option (List ℤ × List ℤ)) →
+        option_and_then (run_left (Havoc y ∷ ops) v) (option_map (λ (q : List ℤ × List ℤ). (c ∷ q.0, q.1)) o)
+        ≡ option_and_then (run_left ops (with_value v y c)) o
+    at None = refl
+    at (Some q) = refl
 tied (Chooses b ∷ p) ops s v [] = refl
 tied (Chooses b ∷ p) ops s v (c ∷ cs) = at (int_eq c (choice_of b)) (tied p ops s v cs)
   where
-  at : (t : Bool) → option_and_then (run_left ops v) (fit (picks_of p) cs) ≡ ended (gives p v cs) →
-      option_and_then (run_left ops v) (if t then fit (picks_of p) cs else None) ≡ ended (if t then gives p v cs else Stops)
-  at true e = e
-  at false e = refl
+    at : (t : Bool) → option_and_then (run_left ops v) (fit (picks_of p) cs) ≡ ended (gives p v cs) →
+        option_and_then (run_left ops v) (if t then fit (picks_of p) cs else None) ≡ ended (if t then gives p v cs else Stops)
+    at true e = e
+    at false e = refl
 
 -- the values, if no choice is left
 abbrev pub used : Outcome → Option Values
@@ -101,14 +101,14 @@ at_the_end : (ops : List Op) (v : Values) (o : Option (List ℤ × List ℤ)) �
 at_the_end ops v None = refl
 at_the_end ops v (Some (hs, [])) = ran (run ops v hs)
   where
-  ran : (o : Option Values) → o ≡ option_and_then if_used (option_map (λ (w : Values). (w, [])) o)
-  ran None = refl
-  ran (Some w) = refl
+    ran : (o : Option Values) → o ≡ option_and_then if_used (option_map (λ (w : Values). (w, [])) o)
+    ran None = refl
+    ran (Some w) = refl
 at_the_end ops v (Some (hs, c ∷ cs)) = ran (run ops v hs)
   where
-  ran : (o : Option Values) → None ≡ option_and_then if_used (option_map (λ (w : Values). (w, c ∷ cs)) o)
-  ran None = refl
-  ran (Some w) = refl
+    ran : (o : Option Values) → None ≡ option_and_then if_used (option_map (λ (w : Values). (w, c ∷ cs)) o)
+    ran None = refl
+    ran (Some w) = refl
 
 -- an edge that is drawn of a path gives what the path gives, where it leaves no choice
 pub after_drawn : (commands : List Command) (a : ℕ) (p : List Act) (goal : ℕ) (e : Edge) → Draws commands a p goal e →

@@ -21,11 +21,11 @@ first_edge : (edges : List Edge) (a : ℕ) (ns : List ℕ) (o : Option Edge) →
 first_edge edges a ns None h = let no_such : false ≡ true = h in cc
 first_edge edges a ns (Some e) h = at (e.source == a) (is_path edges e.target ns) refl refl h
   where
-  at : (p q : Bool) → (e.source == a) ≡ p → is_path edges e.target ns ≡ q → (p && q) ≡ true →
-      (f : Edge) × (Some e ≡ Some f) × (f.source ≡ a) × (is_path edges f.target ns ≡ true)
-  at true true p q h = (e, refl, eqb-true e.source a p, q)
-  at true false p q h = let no_such : false ≡ true = h in cc
-  at false q p r h = let no_such : false ≡ true = h in cc
+    at : (p q : Bool) → (e.source == a) ≡ p → is_path edges e.target ns ≡ q → (p && q) ≡ true →
+        (f : Edge) × (Some e ≡ Some f) × (f.source ≡ a) × (is_path edges f.target ns ≡ true)
+    at true true p q h = (e, refl, eqb-true e.source a p, q)
+    at true false p q h = let no_such : false ≡ true = h in cc
+    at false q p r h = let no_such : false ≡ true = h in cc
 
 -- a path that begins with an edge
 with_edge : (edges : List Edge) (a n : ℕ) (ns : List ℕ) (e : Edge) → slice_get edges n ≡ Some e → e.source ≡ a → is_path edges e.target ns ≡ true →
@@ -46,29 +46,31 @@ located_of_paths edges (l ∷ ls) at paths =
     on (first_edge edges (at l.0) (edges_of l.0 ls) (slice_get edges l.1) (own (l.0 == l.0) (eq-eqb l.0 l.0 refl) (paths l.0)))
     (λ e rest. located_of_paths edges ls (moved_to at l.0 e.target) rest)
   where
-  own : (t : Bool) → t ≡ true → is_path edges (at l.0) (numbers (if t then l ∷ chosen_by l.0 ls else chosen_by l.0 ls)) ≡ true →
-      is_path edges (at l.0) (l.1 ∷ edges_of l.0 ls) ≡ true
-  own true t h = h
-  own false t h = let no_such : false ≡ true = t in cc
-  others : (e : Edge) → slice_get edges l.1 ≡ Some e → is_path edges e.target (edges_of l.0 ls) ≡ true → (k : ℕ) (t : Bool) → (l.0 == k) ≡ t →
-      is_path edges (at k) (numbers (if t then l ∷ chosen_by k ls else chosen_by k ls)) ≡ true →
-      is_path edges (if t then e.target else at k) (edges_of k ls) ≡ true
-  others e g p k true t h = subst (λ (j : ℕ). is_path edges e.target (edges_of j ls) ≡ true) (eqb-true l.0 k t) p
-  others e g p k false t h = h
-  on : (e : Edge) × (slice_get edges l.1 ≡ Some e) × (e.source ≡ at l.0) × (is_path edges e.target (edges_of l.0 ls) ≡ true) →
-      ((e : Edge) → ((k : ℕ) → is_path edges (moved_to at l.0 e.target k) (edges_of k ls) ≡ true) → Located edges (moved_to at l.0 e.target) ls) →
-      Located edges at (l ∷ ls)
-  on (e, g, s, p) rest = (e, g, s, rest e (λ k. others e g p k (l.0 == k) refl (paths k)))
+    own : (t : Bool) → t ≡ true → is_path edges (at l.0) (numbers (if t then l ∷ chosen_by l.0 ls else chosen_by l.0 ls)) ≡ true →
+        is_path edges (at l.0) (l.1 ∷ edges_of l.0 ls) ≡ true
+    own true t h = h
+    own false t h = let no_such : false ≡ true = t in cc
+
+    others : (e : Edge) → slice_get edges l.1 ≡ Some e → is_path edges e.target (edges_of l.0 ls) ≡ true → (k : ℕ) (t : Bool) → (l.0 == k) ≡ t →
+        is_path edges (at k) (numbers (if t then l ∷ chosen_by k ls else chosen_by k ls)) ≡ true →
+        is_path edges (if t then e.target else at k) (edges_of k ls) ≡ true
+    others e g p k true t h = subst (λ (j : ℕ). is_path edges e.target (edges_of j ls) ≡ true) (eqb-true l.0 k t) p
+    others e g p k false t h = h
+
+    on : (e : Edge) × (slice_get edges l.1 ≡ Some e) × (e.source ≡ at l.0) × (is_path edges e.target (edges_of l.0 ls) ≡ true) →
+        ((e : Edge) → ((k : ℕ) → is_path edges (moved_to at l.0 e.target k) (edges_of k ls) ≡ true) → Located edges (moved_to at l.0 e.target) ls) →
+        Located edges at (l ∷ ls)
+    on (e, g, s, p) rest = (e, g, s, rest e (λ k. others e g p k (l.0 == k) refl (paths k)))
 
 -- and the other way round
 pub paths_of_located : (edges : List Edge) (ls : List (ℕ × ℕ)) (at : ℕ → ℕ) → Located edges at ls → (k : ℕ) → is_path edges (at k) (edges_of k ls) ≡ true
 paths_of_located edges [] at h k = refl
 paths_of_located edges (l ∷ ls) at (e, g, s, h) k = on (l.0 == k) refl (paths_of_located edges ls (moved_to at l.0 e.target) h k)
   where
-  on : (t : Bool) → (l.0 == k) ≡ t → is_path edges (if t then e.target else at k) (edges_of k ls) ≡ true →
-      is_path edges (at k) (numbers (if t then l ∷ chosen_by k ls else chosen_by k ls)) ≡ true
-  on true t p = with_edge edges (at k) l.1 (edges_of k ls) e g (s ∙ ap at (eqb-true l.0 k t)) p
-  on false t p = p
+    on : (t : Bool) → (l.0 == k) ≡ t → is_path edges (if t then e.target else at k) (edges_of k ls) ≡ true →
+        is_path edges (at k) (numbers (if t then l ∷ chosen_by k ls else chosen_by k ls)) ≡ true
+    on true t p = with_edge edges (at k) l.1 (edges_of k ls) e g (s ∙ ap at (eqb-true l.0 k t)) p
+    on false t p = p
 
 choice_fits : (b : Bool) → int_eq (choice_of b) (choice_of b) ≡ true
 choice_fits true = refl
@@ -98,20 +100,20 @@ fit_counts [] cs = refl
 fit_counts (_ ∷ ps) [] = tt
 fit_counts (Star b ∷ ps) (c ∷ cs) = at (int_eq c (choice_of b)) (fit_counts ps cs)
   where
-  at : (t : Bool) → Counts (values_in ps) (fit ps cs) → Counts (values_in ps) (if t then fit ps cs else None)
-  at true h = h
-  at false h = tt
+    at : (t : Bool) → Counts (values_in ps) (fit ps cs) → Counts (values_in ps) (if t then fit ps cs else None)
+    at true h = h
+    at false h = tt
 fit_counts (Value ∷ ps) (c ∷ cs) = at (fit ps cs) (fit_counts ps cs)
   where
-  at : (o : Option (List ℤ × List ℤ)) → Counts (values_in ps) o →
-      Counts (1 + values_in ps) (option_map (λ (q : List ℤ × List ℤ). let r : List ℤ × List ℤ = (c ∷ q.0, q.1) in r) o)
-  at None h = tt
-  at (Some q) h = omega (arith, h)
+    at : (o : Option (List ℤ × List ℤ)) → Counts (values_in ps) o →
+        Counts (1 + values_in ps) (option_map (λ (q : List ℤ × List ℤ). let r : List ℤ × List ℤ = (c ∷ q.0, q.1) in r) o)
+    at None h = tt
+    at (Some q) h = omega (arith, h)
 
 pub havocs_count : (ps : List Pick) (cs hs : List ℤ) → havocs_of ps cs ≡ Some hs → length hs ≡ values_in ps
 havocs_count ps cs hs h = at (fit ps cs) (fit_counts ps cs) h
   where
-  at : (o : Option (List ℤ × List ℤ)) → Counts (values_in ps) o → option_and_then if_all_used o ≡ Some hs → length hs ≡ values_in ps
-  at None c e = cc
-  at (Some (gs, [])) c e = ap length (sym (same_Some gs hs e)) ∙ c
-  at (Some (gs, d ∷ ds)) c e = cc
+    at : (o : Option (List ℤ × List ℤ)) → Counts (values_in ps) o → option_and_then if_all_used o ≡ Some hs → length hs ≡ values_in ps
+    at None c e = cc
+    at (Some (gs, [])) c e = ap length (sym (same_Some gs hs e)) ∙ c
+    at (Some (gs, d ∷ ds)) c e = cc

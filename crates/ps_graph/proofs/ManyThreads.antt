@@ -38,24 +38,27 @@ module _ (commands : List Command) (edges : List Edge) (z : ℕ) (one : StepsAre
   leads_at k globals (t ∷ ts) [] cs s = absurd s
   leads_at zero globals (t ∷ ts) (u ∷ us) cs (same, at, s) = on (step t.at (record { globals = globals; locals = t.locals }) cs) refl
     where
-    on : (o : Option (Values × Thread)) → step t.at (record { globals = globals; locals = t.locals }) cs ≡ o →
-        LeadsAt zero globals (u ∷ us) cs (option_map (moved_first ts) o)
-    on None e = tt
-    on (Some q) e = to (one.forth t.at u.at at (record { globals = globals; locals = t.locals }) cs q.0 q.1 e)
-      where
-      to : (e : Edge) × (b : ℕ) × IsIn e edges × (along commands e u.at (record { globals = globals; locals = t.locals }) cs ≡ Some (q.0, b))
-          × ThreadStands commands edges z q.1 b → LeadsAt zero globals (u ∷ us) cs (Some (moved_first ts q))
-      to (e, b, i, l, h) =
-          (e, walked_first us (q.0, b), i,
-           ap (option_map (walked_first us))
-           (subst (λ (ls : List ℤ). along commands e u.at (record { globals = globals; locals = ls }) cs ≡ Some (q.0, b)) same l),
-           record { globals = refl; seats = (refl, h, s) })
+      on : (o : Option (Values × Thread)) → step t.at (record { globals = globals; locals = t.locals }) cs ≡ o →
+          LeadsAt zero globals (u ∷ us) cs (option_map (moved_first ts) o)
+      on None e = tt
+      on (Some q) e = to (one.forth t.at u.at at (record { globals = globals; locals = t.locals }) cs q.0 q.1 e)
+        where
+          to : (e : Edge) × (b : ℕ) × IsIn e edges × (along commands e u.at (record { globals = globals; locals = t.locals }) cs ≡ Some (q.0, b))
+              × ThreadStands commands edges z q.1 b → LeadsAt zero globals (u ∷ us) cs (Some (moved_first ts q))
+          to (e, b, i, l, h) = (
+            e,
+            walked_first us (q.0, b),
+            i,
+            ap (option_map (walked_first us))
+                (subst (λ (ls : List ℤ). along commands e u.at (record { globals = globals; locals = ls }) cs ≡ Some (q.0, b)) same l),
+            record { globals = refl; seats = (refl, h, s) },
+          )
   leads_at (suc k) globals (t ∷ ts) (u ∷ us) cs (same, at, s) = on (step_at step k globals ts cs) (leads_at k globals ts us cs s)
     where
-    on : (o : Option (World Thread)) → LeadsAt k globals us cs o → LeadsAt (suc k) globals (u ∷ us) cs (option_map (behind t) o)
-    on None h = tt
-    on (Some w) (e, l, i, m, h) =
-        (e, behind u l, i, ap (option_map (behind u)) m, record { globals = h.globals; seats = (same, at, h.seats) })
+      on : (o : Option (World Thread)) → LeadsAt k globals us cs o → LeadsAt (suc k) globals (u ∷ us) cs (option_map (behind t) o)
+      on None h = tt
+      on (Some w) (e, l, i, m, h) =
+          (e, behind u l, i, ap (option_map (behind u)) m, record { globals = h.globals; seats = (same, at, h.seats) })
 
   comes_at : (k : ℕ) (globals : List ℤ) (ts : List (Seat Thread)) (us : List (Seat ℕ)) (cs : List ℤ) → SeatsStand commands edges z ts us →
       (e : Edge) → IsIn e edges → ComesAt k globals ts cs (step_at (along commands e) k globals us cs)
@@ -63,20 +66,20 @@ module _ (commands : List Command) (edges : List Edge) (z : ℕ) (one : StepsAre
   comes_at k globals [] (u ∷ us) cs s e i = absurd s
   comes_at zero globals (t ∷ ts) (u ∷ us) cs (same, at, s) e i = on (along commands e u.at (record { globals = globals; locals = u.locals }) cs) refl
     where
-    on : (o : Option (Values × ℕ)) → along commands e u.at (record { globals = globals; locals = u.locals }) cs ≡ o →
-        ComesAt zero globals (t ∷ ts) cs (option_map (walked_first us) o)
-    on None h = tt
-    on (Some q) h = to (one.back t.at u.at at (record { globals = globals; locals = t.locals }) cs e q.0 q.1 i
-        (subst (λ (ls : List ℤ). along commands e u.at (record { globals = globals; locals = ls }) cs ≡ Some q) (sym same) h))
-      where
-      to : (x : Thread) × (step t.at (record { globals = globals; locals = t.locals }) cs ≡ Some (q.0, x)) × ThreadStands commands edges z x q.1 →
-          ComesAt zero globals (t ∷ ts) cs (Some (walked_first us q))
-      to (x, m, h) = (moved_first ts (q.0, x), ap (option_map (moved_first ts)) m, record { globals = refl; seats = (refl, h, s) })
+      on : (o : Option (Values × ℕ)) → along commands e u.at (record { globals = globals; locals = u.locals }) cs ≡ o →
+          ComesAt zero globals (t ∷ ts) cs (option_map (walked_first us) o)
+      on None h = tt
+      on (Some q) h = to (one.back t.at u.at at (record { globals = globals; locals = t.locals }) cs e q.0 q.1 i
+          (subst (λ (ls : List ℤ). along commands e u.at (record { globals = globals; locals = ls }) cs ≡ Some q) (sym same) h))
+        where
+          to : (x : Thread) × (step t.at (record { globals = globals; locals = t.locals }) cs ≡ Some (q.0, x)) × ThreadStands commands edges z x q.1 →
+              ComesAt zero globals (t ∷ ts) cs (Some (walked_first us q))
+          to (x, m, h) = (moved_first ts (q.0, x), ap (option_map (moved_first ts)) m, record { globals = refl; seats = (refl, h, s) })
   comes_at (suc k) globals (t ∷ ts) (u ∷ us) cs (same, at, s) e i = on (step_at (along commands e) k globals us cs) (comes_at k globals ts us cs s e i)
     where
-    on : (o : Option (World ℕ)) → ComesAt k globals ts cs o → ComesAt (suc k) globals (t ∷ ts) cs (option_map (behind u) o)
-    on None h = tt
-    on (Some l) (w, m, h) = (behind t w, ap (option_map (behind t)) m, record { globals = h.globals; seats = (same, at, h.seats) })
+      on : (o : Option (World ℕ)) → ComesAt k globals ts cs o → ComesAt (suc k) globals (t ∷ ts) cs (option_map (behind u) o)
+      on None h = tt
+      on (Some l) (w, m, h) = (behind t w, ap (option_map (behind t)) m, record { globals = h.globals; seats = (same, at, h.seats) })
 
   -- the walk of steps
   abbrev Led : World ℕ → List (ℕ × List ℤ) → Option (World Thread) → Type 0
@@ -94,18 +97,23 @@ module _ (commands : List Command) (edges : List Edge) (z : ℕ) (one : StepsAre
   leads_all (s ∷ steps) w l h = on (step_at step s.0 w.globals w.seats s.1) (leads_at s.0 w.globals w.seats l.seats s.1 h.seats)
       (λ x m k. leads_all steps x m k)
     where
-    on : (o : Option (World Thread)) → LeadsAt s.0 w.globals l.seats s.1 o →
-        ((x : World Thread) (m : World ℕ) → WorldStands commands edges z x m → Led m steps (all_moved step steps x)) →
-        Led l (s ∷ steps) (option_and_then (all_moved step steps) o)
-    on None k rest = tt
-    on (Some x) (e, m, i, r, k) rest = to (all_moved step steps x) (rest x m k)
-      where
-      to : (o : Option (World Thread)) → Led m steps o → Led l (s ∷ steps) o
-      to None j = tt
-      to (Some y) (ms, n, p, t, q, j) =
-          (record { thread = s.0; choices = s.1; edge = e } ∷ ms, n, ap (λ (ss : List (ℕ × List ℤ)). s ∷ ss) p, (i, t),
-           ap (option_and_then (walked commands ms))
-           (subst (λ (g : List ℤ). step_at (along commands e) s.0 g l.seats s.1 ≡ Some m) h.globals r) ∙ q, j)
+      on : (o : Option (World Thread)) → LeadsAt s.0 w.globals l.seats s.1 o →
+          ((x : World Thread) (m : World ℕ) → WorldStands commands edges z x m → Led m steps (all_moved step steps x)) →
+          Led l (s ∷ steps) (option_and_then (all_moved step steps) o)
+      on None k rest = tt
+      on (Some x) (e, m, i, r, k) rest = to (all_moved step steps x) (rest x m k)
+        where
+          to : (o : Option (World Thread)) → Led m steps o → Led l (s ∷ steps) o
+          to None j = tt
+          to (Some y) (ms, n, p, t, q, j) = (
+            record { thread = s.0; choices = s.1; edge = e } ∷ ms,
+            n,
+            ap (λ (ss : List (ℕ × List ℤ)). s ∷ ss) p,
+            (i, t),
+            ap (option_and_then (walked commands ms))
+                (subst (λ (g : List ℤ). step_at (along commands e) s.0 g l.seats s.1 ≡ Some m) h.globals r) ∙ q,
+            j,
+          )
 
   comes_all : (ms : List Stride) (w : World Thread) (l : World ℕ) → WorldStands commands edges z w l → Takes edges ms → Come w ms (walked commands ms l)
   comes_all [] w l h t = (w, refl, h)
@@ -114,21 +122,24 @@ module _ (commands : List Command) (edges : List Edge) (z : ℕ) (one : StepsAre
       (comes_at s.thread l.globals w.seats l.seats s.choices h.seats s.edge t.0)
       (λ x m k. comes_all ms x m k t.1)
     where
-    on : (o : Option (World ℕ)) → ComesAt s.thread l.globals w.seats s.choices o →
-        ((x : World Thread) (m : World ℕ) → WorldStands commands edges z x m → Come x ms (walked commands ms m)) →
-        Come w (s ∷ ms) (option_and_then (walked commands ms) o)
-    on None k rest = tt
-    on (Some m) (x, r, k) rest = to (walked commands ms m) (rest x m k)
-      where
-      to : (o : Option (World ℕ)) → Come x ms o → Come w (s ∷ ms) o
-      to None j = tt
-      to (Some n) (y, q, j) =
-          (y, ap (option_and_then (all_moved step (steps_of ms)))
-           (subst (λ (g : List ℤ). step_at step s.thread g w.seats s.choices ≡ Some x) (sym h.globals) r) ∙ q, j)
+      on : (o : Option (World ℕ)) → ComesAt s.thread l.globals w.seats s.choices o →
+          ((x : World Thread) (m : World ℕ) → WorldStands commands edges z x m → Come x ms (walked commands ms m)) →
+          Come w (s ∷ ms) (option_and_then (walked commands ms) o)
+      on None k rest = tt
+      on (Some m) (x, r, k) rest = to (walked commands ms m) (rest x m k)
+        where
+          to : (o : Option (World ℕ)) → Come x ms o → Come w (s ∷ ms) o
+          to None j = tt
+          to (Some n) (y, q, j) = (
+            y,
+            ap (option_and_then (all_moved step (steps_of ms)))
+                (subst (λ (g : List ℤ). step_at step s.thread g w.seats s.choices ≡ Some x) (sym h.globals) r) ∙ q,
+            j,
+          )
 
   -- executions are walks, both ways
   pub executions_are_walks : ExecutionsAreWalks commands edges z
   executions_are_walks = record {
     forth = λ w l h steps x e. subst (λ (o : Option (World Thread)). Led l steps o) e (leads_all steps w l h);
-    back = λ w l h ms m t e. subst (λ (o : Option (World ℕ)). Come w ms o) e (comes_all ms w l h t)
+    back = λ w l h ms m t e. subst (λ (o : Option (World ℕ)). Come w ms o) e (comes_all ms w l h t);
   }

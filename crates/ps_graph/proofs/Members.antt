@@ -30,24 +30,24 @@ pub in_leaving : (a : ℕ) (e : Edge) (edges : List Edge) → IsIn e edges → e
 in_leaving a e [] h s = h
 in_leaving a e (d ∷ edges) (inl same) s = at (d.source == a) (eq-eqb d.source a (ap (λ (f : Edge). f.source) (sym same) ∙ s))
   where
-  at : (t : Bool) → t ≡ true → IsIn e (if t then d ∷ leaving a edges else leaving a edges)
-  at true h = inl same
-  at false h = let no_such : false ≡ true = h in cc
+    at : (t : Bool) → t ≡ true → IsIn e (if t then d ∷ leaving a edges else leaving a edges)
+    at true h = inl same
+    at false h = let no_such : false ≡ true = h in cc
 in_leaving a e (d ∷ edges) (inr h) s = at (d.source == a) (in_leaving a e edges h s)
   where
-  at : (t : Bool) → IsIn e (leaving a edges) → IsIn e (if t then d ∷ leaving a edges else leaving a edges)
-  at true g = inr g
-  at false g = g
+    at : (t : Bool) → IsIn e (leaving a edges) → IsIn e (if t then d ∷ leaving a edges else leaving a edges)
+    at true g = inr g
+    at false g = g
 
 pub of_leaving : (a : ℕ) (e : Edge) (edges : List Edge) → IsIn e (leaving a edges) → IsIn e edges × (e.source ≡ a)
 of_leaving a e [] h = absurd h
 of_leaving a e (d ∷ edges) h = at (d.source == a) refl h (of_leaving a e edges)
   where
-  at : (t : Bool) → (d.source == a) ≡ t → IsIn e (if t then d ∷ leaving a edges else leaving a edges) →
-      (IsIn e (leaving a edges) → IsIn e edges × (e.source ≡ a)) → IsIn e (d ∷ edges) × (e.source ≡ a)
-  at true t (inl same) rest = (inl same, ap (λ (f : Edge). f.source) same ∙ eqb-true d.source a t)
-  at true t (inr g) rest = (inr (rest g).0, (rest g).1)
-  at false t g rest = (inr (rest g).0, (rest g).1)
+    at : (t : Bool) → (d.source == a) ≡ t → IsIn e (if t then d ∷ leaving a edges else leaving a edges) →
+        (IsIn e (leaving a edges) → IsIn e edges × (e.source ≡ a)) → IsIn e (d ∷ edges) × (e.source ≡ a)
+    at true t (inl same) rest = (inl same, ap (λ (f : Edge). f.source) same ∙ eqb-true d.source a t)
+    at true t (inr g) rest = (inr (rest g).0, (rest g).1)
+    at false t g rest = (inr (rest g).0, (rest g).1)
 
 -- the paths that go on to one location
 pub in_going : (goal : ℕ) (p : List Act) (ps : List (List Act)) → IsIn p ps → IsIn (p, goal) (going_to goal ps)
@@ -69,8 +69,8 @@ edge_of commands a p (q ∷ ps) [] d h = absurd d
 edge_of commands a p (q ∷ ps) (e ∷ es) d (inl same) = (e, inl refl, subst (λ (r : List Act × ℕ). Draws commands a r.0 r.1 e) (sym same) d.0)
 edge_of commands a p (q ∷ ps) (e ∷ es) d (inr h) = at (edge_of commands a p ps es d.1 h)
   where
-  at : (f : Edge) × IsIn f es × Draws commands a p.0 p.1 f → (f : Edge) × IsIn f (e ∷ es) × Draws commands a p.0 p.1 f
-  at (f, g, w) = (f, inr g, w)
+    at : (f : Edge) × IsIn f es × Draws commands a p.0 p.1 f → (f : Edge) × IsIn f (e ∷ es) × Draws commands a p.0 p.1 f
+    at (f, g, w) = (f, inr g, w)
 
 pub path_of : (commands : List Command) (a : ℕ) (e : Edge) (ps : List (List Act × ℕ)) (es : List Edge) →
     Drawn commands a ps es → IsIn e es → (p : List Act × ℕ) × IsIn p ps × Draws commands a p.0 p.1 e
@@ -80,16 +80,16 @@ path_of commands a e (q ∷ ps) [] d h = absurd h
 path_of commands a e (q ∷ ps) (f ∷ es) d (inl same) = (q, inl refl, subst (λ (r : Edge). Draws commands a q.0 q.1 r) (sym same) d.0)
 path_of commands a e (q ∷ ps) (f ∷ es) d (inr h) = at (path_of commands a e ps es d.1 h)
   where
-  at : (p : List Act × ℕ) × IsIn p ps × Draws commands a p.0 p.1 e → (p : List Act × ℕ) × IsIn p (q ∷ ps) × Draws commands a p.0 p.1 e
-  at (p, g, w) = (p, inr g, w)
+    at : (p : List Act × ℕ) × IsIn p ps × Draws commands a p.0 p.1 e → (p : List Act × ℕ) × IsIn p (q ∷ ps) × Draws commands a p.0 p.1 e
+    at (p, g, w) = (p, inr g, w)
 
 pub found_path : (ps : List (List Act)) (v : Values) (cs : List ℤ) (o : Outcome) → Found ps v cs o → (p : List Act) × IsIn p ps × (gives p v cs ≡ o)
 found_path [] v cs o f = absurd f
 found_path (p ∷ ps) v cs o (inl e) = (p, inl refl, e)
 found_path (p ∷ ps) v cs o (inr f) = at (found_path ps v cs o f)
   where
-  at : (q : List Act) × IsIn q ps × (gives q v cs ≡ o) → (q : List Act) × IsIn q (p ∷ ps) × (gives q v cs ≡ o)
-  at (q, g, e) = (q, inr g, e)
+    at : (q : List Act) × IsIn q ps × (gives q v cs ≡ o) → (q : List Act) × IsIn q (p ∷ ps) × (gives q v cs ≡ o)
+    at (q, g, e) = (q, inr g, e)
 
 pub sound_path : (ps : List (List Act)) (v : Values) (cs : List ℤ) (o : Outcome) (p : List Act) → Sound ps v cs o → IsIn p ps →
     (gives p v cs ≡ Stops) ⊎ (gives p v cs ≡ o)

@@ -45,35 +45,35 @@ most_is a b = same_test _ _
 both_is : (a b : ℤ) → (int_le a b && int_le b a) ≡ int_eq a b
 both_is a b = same_test _ _ (both_eq (int_le a b) (int_le b a) refl refl)
     (λ h. let same : a ≡ b = eq_yes a b h in
-        let l : int_le a b ≡ true = yes_le a b (omega (arith, ints, same)) in
-        let r : int_le b a ≡ true = yes_le b a (omega (arith, ints, same)) in
-        ap₂ (λ p q. p && q) l r)
+    let l : int_le a b ≡ true = yes_le a b (omega (arith, ints, same)) in
+    let r : int_le b a ≡ true = yes_le b a (omega (arith, ints, same)) in
+    ap₂ (λ p q. p && q) l r)
   where
-  both_eq : (p q : Bool) → int_le a b ≡ p → int_le b a ≡ q → (p && q) ≡ true → int_eq a b ≡ true
-  both_eq true true l r h =
-      let m : a ≤ℤ b = le_yes a b l in
-      let n : b ≤ℤ a = le_yes b a r in
-      yes_eq a b (omega (arith, ints, m, n))
-  both_eq true false l r h = cc
-  both_eq false q l r h = cc
+    both_eq : (p q : Bool) → int_le a b ≡ p → int_le b a ≡ q → (p && q) ≡ true → int_eq a b ≡ true
+    both_eq true true l r h =
+        let m : a ≤ℤ b = le_yes a b l in
+        let n : b ≤ℤ a = le_yes b a r in
+        yes_eq a b (omega (arith, ints, m, n))
+    both_eq true false l r h = cc
+    both_eq false q l r h = cc
 
 not_less : (a b : ℤ) → int_le b a ≡ not (int_lt a b)
 not_less a b = cases (int_lt a b) refl
   where
-  cases : (p : Bool) → int_lt a b ≡ p → int_le b a ≡ not p
-  cases true h = none (int_le b a) refl
-    where
-    none : (q : Bool) → int_le b a ≡ q → q ≡ false
-    none true l =
-        let m : a <ℤ b = lt_yes a b h in
-        let n : b ≤ℤ a = le_yes b a l in
-        let no_such : ⊥ = omega (arith, ints, m, n) in absurd no_such
-    none false l = refl
-  cases false h = some (int_le b a) refl
-    where
-    some : (q : Bool) → int_le b a ≡ q → q ≡ true
-    some true l = refl
-    some false l = grind (arith, ints)
+    cases : (p : Bool) → int_lt a b ≡ p → int_le b a ≡ not p
+    cases true h = none (int_le b a) refl
+      where
+        none : (q : Bool) → int_le b a ≡ q → q ≡ false
+        none true l =
+            let m : a <ℤ b = lt_yes a b h in
+            let n : b ≤ℤ a = le_yes b a l in
+            let no_such : ⊥ = omega (arith, ints, m, n) in absurd no_such
+        none false l = refl
+    cases false h = some (int_le b a) refl
+      where
+        some : (q : Bool) → int_le b a ≡ q → q ≡ true
+        some true l = refl
+        some false l = grind (arith, ints)
 
 less_eq_not : (a b : ℤ) → int_lt b a ≡ not (int_le a b)
 less_eq_not a b = sym (not_not (int_lt b a)) ∙ ap not (sym (not_less b a))
@@ -93,10 +93,10 @@ apart a b =
     ap₂ (λ p q. p || q) (less_eq_not b a) (less_eq_not a b) ∙ sym (not_and (int_le b a) (int_le a b))
     ∙ ap not (both_is b a) ∙ ap not (swapped (int_eq b a) (int_eq a b) refl refl)
   where
-  swapped : (p q : Bool) → int_eq b a ≡ p → int_eq a b ≡ q → int_eq b a ≡ int_eq a b
-  swapped p q f g = same_test (int_eq b a) (int_eq a b)
-      (λ h. let same : b ≡ a = eq_yes b a h in yes_eq a b (sym same))
-      (λ h. let same : a ≡ b = eq_yes a b h in yes_eq b a (sym same))
+    swapped : (p q : Bool) → int_eq b a ≡ p → int_eq a b ≡ q → int_eq b a ≡ int_eq a b
+    swapped p q f g = same_test (int_eq b a) (int_eq a b)
+        (λ h. let same : b ≡ a = eq_yes b a h in yes_eq a b (sym same))
+        (λ h. let same : a ≡ b = eq_yes a b h in yes_eq b a (sym same))
 
 -- the alternatives of a relation hold where the relation is true
 pub any_hold-of_relation : (values : Var → ℤ) (s : Sign) (a b : Sum) →
@@ -111,7 +111,7 @@ any_hold-of_relation values Equal a b =
     ∙ both_is (sum_value values a) (sum_value values b)
 any_hold-of_relation values NotEqual a b =
     ap₂ (λ p q. p || q) (and_true _ ∙ less_is (sum_value values a) (sum_value values b))
-        (or_false _ ∙ and_true _ ∙ less_is (sum_value values b) (sum_value values a))
+    (or_false _ ∙ and_true _ ∙ less_is (sum_value values b) (sum_value values a))
     ∙ apart (sum_value values a) (sum_value values b)
 
 pub all_hold-append : (values : Var → ℤ) (xs ys : List Bound) → all_hold values (xs ++ ys) ≡ (all_hold values xs && all_hold values ys)
@@ -150,28 +150,33 @@ mutual
   any_hold-true values (Not' _ (more_of-Cond c end_of-Cond)) = any_hold-false values c
   any_hold-true values (And' _ members) = each_true values members
   any_hold-true values (Or' _ members) = any_true values members
+
   pub any_hold-false : (values : Var → ℤ) (c : Cond) → any_hold values (alternatives false c) ≡ not (truth values c)
   any_hold-false values (Rel r) =
       any_hold-of_relation values (opposite r.sign) r.left r.right ∙ compares-opposite r.sign (sum_value values r.left) (sum_value values r.right)
   any_hold-false values (Not' _ (more_of-Cond c end_of-Cond)) = any_hold-true values c ∙ sym (not_not (truth values c))
   any_hold-false values (And' _ members) = any_false values members
   any_hold-false values (Or' _ members) = each_false values members
+
   each_true : (values : Var → ℤ) {n : _} (row : Row_of-Cond n) → any_hold values (one_of_each true row) ≡ all_true values row
   each_true values end_of-Cond = refl
   each_true values (more_of-Cond c rest) =
       any_hold-product values (alternatives true c) (one_of_each true rest)
       ∙ ap₂ (λ p q. p && q) (any_hold-true values c) (each_true values rest)
+
   any_true : (values : Var → ℤ) {n : _} (row : Row_of-Cond n) → any_hold values (one_of_any true row) ≡ some_true values row
   any_true values end_of-Cond = refl
   any_true values (more_of-Cond c rest) =
       any_hold-append values (alternatives true c) (one_of_any true rest)
       ∙ ap₂ (λ p q. p || q) (any_hold-true values c) (any_true values rest)
+
   each_false : (values : Var → ℤ) {n : _} (row : Row_of-Cond n) → any_hold values (one_of_each false row) ≡ not (some_true values row)
   each_false values end_of-Cond = refl
   each_false values (more_of-Cond c rest) =
       any_hold-product values (alternatives false c) (one_of_each false rest)
       ∙ ap₂ (λ p q. p && q) (any_hold-false values c) (each_false values rest)
       ∙ sym (not_or (truth values c) (some_true values rest))
+
   any_false : (values : Var → ℤ) {n : _} (row : Row_of-Cond n) → any_hold values (one_of_any false row) ≡ not (all_true values row)
   any_false values end_of-Cond = refl
   any_false values (more_of-Cond c rest) =

@@ -73,9 +73,11 @@ abbrev mutual
   alternatives false (And' _ members) = one_of_any false members
   alternatives true (Or' _ members) = one_of_any true members
   alternatives false (Or' _ members) = one_of_each false members
+
   pub one_of_each : Bool → {n : _} → Row_of-Cond n → List (List Bound)
   one_of_each b end_of-Cond = [] ∷ []
   one_of_each b (more_of-Cond c rest) = product (alternatives b c) (one_of_each b rest)
+
   pub one_of_any : Bool → {n : _} → Row_of-Cond n → List (List Bound)
   one_of_any b end_of-Cond = []
   one_of_any b (more_of-Cond c rest) = alternatives b c ++ one_of_any b rest

@@ -162,7 +162,7 @@ InitialStates = (is_initial counter (state (pos 0) ([] ∷ [])) ≡ true)
 abbrev pub InitialLocals : Type 0
 InitialLocals =
     let p : Program = record (of_body ((116 ∷ []) ∷ []) []) {
-      inits = record { left = plus t (pos 0); sign = GreaterEq; right = number (pos 0) } ∷ []
+      inits = record { left = plus t (pos 0); sign = GreaterEq; right = number (pos 0) } ∷ [];
     } in
     (is_initial p (state (pos 0) ((pos 0 ∷ []) ∷ (pos 4 ∷ []) ∷ [])) ≡ true)
     × (is_initial p (state (pos 0) ((pos 0 ∷ []) ∷ (negsuc 0 ∷ []) ∷ [])) ≡ false)

@@ -11,7 +11,7 @@ use Rattle.ps_syntax.specs.declared.program.Program.{Program}
 abbrev pub started : Program → State → World Thread
 started p s = record {
   globals = s.globals;
-  seats = map (λ (ls : List ℤ). let t : Seat Thread = record { locals = ls; at = Runs p.body } in t) s.locals
+  seats = map (λ (ls : List ℤ). let t : Seat Thread = record { locals = ls; at = Runs p.body } in t) s.locals;
 }
 
 -- the world after an execution from a state, by a list of pairs of a thread and its choices, if it exists

@@ -58,6 +58,7 @@ abbrev mutual
       (b : ℕ) × Drawn commands a (going_to b (ways true t) ++ going_to z (ways false t)) (leaving a edges)
       × BlockStands commands edges block b a
   Stands commands edges k a z = Drawn commands a (going_to z (paths k)) (leaving a edges)
+
   pub BlockStands : List Command → List Edge → {n : _} → Row_of-Stmt n → ℕ → ℕ → Type 0
   BlockStands commands edges end_of-Stmt a z = a ≡ z
   BlockStands commands edges (more_of-Stmt _ k rest) a z =

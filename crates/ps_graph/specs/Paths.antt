@@ -73,6 +73,7 @@ abbrev mutual
   paths (Atomic' _ block) = paths_all block
   paths (If' t _ held _ failed) = followed (ways true t) (paths_all held) ++ followed (ways false t) (paths_all failed)
   paths (While' _ _ _) = []
+
   pub paths_all : {n : _} → Row_of-Stmt n → List (List Act)
   paths_all end_of-Stmt = [] ∷ []
   paths_all (more_of-Stmt _ k rest) = followed (paths k) (paths_all rest)

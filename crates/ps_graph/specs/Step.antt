@@ -46,6 +46,7 @@ abbrev mutual
   within (Atomic' _ block) v cs = within_all block v cs
   within (If' t _ held _ failed) v cs = branch (decided t v cs) (within_all held v) (within_all failed v)
   within (While' _ _ _) v cs = Stops
+
   pub within_all : {n : _} → Row_of-Stmt n → Values → List ℤ → Outcome
   within_all end_of-Stmt v cs = Goes v cs
   within_all (more_of-Stmt _ k rest) v cs = then_do (within k v cs) (within_all rest)

@@ -13,21 +13,18 @@ ghost use Rattle.ps_term.specs.declared.var.Var.{Var};
 pub fn alternatives_hold()
     ensures holds { (cond : Cond) (values : Var → ℤ) → any_hold values (alternatives true cond) ≡ truth values cond }
     ensures fails { (cond : Cond) (values : Var → ℤ) → any_hold values (alternatives false cond) ≡ not (truth values cond) }
-{
-}
+{}
 
 /// Where a thread stands at a location, its steps are the edges that leave it, both ways; the text ends at
 /// location `z`, and no edge leaves it or the error.
 pub fn steps_are_edges()
     ensures { (commands : List Command) (edges : List Edge) (z : ℕ) → leaving z edges ≡ [] → leaving 1 edges ≡ []
         → StepsAreEdges commands edges z }
-{
-}
+{}
 
 /// Where threads stand at locations, their executions are the walks over the edges, both ways, for any
 /// number of threads.
 pub fn executions_are_walks()
     ensures { (commands : List Command) (edges : List Edge) (z : ℕ) → leaving z edges ≡ [] → leaving 1 edges ≡ []
         → ExecutionsAreWalks commands edges z }
-{
-}
+{}

@@ -4,23 +4,20 @@ ghost use Rattle.ps_graph.specs.Examples.{CounterPasses, EndedThreadsStay, False
 /// One thread adds 1 and passes its assertion.
 pub fn counter_passes()
     ensures { CounterPasses }
-{
-}
+{}
 
 /// Of two threads that both read and write, one fails at the last step and none before.
 pub fn race_fails()
     ensures fails { RaceFails }
     ensures alone { RaceAlonePasses }
     ensures once { RaceFailsOnce }
-{
-}
+{}
 
 /// A loop takes a step for each test.
 pub fn loop_fails_at_six()
     ensures six { LoopFailsAtSix }
     ensures five { LoopPassesAtFive }
-{
-}
+{}
 
 /// An atomic block is one step, which uses up exactly its choices.
 pub fn guess_takes_its_choices()
@@ -29,31 +26,26 @@ pub fn guess_takes_its_choices()
     ensures few { TooFewChoices }
     ensures many { TooManyChoices }
     ensures none { NoSuchChoice }
-{
-}
+{}
 
 /// Where there is no step.
 pub fn no_step()
     ensures assume { FalseAssumeStops }
     ensures ended { EndedThreadsStay }
-{
-}
+{}
 
 /// An `if` without `else` goes on where its test is false.
 pub fn if_without_else()
     ensures { IfWithoutElse }
-{
-}
+{}
 
 /// Each thread has locals of its own.
 pub fn locals_are_own()
     ensures { LocalsAreOwn }
-{
-}
+{}
 
 /// Which states are initial.
 pub fn initial_states()
     ensures globals { InitialStates }
     ensures locals { InitialLocals }
-{
-}
+{}
