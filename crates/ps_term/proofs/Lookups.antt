@@ -8,6 +8,9 @@ use Rattle.std.proofs.lemmas.List.Elements.{recursion_from_All, All-from_recursi
 use Rattle.ps_term.specs.declared.var.Var.{Var}
 use Rattle.ps_term.specs.Var.{var_lt, var_eq}
 use Rattle.ps_term.specs.Front.{first_variable, front_coefficient}
+use Rattle.ps_term.specs.Bound.{is_within, up_to}
+use Rattle.ps_term.specs.declared.bound.Bound.{Bound}
+use Rattle.ps_term.specs.declared.bound.Bound.TheVariants.{Before, UpTo, Nothing}
 use Rattle.ps_term.specs.Lookup.{is_up_to, IsAfter, IsBefore}
 use Rattle.ps_term.specs.Pairs.{IsBelow, IsCanonical, coefficient}
 use Rattle.ps_term.proofs.Variables.{var_eq-true, var_gt-var_eq, var_lt_or_gt, var_lt_trans}
@@ -30,9 +33,6 @@ parted t falls ps c i j d le h up = by_order (cases_eq i j)
     by_order (inl e) = subst (λ (k : ℕ). t (get_or ps k d).0 ≡ true) (sym e) up
     by_order (inr n) = falls (get_or ps i d).0 (get_or ps j d).0 (rises ps i j d c (omega arith) h) up
 
-pub parted-before : (x : Var) (ps : List (Var × ℤ)) → IsCanonical ps → IsPartitionedBy (λ p. var_lt p.0 x) ps
-parted-before x ps c = parted (λ y. var_lt y x) (λ y z lt up. var_lt_trans y z x lt up) ps c
-
 is_up_to-falls : (last : Option Var) (x y : Var) → var_lt x y ≡ true → is_up_to last y ≡ true → is_up_to last x ≡ true
 is_up_to-falls None x y lt up = absurd (false≢true up)
 is_up_to-falls (Some z) x y lt up = by_test (var_lt z x) refl
@@ -41,8 +41,25 @@ is_up_to-falls (Some z) x y lt up = by_test (var_lt z x) refl
     by_test false e = refl
     by_test true e = absurd (false≢true (sym (ap not (var_lt_trans z x y e lt)) ∙ up))
 
-pub parted-up_to : (last : Option Var) (ps : List (Var × ℤ)) → IsCanonical ps → IsPartitionedBy (λ p. is_up_to last p.0) ps
-parted-up_to last ps c = parted (is_up_to last) (is_up_to-falls last) ps c
+-- a bound is passed by a first part of the pairs
+pub parted-within : (bound : Bound) (ps : List (Var × ℤ)) → IsCanonical ps → IsPartitionedBy (λ p. is_within bound p.0) ps
+parted-within (Before end) ps c = parted (λ y. var_lt y end) (λ y z lt up. var_lt_trans y z end lt up) ps c
+parted-within (UpTo end) ps c = parted (is_up_to (Some end)) (is_up_to-falls (Some end)) ps c
+parted-within Nothing ps c = parted (λ _. false) (λ y z lt up. absurd (false≢true up)) ps c
+
+beyond : (t : Var × ℤ → Bool) (ps : List (Var × ℤ)) (i k : ℕ) (d : Var × ℤ) → IsPartitionedBy t ps → i ≤ k → k < length ps → t (get_or ps i d) ≡ false → (u : Bool) → t (get_or ps k d) ≡ u → t (get_or ps k d) ≡ false
+beyond t ps i k d part le lt back false e = e
+beyond t ps i k d part le lt back true e = absurd (true≢false (sym (part i k d le lt e) ∙ back))
+
+-- a place parts the pairs where the pair before it passes the test and the pair at it doesn't
+pub parts-here : (t : Var × ℤ → Bool) (ps : List (Var × ℤ)) (i : ℕ) → IsPartitionedBy t ps → i ≤ length ps → ((d : Var × ℤ) → 0 < i → t (get_or ps (i - 1) d) ≡ true) → ((d : Var × ℤ) → i < length ps → t (get_or ps i d) ≡ false) → IsPartitionPoint (λ p. t p ≡ true) (λ p. t p ≡ false) ps i
+parts-here t ps i part h front back =
+    (λ k d z lt. part k (i - 1) d (omega arith) (omega arith) (front d (omega arith)), λ k d le lt. (let here : t (get_or ps i d) ≡ false = back d (omega arith) in beyond t ps i k d part le lt here (t (get_or ps k d)) refl))
+
+-- the place of the bound up to the last variable is that of the variables up to it
+pub point-up_to : (last : Option Var) (ps : List (Var × ℤ)) (i : ℕ) → IsPartitionPoint (λ p. is_within (up_to last) p.0 ≡ true) (λ p. is_within (up_to last) p.0 ≡ false) ps i → IsPartitionPoint (λ p. is_up_to last p.0 ≡ true) (λ p. is_up_to last p.0 ≡ false) ps i
+point-up_to None ps i w = w
+point-up_to (Some y) ps i w = w
 
 -- ---- the two parts
 front_part : (P : Var × ℤ → Type 0) (ps : List (Var × ℤ)) (i : ℕ) → AllWithin P ps 0 i → AllByRecursion P (take i ps)

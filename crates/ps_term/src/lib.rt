@@ -1,11 +1,20 @@
 //! Linear terms over whole numbers, and the rows `term <= 0` that are made of them.
 #![tactic(auto)]
 
+mod bound;
 mod front;
 pub mod laws;
 mod lookup;
+pub mod negation;
 pub mod pairs;
+mod place;
 pub mod row;
+pub mod substitution;
+pub mod stop;
 pub mod sums;
 pub mod term;
+#[cfg(test)]
+mod tests;
+pub mod tightening;
 pub mod var;
+pub mod whole;

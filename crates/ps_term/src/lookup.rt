@@ -1,47 +1,58 @@
-// Look-ups in sorted pairs, each by a binary search.
-ghost use Rattle.std.specs.Prelude.{◌≡◌, ◌≢◌, pos, IfSome, IsTrue};
+// Look-ups in sorted pairs, each by a search for a place.
+ghost use Rattle.std.specs.Prelude.{◌≡◌, ◌≢◌, pos, Option, Some, IfSome};
 ghost use Rattle.ps_term.specs.declared.var.Var.{Var};
-ghost use Rattle.ps_term.specs.Lookup.{is_up_to, IsAfter, IsBefore};
+ghost use Rattle.ps_term.specs.Bound.{up_to};
+ghost use Rattle.ps_term.specs.Lookup.{IsAfter, IsBefore};
 ghost use Rattle.ps_term.specs.Pairs.{coefficient, IsCanonical};
-ghost use Rattle.ps_term.specs.Var.{var_lt};
 
+use crate::bound::Bound;
 use crate::front::{first_variable, in_front, tail};
-use crate::var::{Var, is_before};
+use crate::place::place_of;
+use crate::stop::Stop;
+use crate::var::Var;
 
 // The variable's coefficient, which is 0 where it doesn't stand.
 pub(crate) fn coefficient_of(pairs: &[(Var, i128)], variable: Var) -> i128
     requires { IsCanonical pairs.now }
     ensures { result ≡ coefficient variable pairs.now }
 {
-    let place = pairs.partition_point(
-        |pair: &(Var, i128)| -> bool
-            ensures { result ≡ var_lt pair.now.0 variable }
-        { is_before(pair.0, variable) },
-    );
+    let place = place_of(pairs, Bound::Before(variable), 0);
     in_front(variable, tail(pairs, place))
 }
 
 // The first variable after the last one, or the first of all where there is no last one.
-pub(crate) fn next_variable(pairs: &[(Var, i128)], last: Option<Var>) -> Option<Var>
+pub(crate) fn next_variable(pairs: &[(Var, i128)], last: Option<Var>, near: usize) -> Option<Var>
     requires { IsCanonical pairs.now }
     ensures skipped { (x : Var) → IsAfter last x → IsBefore x result
         → coefficient x pairs.now ≡ pos 0 }
     ensures stands { IfSome result (λ x. IsAfter last x × (coefficient x pairs.now ≢ pos 0)) }
 {
-    let place = pairs.partition_point(
-        |pair: &(Var, i128)| -> bool
-            ensures { result ≡ is_up_to last pair.now.0 }
-        { is_up_to(last, pair.0) },
-    );
+    let place = place_of(pairs, up_to(last), near);
     first_variable(tail(pairs, place))
 }
 
-// Whether the variable isn't after the last one.
-fn is_up_to(last: Option<Var>, variable: Var) -> bool
-    ensures { result ≡ is_up_to last variable }
+// What a walk over variables finds at this one, and the first one after it.
+pub(crate) fn stop_at(pairs: &[(Var, i128)], variable: Var, near: usize) -> Stop
+    requires { IsCanonical pairs.now }
+    ensures coefficient { result.coefficient ≡ coefficient variable pairs.now }
+    ensures skipped { (x : Var) → IsAfter (Some variable) x → IsBefore x result.next
+        → coefficient x pairs.now ≡ pos 0 }
+    ensures stands { IfSome result.next (λ x. IsAfter (Some variable) x × (coefficient x pairs.now ≢ pos 0)) }
+{
+    let place = place_of(pairs, Bound::Before(variable), near);
+    Stop {
+        coefficient: in_front(variable, tail(pairs, place)),
+        next: next_variable(pairs, Some(variable), place),
+        place,
+    }
+}
+
+// The bound that passes the variables up to the last one, if there is one.
+fn up_to(last: Option<Var>) -> Bound
+    ensures { result ≡ up_to last }
 {
     match last {
-        None => false,
-        Some(bound) => !is_before(bound, variable),
+        None => Bound::Nothing,
+        Some(end) => Bound::UpTo(end),
     }
 }

@@ -1,10 +1,11 @@
 //! The pairs of a term: each variable once, with its coefficient.
-ghost use Rattle.std.specs.Prelude.{◌≡◌, ◌≢◌, pos, IfOk, IfSome};
+ghost use Rattle.std.specs.Prelude.{◌≡◌, ◌≢◌, pos, Some, IfOk, IfSome};
 ghost use Rattle.ps_term.specs.declared.var.Var.{Var};
 ghost use Rattle.ps_term.specs.Lookup.{IsAfter, IsBefore};
 ghost use Rattle.ps_term.specs.Pairs.{coefficient, IsCanonical};
 
-use crate::lookup::{coefficient_of, next_variable};
+use crate::lookup::{coefficient_of, next_variable, stop_at};
+use crate::stop::Stop;
 use crate::var::Var;
 use std::alloc::{AllocError, Global};
 use std::marker::Model;
@@ -45,6 +46,7 @@ impl Pairs {
         self.list
     }
 
+    /// The pairs in the order of the variables.
     pub fn as_slice(&self) -> &[(Var, i128)]
         ensures list { result.now ≡ self.now }
         ensures canonical { IsCanonical result.now }
@@ -66,7 +68,19 @@ impl Pairs {
         ensures stands { IfSome result
             (λ x. IsAfter last x × (coefficient x self.now ≢ pos 0)) }
     {
-        next_variable(self.list.as_slice(), last)
+        next_variable(self.list.as_slice(), last, 0)
+    }
+
+    /// The variable's coefficient, and the first variable after it. It takes constant time where the variable's place is
+    /// `near` or one more, as the `place` of a stop before often is, and else the time of a binary search.
+    pub fn stop_at(&self, variable: Var, near: usize) -> Stop
+        ensures coefficient { result.coefficient ≡ coefficient variable self.now }
+        ensures skipped { (x : Var) → IsAfter (Some variable) x → IsBefore x result.next
+            → coefficient x self.now ≡ pos 0 }
+        ensures stands { IfSome result.next
+            (λ x. IsAfter (Some variable) x × (coefficient x self.now ≢ pos 0)) }
+    {
+        stop_at(self.list.as_slice(), variable, near)
     }
 
     /// A copy, in time and memory of the list's length.

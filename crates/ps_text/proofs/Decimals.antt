@@ -117,13 +117,13 @@ signed_decimal_plain (negsuc n) fits = let lt : n < 2 ^ 127 = search rules in (r
 run_of : (f : List ℕ) (n : ℕ) → IsDecimal f n → is_run f ≡ true
 run_of f n d = run_from f d.nonempty (are_digits-from f d.digits)
 
-decimal_counts : (f : List ℕ) (n : ℕ) → IsDecimal f n → counts_as_decimal f ≡ true
+pub decimal_counts : (f : List ℕ) (n : ℕ) → IsDecimal f n → counts_as_decimal f ≡ true
 decimal_counts f n d =
     let first = first_is_digit f n d in
     let other : eqb (get_or f 0 0) 45 ≡ false = ne_eqb _ _ (λ q. omega (arith, first, q)) in
     ap is_run (cond-false _ _ _ other) ∙ run_of f n d
 
-signed_counts : (f : List ℕ) (z : ℤ) → IsSignedDecimal f z → counts_as_decimal f ≡ true
+pub signed_counts : (f : List ℕ) (z : ℤ) → IsSignedDecimal f z → counts_as_decimal f ≡ true
 signed_counts f (pos n) d = decimal_counts f n d
 signed_counts f (negsuc n) d = ap is_run (cond-true _ _ _ (eq-eqb _ _ d.0)) ∙ run_of (drop 1 f) (n + 1) d.1
 

@@ -3,25 +3,27 @@
 
 
 mod decimal;
+mod form;
 mod form_end;
 mod form_fault;
 mod form_name;
 mod leaf;
+mod numbers;
 mod parts;
 mod place;
 mod printing;
-mod readable;
 mod reader;
 mod until;
 
 pub use decimal::{counts_as_decimal, read_i128, read_u128, read_u32};
+pub use form::{Form, times, while_lines};
 pub use form_end::FormEnd;
 pub use form_fault::FormFault;
 pub use form_name::FormName;
 pub use leaf::{Leaf, list, take_leaf};
+pub use numbers::{Integer, Natural, Natural32};
 pub use parts::cut;
 pub use place::Place;
 pub use printing::{put_digits, put_end, put_field, put_header, put_integer, put_natural, put_only, put_signed_digits, put_word};
-pub use readable::{Readable, times, while_lines};
 pub use reader::Reader;
 pub use until::Until;

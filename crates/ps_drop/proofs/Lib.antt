@@ -1,0 +1,4 @@
+pub mod Linked
+pub mod Members
+pub mod Search
+pub mod Siblings

@@ -1,0 +1,6 @@
+use Rattle.std.proofs.Common.{drop}
+use Rattle.ps_farkas.proofs.Weighing.{Weighed}
+use Rattle.ps_farkas.proofs.weigh.constant_total.Given as goal
+
+abbrev pub invariant-loop-i : goal.invariant-loop-i
+invariant-loop-i l = Weighed (λ t. t.constant) l.rows l.lambda l.sum (drop l.i l.rows) (drop l.i l.lambda)

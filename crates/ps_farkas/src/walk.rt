@@ -1,0 +1,28 @@
+// The walk over the variables of rows in ascending order, which takes no memory.
+ghost use Rattle.std.specs.Prelude.{◌≡◌, None};
+ghost use Rattle.ps_farkas.specs.Walk.{IsNext, lesser_of};
+
+use ps_term::row::Row;
+use ps_term::var::{Var, is_before};
+
+// The least variable of the rows.
+pub(crate) fn first_variable(rows: &[Row]) -> Option<Var>
+    ensures { IsNext None rows.now result }
+{
+    let mut first = None;
+    for row in rows {
+        first = lesser(first, row.term.pairs.next_after(None));
+    }
+    first
+}
+
+// The lesser of two variables, where they are there.
+pub(crate) fn lesser(a: Option<Var>, b: Option<Var>) -> Option<Var>
+    ensures { result ≡ lesser_of a b }
+{
+    match (a, b) {
+        (None, _) => b,
+        (_, None) => a,
+        (Some(x), Some(y)) => Some(if is_before(y, x) { y } else { x }),
+    }
+}

@@ -1,0 +1,7 @@
+pub mod Members
+pub mod CoverSteps
+pub mod Critical
+pub mod Ascending
+pub mod Nodes
+pub mod Branching
+pub mod Whole

@@ -1,0 +1,4 @@
+pub mod Covers
+pub mod Hitting
+pub mod Answer
+pub mod Searching

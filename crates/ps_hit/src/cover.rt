@@ -1,0 +1,139 @@
+//! How the numbers chosen so far meet a set.
+ghost use Rattle.std.specs.Prelude.{◌≡◌, ◌==◌, ◌⊎◌, ◌≢◌, ◌↔◌, ◌<◌, ◌≤◌, IfOk, IsTrue, All, length, IfSome, IfNone};
+ghost use Rattle.std.specs.List.{HoldsAt, list_any};
+ghost use Rattle.ps_hit.specs.Hitting.{numbers_of};
+ghost use Rattle.ps_hit.specs.Covers.{cover_with, covers_with, HasOwn};
+
+use std::alloc::{AllocError, Global};
+
+/// Which of the numbers chosen so far a set has.
+#[derive(Clone, Copy, Debug, PartialEq, Eq, Hash)]
+pub enum Cover {
+    /// None of them.
+    Unmet,
+    /// This one alone.
+    Once(u32),
+    /// At least two.
+    Again,
+}
+
+fn is_unmet(cover: Cover) -> bool
+    ensures { IsTrue result ↔ (cover ≡ Cover.Unmet) }
+{
+    match cover {
+        Cover::Unmet => true,
+        Cover::Once(_) => false,
+        Cover::Again => false,
+    }
+}
+
+fn is_once(cover: Cover, number: u32) -> bool
+    ensures { IsTrue result ↔ (cover ≡ Cover.Once number) }
+{
+    match cover {
+        Cover::Unmet => false,
+        Cover::Once(only) => only == number,
+        Cover::Again => false,
+    }
+}
+
+/// The cover once another number is chosen too, which the set has or not.
+fn with(cover: Cover, number: u32, has: bool) -> Cover
+    ensures { result ≡ cover_with cover number has }
+{
+    if !has {
+        return cover;
+    }
+    match cover {
+        Cover::Unmet => Cover::Once(number),
+        Cover::Once(_) => Cover::Again,
+        Cover::Again => Cover::Again,
+    }
+}
+
+/// The covers of the sets before any number is chosen.
+pub fn none_chosen(alloc: Global, sets: &[Vec<u32>]) -> Result<Vec<Cover>, AllocError>
+    ensures length { IfOk result (λ covers. length covers.items ≡ length sets.now) }
+    ensures unmet { IfOk result (λ covers. All (λ cover. cover ≡ Cover.Unmet) covers.items) }
+{
+    let mut covers = Vec::with_capacity(alloc, sets.len())?;
+    while covers.len() < sets.len() {
+        covers.push(Cover::Unmet)?;
+    }
+    Ok(covers)
+}
+
+/// The covers of the sets once another number is chosen too.
+pub fn chosen_too(
+    alloc: Global,
+    sets: &[Vec<u32>],
+    covers: &[Cover],
+    number: u32,
+) -> Result<Vec<Cover>, AllocError>
+    requires { length covers.now ≡ length sets.now }
+    ensures { IfOk result (λ after. after.items ≡ covers_with number (numbers_of sets.now) covers.now) }
+{
+    let mut after = Vec::with_capacity(alloc, sets.len())?;
+    for (at, set) in sets.iter().enumerate() {
+        after.push(with(covers[at], number, has(set.as_slice(), number)))?;
+    }
+    Ok(after)
+}
+
+fn has(set: &[u32], number: u32) -> bool
+    ensures { result ≡ list_any (λ n. n == number) set.now }
+{
+    set.contains(&number)
+}
+
+/// Whether each of the numbers is the only chosen one of some set.
+pub fn all_have_own(numbers: &[u32], covers: &[Cover]) -> bool
+    ensures { IsTrue result ↔ All (HasOwn covers.now) numbers.now }
+{
+    for number in numbers {
+        if !has_own(*number, covers) {
+            return false;
+        }
+    }
+    true
+}
+
+fn has_own(number: u32, covers: &[Cover]) -> bool
+    ensures { IsTrue result ↔ HasOwn covers.now number }
+{
+    covers.iter().any(|cover| is_once(*cover, number))
+}
+
+/// The shortest of the sets that are unmet, by its place.
+pub fn shortest_unmet(sets: &[Vec<u32>], covers: &[Cover]) -> Option<usize>
+    requires { length covers.now ≡ length sets.now }
+    ensures within { IfSome result (λ at. at < length sets.now) }
+    ensures unmet { IfSome result (λ at. HoldsAt (λ cover. cover ≡ Cover.Unmet) covers.now at) }
+    ensures none { IfNone result (All (λ cover. cover ≢ Cover.Unmet) covers.now) }
+{
+    let mut best = None;
+    for (at, cover) in covers.iter().enumerate() {
+        if is_unmet(*cover) {
+            best = Some(shorter(sets, best, at));
+        }
+    }
+    best
+}
+
+/// The place of the shorter set: the one so far, or this one.
+fn shorter(sets: &[Vec<u32>], best: Option<usize>, at: usize) -> usize
+    requires so_far { IfSome best (λ place. place < length sets.now) }
+    requires within { at < length sets.now }
+    ensures { (result ≡ at) ⊎ (best ≡ Some result) }
+{
+    match best {
+        Some(place) => {
+            if sets[place].len() <= sets[at].len() {
+                place
+            } else {
+                at
+            }
+        }
+        None => at,
+    }
+}

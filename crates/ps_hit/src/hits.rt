@@ -1,0 +1,23 @@
+//! The answer to a search for minimal hitting sets.
+ghost use Rattle.std.specs.Prelude.{◌≡◌, IfOk};
+
+use crate::lists::NumberLists;
+use std::alloc::{AllocError, Global};
+
+/// The minimal hitting sets of some sets, or that there are more than were asked for.
+#[derive(Debug, Drop)]
+pub enum Hits {
+    All(NumberLists),
+    TooMany,
+}
+
+impl Hits {
+    pub fn copy(&self, alloc: Global) -> Result<Self, AllocError>
+        ensures { IfOk result (λ copy. copy ≡ self.now) }
+    {
+        match self {
+            Hits::All(sets) => Ok(Hits::All(sets.copy(alloc)?)),
+            Hits::TooMany => Ok(Hits::TooMany),
+        }
+    }
+}

@@ -1,0 +1,55 @@
+//! A node of the search: what is chosen, and what may be chosen no more.
+ghost use Rattle.std.specs.Prelude.{◌≡◌, [], IfOk, OnOk};
+ghost use Rattle.ps_hit.specs.Hitting.{numbers_of};
+ghost use Rattle.ps_hit.specs.Searching.{IsNode, AddsChild};
+
+use crate::cover::{all_have_own, chosen_too, none_chosen, Cover};
+use std::alloc::{AllocError, Global};
+
+/// What is chosen, what may be chosen no more, and how the chosen numbers meet the sets.
+#[derive(Debug, Drop)]
+pub struct Node {
+    pub chosen: Vec<u32>,
+    pub barred: Vec<u32>,
+    pub covers: Vec<Cover>,
+}
+
+/// The node at which nothing is chosen and nothing is barred.
+pub fn root(alloc: Global, sets: &[Vec<u32>]) -> Result<Node, AllocError>
+    ensures node { IfOk result (IsNode (numbers_of sets.now)) }
+    ensures chosen { IfOk result (λ node. node.chosen.items ≡ []) }
+    ensures barred { IfOk result (λ node. node.barred.items ≡ []) }
+{
+    Ok(Node {
+        chosen: Vec::new(alloc),
+        barred: Vec::new(alloc),
+        covers: none_chosen(alloc, sets)?,
+    })
+}
+
+/// Adds the node with one more number, one of an unmet set, to those that wait, where each of its
+/// numbers is the only chosen one of some set. A minimal hitting set has that of each of its numbers.
+pub fn add_child(
+    alloc: Global,
+    sets: &[Vec<u32>],
+    node: &Node,
+    number: u32,
+    barred: &[u32],
+    waiting: &mut Vec<Node>,
+) -> Result<(), AllocError>
+    requires { IsNode (numbers_of sets.now) node.now }
+    ensures { OnOk result (AddsChild (numbers_of sets.now) node.now number barred.now waiting.old.items waiting.new.items) }
+{
+    let covers = chosen_too(alloc, sets, node.covers.as_slice(), number)?;
+    let mut chosen = Vec::from_slice(alloc, node.chosen.as_slice())?;
+    chosen.push(number)?;
+    if !all_have_own(chosen.as_slice(), covers.as_slice()) {
+        return Ok(());
+    }
+    waiting.push(Node {
+        chosen,
+        barred: Vec::from_slice(alloc, barred)?,
+        covers,
+    })?;
+    Ok(())
+}

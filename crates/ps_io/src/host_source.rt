@@ -1,0 +1,37 @@
+//! The adapter of a reader of the host, such as standard input: the trusted edge.
+ghost use Rattle.std.specs.Prelude.{◌≡◌};
+
+use crate::{Fault, Source};
+use std::io::Read;
+
+/// A reader of the host as a source. It counts the reads that failed, up to the last value of a `u64`.
+#[derive(Drop)]
+pub struct HostSource<R> {
+    reader: R,
+    faults: u64,
+}
+
+impl<R: Read> HostSource<R> {
+    pub fn new(reader: R) -> HostSource<R>
+        ensures left { ⟦<HostSource<R> as Source>⟧.left result ≡ R.remaining reader }
+        ensures fresh { ⟦<HostSource<R> as Source>⟧.faults result ≡ 0 }
+    {
+        HostSource { reader, faults: 0 }
+    }
+}
+
+impl<R: Read> Source for HostSource<R> {
+    ghost left = { λ s. R.remaining s.reader };
+
+    ghost faults = { λ s. s.faults };
+
+    fn take(&mut self, into: &mut [u8]) -> Result<usize, Fault> {
+        match self.reader.read(into) {
+            Ok(count) => Ok(count),
+            Err(_) => {
+                self.faults = self.faults.saturating_add(1);
+                Err(Fault)
+            }
+        }
+    }
+}

@@ -1,0 +1,39 @@
+-- How variables and terms are spelled, and which ones have a spelling.
+use Rattle.std.specs.Prelude.{ℕ, ◌≤◌, ℤ, FitsSigned, List, [], ◌∷◌, ◌++◌, map, decimal}
+use Rattle.std.specs.Fmt.{signed_decimal}
+use Rattle.std.specs.Int.{w128}
+use Rattle.std.specs.List.{AllByRecursion}
+use Rattle.ps_term.specs.declared.var.Var.{Var}
+use Rattle.ps_term.specs.declared.var.Var.TheVariants.{Global, Local, Havoc}
+use Rattle.ps_term.specs.declared.term.Term.{Term}
+use Rattle.ps_term.specs.Pairs.{IsCanonical}
+
+-- A global is `gN`, and local N of thread or slot S is `lN@S`. A havoc has no spelling.
+abbrev pub variable_text : Var → List ℕ
+variable_text (Global n) = 103 ∷ decimal n
+variable_text (Local s n) = 108 ∷ (decimal n ++ 64 ∷ decimal s)
+variable_text (Havoc n) = []
+
+-- The numbers are at most 65,535, and the variable isn't a havoc.
+abbrev pub VariableFits : Var → Type 0
+VariableFits (Global n) = n ≤ 65535
+VariableFits (Local s n) = (n ≤ 65535) × (s ≤ 65535)
+VariableFits (Havoc n) = ⊥
+
+-- The coefficient, `*`, and the variable.
+abbrev pub pair_text : Var × ℤ → List ℕ
+pair_text p = signed_decimal p.1 ++ 42 ∷ variable_text p.0
+
+pub record PairFits (p : Var × ℤ) : Type 0 where
+  pub coefficient : FitsSigned w128 p.1
+  pub variable : VariableFits p.0
+
+-- The fields of a term: its pairs, and then its constant.
+abbrev pub term_fields : Term → List (List ℕ)
+term_fields t = map pair_text t.pairs ++ signed_decimal t.constant ∷ []
+
+-- Which terms have a spelling: the pairs are canonical, and each number is in its range.
+pub record TermFits (t : Term) : Type 0 where
+  pub canonical : IsCanonical t.pairs
+  pub pairs : AllByRecursion PairFits t.pairs
+  pub constant : FitsSigned w128 t.constant

@@ -1,0 +1,10 @@
+//! How variables and terms are spelled as fields of a line, one definition for all formats.
+#![tactic(auto)]
+
+mod pair;
+mod printing;
+mod term;
+mod variable;
+
+pub use printing::{put_pair, put_term, put_variable};
+pub use term::take_term;
