@@ -5,4 +5,5 @@ pub mod Letters
 pub mod ManyThreads
 pub mod Members
 pub mod OneThread
+pub mod Strides
 pub mod Truths

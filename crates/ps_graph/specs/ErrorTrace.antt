@@ -46,22 +46,22 @@ pub record IsErrorTrace (graph : Graph) (letters : List (ℕ × ℕ)) : Type 0 w
   pub once : (j k : ℕ) → BeginsOnce graph letters j → BeginsOnce graph letters k → j ≡ k
   pub error : IsTrue (error_at_last graph.edges letters)
 
--- the ops of the command of an edge
-abbrev pub edge_ops : Graph → ℕ → List Op
-edge_ops graph n = unwrap_or (option_map (λ (e : Edge). ops_of graph.setting.commands e.command) (slice_get graph.edges n)) []
+-- the ops of the command of the edge of a number
+abbrev pub edge_ops : List Command → List Edge → ℕ → List Op
+edge_ops commands edges n = unwrap_or (option_map (λ (e : Edge). ops_of commands e.command) (slice_get edges n)) []
 
 -- the state after the letters run their commands one after another, each with its list of havoc values
-abbrev pub after_letters : Graph → List (ℕ × ℕ) → List (List ℤ) → State → Option State
-after_letters graph [] _ s = Some s
-after_letters graph (l ∷ ls) [] s = None
-after_letters graph (l ∷ ls) (hs ∷ rest) s =
-    option_and_then (after_letters graph ls rest) (run_by l.0 (edge_ops graph l.1) s hs)
+abbrev pub after_letters : List Command → List Edge → List (ℕ × ℕ) → List (List ℤ) → State → Option State
+after_letters commands edges [] _ s = Some s
+after_letters commands edges (l ∷ ls) [] s = None
+after_letters commands edges (l ∷ ls) (hs ∷ hss) s =
+    option_and_then (after_letters commands edges ls hss) (run_by l.0 (edge_ops commands edges l.1) s hs)
 
 -- each letter has as many havoc values as its command takes
-abbrev pub HavocsFit : Graph → List (ℕ × ℕ) → List (List ℤ) → Type 0
-HavocsFit graph [] [] = Unit {0}
-HavocsFit graph (l ∷ ls) (hs ∷ rest) = (length hs ≡ havocs_in (edge_ops graph l.1)) × HavocsFit graph ls rest
-HavocsFit graph _ _ = ⊥
+abbrev pub HavocsFit : List Command → List Edge → List (ℕ × ℕ) → List (List ℤ) → Type 0
+HavocsFit commands edges [] [] = Unit {0}
+HavocsFit commands edges (l ∷ ls) (hs ∷ hss) = (length hs ≡ havocs_in (edge_ops commands edges l.1)) × HavocsFit commands edges ls hss
+HavocsFit commands edges _ _ = ⊥
 
 -- Some initial state, with at least the threads that occur, and some havoc values run its commands one after another.
 pub record IsFeasible (graph : Graph) (letters : List (ℕ × ℕ)) : Type 0 where
@@ -69,5 +69,5 @@ pub record IsFeasible (graph : Graph) (letters : List (ℕ × ℕ)) : Type 0 whe
   pub havocs : List (List ℤ)
   pub initial : IsInitial graph.setting state
   pub threads : All (λ (l : ℕ × ℕ). l.0 < length state.locals) letters
-  pub fit : HavocsFit graph letters havocs
-  pub runs : IsSome (after_letters graph letters havocs state)
+  pub fit : HavocsFit graph.setting.commands graph.edges letters havocs
+  pub runs : IsSome (after_letters graph.setting.commands graph.edges letters havocs state)

@@ -9,5 +9,6 @@ pub mod Letters
 pub mod Paths
 pub mod Picks
 pub mod Step
+pub mod Strides
 pub mod Threads
 pub mod Walks

@@ -1,0 +1,119 @@
+-- Walks over locations are letters whose commands run one after another.
+use Rattle.std.proofs.Common.{◌≡◌, ◌≢◌, Bool, true, false, ◌==◌, refl, sym, ◌∙◌, ap, ap₂, subst, ℕ, zero, suc, ◌<◌, ◌≤◌, ℤ, List, [], ◌∷◌, length, map, get_or, ◌⊎◌, inl, inr, if◌then◌else◌, eq-eqb, arith}
+use Rattle.std.specs.Prelude.{Option, Some, None, option_map, slice_get, slice_set, unwrap_or, IsTrue}
+use Rattle.std.specs.List.{list_all}
+use Rattle.std.specs.Option.{option_and_then}
+use Rattle.std.proofs.lemmas.Bool.{eqb-true, eqb-false}
+use Rattle.std.proofs.lemmas.List.{get_or-set_same, get_or-set_other, map-set}
+use Rattle.std.proofs.lemmas.Option.{same_Some, some_pair_parts, slice_get_within, slice_get-map, get_or_from_slice_get, slice_get-get_or}
+use Rattle.ps_command.specs.Run.{run, run_by, havocs_in}
+use Rattle.ps_command.specs.Values.{Values, values_of, with_values}
+use Rattle.ps_command.specs.declared.command.Command.{Command}
+use Rattle.ps_command.specs.declared.op.Op.{Op}
+use Rattle.ps_command.specs.declared.state.State.{State}
+use Rattle.ps_graph.specs.ErrorTrace.{edge_ops, after_letters, HavocsFit}
+use Rattle.ps_graph.specs.Facts.{IsIn, ops_of, after_edge}
+use Rattle.ps_graph.specs.Follows.{along}
+use Rattle.ps_graph.specs.Letters.{moved_to, Located, woven}
+use Rattle.ps_graph.specs.Picks.{havocs_of, values_in}
+use Rattle.ps_graph.specs.Strides.{state_of, places, place_of, Matches, AreThreads, WalksAreLetters}
+use Rattle.ps_graph.specs.Threads.{Seat, World, Stepping, step_at, moved}
+use Rattle.ps_graph.specs.Walks.{Stride, Takes, walked}
+use Rattle.ps_graph.specs.declared.edge.Edge.{Edge}
+use Rattle.ps_graph.proofs.Letters.{havocs_of-woven}
+
+-- the world after a thread came to values and a place
+abbrev seated : {At : Type 0} → ℕ → List (Seat At) → Values × At → World At
+seated k us q = record { globals = q.0.globals; seats = slice_set us k (record { locals = q.0.locals; at = q.1 }) }
+
+abbrev behind : {At : Type 0} → Seat At → World At → World At
+behind t w = record { globals = w.globals; seats = t ∷ w.seats }
+
+-- the step of a thread that there is
+step_at_is : {At : Type 0} → (one : Stepping At) (k : ℕ) (globals : List ℤ) (us : List (Seat At)) (cs : List ℤ) (u : Seat At) → slice_get us k ≡ Some u →
+    step_at one k globals us cs ≡ option_map (seated k us) (one u.at (record { globals = globals; locals = u.locals }) cs)
+step_at_is one k globals [] cs u h = cc
+step_at_is {At} one zero globals (t ∷ us) cs u h =
+    ap (λ (v : Seat At). option_map (seated zero (t ∷ us)) (one v.at (record { globals = globals; locals = v.locals }) cs)) (same_Some t u h)
+step_at_is {At} one (suc k) globals (t ∷ us) cs u h =
+    ap (option_map (behind t)) (step_at_is one k globals us cs u h) ∙ at (one u.at (record { globals = globals; locals = u.locals }) cs)
+  where
+  at : (o : Option (Values × At)) → option_map (behind t) (option_map (seated k us) o) ≡ option_map (seated (suc k) (t ∷ us)) o
+  at None = refl
+  at (Some q) = refl
+
+-- a thread that there isn't has no step
+step_at_none : {At : Type 0} → (one : Stepping At) (k : ℕ) (globals : List ℤ) (us : List (Seat At)) (cs : List ℤ) → slice_get us k ≡ None →
+    step_at one k globals us cs ≡ None
+step_at_none one k globals [] cs h = refl
+step_at_none one zero globals (t ∷ us) cs h = cc
+step_at_none one (suc k) globals (t ∷ us) cs h = ap (option_map (behind t)) (step_at_none one k globals us cs h)
+
+abbrev at_target : ℕ → Option Values → Option (Values × ℕ)
+at_target b o = option_map (λ (w : Values). (w, b)) o
+
+along_parts : (t : Bool) (o : Option Values) (w : Values) (c b : ℕ) →
+    (if t then at_target c o else None) ≡ Some (w, b) → (t ≡ true) × (o ≡ Some w) × (c ≡ b)
+along_parts true None w c b h = cc
+along_parts true (Some x) w c b h = let q : (x ≡ w) × (c ≡ b) = some_pair_parts x w c b h in (refl, ap Some q.0, q.1)
+along_parts false o w c b h = cc
+
+-- the values that a thread that there is sees, and the place at which it is
+values_are : (w : World ℕ) (k : ℕ) (u : Seat ℕ) → slice_get w.seats k ≡ Some u →
+    values_of k (state_of w) ≡ record { globals = w.globals; locals = u.locals }
+values_are w k u h =
+    let looked : slice_get (map (λ (u : Seat ℕ). u.locals) w.seats) k ≡ Some u.locals =
+        slice_get-map (λ (u : Seat ℕ). u.locals) w.seats k ∙ ap (option_map (λ (u : Seat ℕ). u.locals)) h in
+    let make : List ℤ → Values = λ ls. record { globals = w.globals; locals = ls } in
+    ap make (get_or_from_slice_get (map (λ (u : Seat ℕ). u.locals) w.seats) k u.locals [] looked)
+
+place_is : (w : World ℕ) (k : ℕ) (u : Seat ℕ) → slice_get w.seats k ≡ Some u → place_of w k ≡ u.at
+place_is w k u h =
+    let looked : slice_get (places w) k ≡ Some u.at = slice_get-map (λ (u : Seat ℕ). u.at) w.seats k ∙ ap (option_map (λ (u : Seat ℕ). u.at)) h in
+    get_or_from_slice_get (places w) k u.at 0 looked
+
+-- the state and the places after a thread came to values and a place
+state_seated : (w : World ℕ) (k : ℕ) (v : Values) (b : ℕ) → state_of (seated k w.seats (v, b)) ≡ with_values k (state_of w) v
+state_seated w k v b =
+    let make : List (List ℤ) → State = λ ls. record { globals = v.globals; locals = ls } in
+    ap make (map-set (λ (u : Seat ℕ). u.locals) w.seats k (record { locals = v.locals; at = b }))
+
+length_map : {X Y : Type 0} → (f : X → Y) (xs : List X) → length (map f xs) ≡ length xs
+length_map f [] = refl
+length_map f (x ∷ xs) = ap suc (length_map f xs)
+
+place_seated : (w : World ℕ) (k : ℕ) (v : Values) (b : ℕ) → k < length w.seats → (j : ℕ) → place_of (seated k w.seats (v, b)) j ≡ moved_to (place_of w) k b j
+place_seated w k v b within j =
+    ap (λ (ps : List ℕ). get_or ps j 0) (map-set (λ (u : Seat ℕ). u.at) w.seats k (record { locals = v.locals; at = b }))
+    ∙ at (k == j) refl
+  where
+  at : (t : Bool) → (k == j) ≡ t → get_or (slice_set (places w) k b) j 0 ≡ (if t then b else get_or (places w) j 0)
+  at true t =
+      let same : k ≡ j = eqb-true k j t in
+      let inside : k < length (places w) = omega (arith, length_map (λ (u : Seat ℕ). u.at) w.seats) in
+      ap (λ (i : ℕ). get_or (slice_set (places w) k b) i 0) (sym same) ∙ get_or-set_same (places w) k b 0 inside
+  at false t = get_or-set_other (places w) k j b 0 (λ e. eqb-false k j t (sym e))
+
+-- letters are located from any equal places
+relocated : (edges : List Edge) (ls : List (ℕ × ℕ)) (f g : ℕ → ℕ) → ((j : ℕ) → f j ≡ g j) → Located edges f ls → Located edges g ls
+relocated edges [] f g same h = tt
+relocated edges (l ∷ ls) f g same (e, i, s, h) =
+    (e, i, s ∙ same l.0, relocated edges ls (moved_to f l.0 e.target) (moved_to g l.0 e.target) (λ j. at j (l.0 == j)) h)
+  where
+  at : (j : ℕ) (t : Bool) → (if t then e.target else f j) ≡ (if t then e.target else g j)
+  at j true = refl
+  at j false = same j
+
+-- an edge of the list has a number
+numbered : (e : Edge) (edges : List Edge) → IsIn e edges → (n : ℕ) × (slice_get edges n ≡ Some e)
+numbered e [] h = absurd h
+numbered e (d ∷ edges) (inl same) = (zero, ap Some (sym same))
+numbered e (d ∷ edges) (inr h) = at (numbered e edges h)
+  where
+  at : (n : ℕ) × (slice_get edges n ≡ Some e) → (n : ℕ) × (slice_get (d ∷ edges) n ≡ Some e)
+  at (n, g) = (suc n, g)
+
+in_numbered : (e : Edge) (edges : List Edge) (n : ℕ) → slice_get edges n ≡ Some e → IsIn e edges
+in_numbered e [] n h = cc
+in_numbered e (d ∷ edges) zero h = inl (sym (same_Some d e h))
+in_numbered e (d ∷ edges) (suc n) h = inr (in_numbered e edges n h)
