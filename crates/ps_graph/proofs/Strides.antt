@@ -4,7 +4,7 @@ use Rattle.std.specs.Prelude.{Option, Some, None, option_map, slice_get, slice_s
 use Rattle.std.specs.List.{list_all}
 use Rattle.std.specs.Option.{option_and_then}
 use Rattle.std.proofs.lemmas.Bool.{eqb-true, eqb-false}
-use Rattle.std.proofs.lemmas.List.{get_or-set_same, get_or-set_other, map-set}
+use Rattle.std.proofs.lemmas.List.{get_or-set_same, get_or-set_other, length-set, map-set}
 use Rattle.std.proofs.lemmas.Option.{same_Some, some_pair_parts, slice_get_within, slice_get-map, get_or_from_slice_get, slice_get-get_or}
 use Rattle.ps_command.specs.Run.{run, run_by, havocs_in}
 use Rattle.ps_command.specs.Values.{Values, values_of, with_values}
@@ -117,3 +117,80 @@ in_numbered : (e : Edge) (edges : List Edge) (n : ℕ) → slice_get edges n ≡
 in_numbered e [] n h = cc
 in_numbered e (d ∷ edges) zero h = inl (sym (same_Some d e h))
 in_numbered e (d ∷ edges) (suc n) h = inr (in_numbered e edges n h)
+
+-- what one stride does
+pub record Strides (commands : List Command) (k : ℕ) (e : Edge) (cs : List ℤ) (w x : World ℕ) : Type 0 where
+  pub havocs : List ℤ
+  pub within : k < length w.seats
+  pub source : e.source ≡ place_of w k
+  pub fits : havocs_of e.picks cs ≡ Some havocs
+  pub runs : run_by k (ops_of commands e.command) (state_of w) havocs ≡ Some (state_of x)
+  pub moves : (j : ℕ) → place_of x j ≡ moved_to (place_of w) k e.target j
+  pub same_number : length x.seats ≡ length w.seats
+
+stride_forth : (commands : List Command) (k : ℕ) (e : Edge) (cs : List ℤ) (w x : World ℕ) → step_at (along commands e) k w.globals w.seats cs ≡ Some x →
+    Strides commands k e cs w x
+stride_forth commands k e cs w x h = seat (slice_get w.seats k) refl
+  where
+  ran : (u : Seat ℕ) → slice_get w.seats k ≡ Some u → (v : Values) → e.source ≡ u.at → seated k w.seats (v, e.target) ≡ x → (o : Option (List ℤ)) → havocs_of e.picks cs ≡ o →
+      option_and_then (run (ops_of commands e.command) (record { globals = w.globals; locals = u.locals })) o ≡ Some v → Strides commands k e cs w x
+  ran u g v s same None f r = cc
+  ran u g v s same (Some hs) f r = record {
+    havocs = hs;
+    within = slice_get_within w.seats k u g;
+    source = s ∙ sym (place_is w k u g);
+    fits = f;
+    runs = ap (λ (vs : Values). option_map (with_values k (state_of w)) (run (ops_of commands e.command) vs hs)) (values_are w k u g)
+      ∙ ap (option_map (with_values k (state_of w))) r
+      ∙ ap Some (sym (state_seated w k v e.target) ∙ ap state_of same);
+    moves = λ j. ap (λ (y : World ℕ). place_of y j) (sym same) ∙ place_seated w k v e.target (slice_get_within w.seats k u g) j;
+    same_number = ap (λ (y : World ℕ). length y.seats) (sym same) ∙ length-set w.seats k (record { locals = v.locals; at = e.target })
+  }
+  parts : (u : Seat ℕ) → slice_get w.seats k ≡ Some u → (q : Values × ℕ) → seated k w.seats q ≡ x →
+      ((e.source == u.at) ≡ true) × (after_edge commands e (record { globals = w.globals; locals = u.locals }) cs ≡ Some q.0) × (e.target ≡ q.1) → Strides commands k e cs w x
+  parts u g q same (t, o, b) =
+      ran u g q.0 (eqb-true e.source u.at t) (ap (λ (i : ℕ). seated k w.seats (q.0, i)) b ∙ same) (havocs_of e.picks cs) refl o
+  taken : (u : Seat ℕ) → slice_get w.seats k ≡ Some u → (o : Option (Values × ℕ)) → along commands e u.at (record { globals = w.globals; locals = u.locals }) cs ≡ o →
+      option_map (seated k w.seats) o ≡ Some x → Strides commands k e cs w x
+  taken u g None a m = cc
+  taken u g (Some q) a m =
+      parts u g q (same_Some (seated k w.seats q) x m)
+      (along_parts (e.source == u.at) (after_edge commands e (record { globals = w.globals; locals = u.locals }) cs) q.0 e.target q.1 a)
+  seat : (o : Option (Seat ℕ)) → slice_get w.seats k ≡ o → Strides commands k e cs w x
+  seat None g = let no_such : None ≡ Some x = sym (step_at_none (along commands e) k w.globals w.seats cs g) ∙ h in cc
+  seat (Some u) g =
+      taken u g (along commands e u.at (record { globals = w.globals; locals = u.locals }) cs) refl (sym (step_at_is (along commands e) k w.globals w.seats cs u g) ∙ h)
+
+along_is : (t : Bool) (o : Option Values) (w : Values) (b : ℕ) → t ≡ true → o ≡ Some w → (if t then at_target b o else None) ≡ Some (w, b)
+along_is t o w b h e = rw (h, e) refl
+
+-- a stride that runs
+pub record Strode (commands : List Command) (k : ℕ) (e : Edge) (cs : List ℤ) (w : World ℕ) (s : State) : Type 0 where
+  pub after : World ℕ
+  pub steps : step_at (along commands e) k w.globals w.seats cs ≡ Some after
+  pub state : state_of after ≡ s
+  pub moves : (j : ℕ) → place_of after j ≡ moved_to (place_of w) k e.target j
+  pub same_number : length after.seats ≡ length w.seats
+
+stride_back : (commands : List Command) (k : ℕ) (e : Edge) (cs hs : List ℤ) (w : World ℕ) (s : State) → k < length w.seats → e.source ≡ place_of w k →
+    havocs_of e.picks cs ≡ Some hs → run_by k (ops_of commands e.command) (state_of w) hs ≡ Some s → Strode commands k e cs w s
+stride_back commands k e cs hs w s within source fits runs = seat (get_or w.seats k (record { locals = []; at = 0 })) (slice_get-get_or w.seats k (record { locals = []; at = 0 }) within)
+  where
+  ran : (u : Seat ℕ) → slice_get w.seats k ≡ Some u → (o : Option Values) → run (ops_of commands e.command) (record { globals = w.globals; locals = u.locals }) hs ≡ o →
+      option_map (with_values k (state_of w)) o ≡ Some s → Strode commands k e cs w s
+  ran u g None r m = cc
+  ran u g (Some v) r m = record {
+    after = seated k w.seats (v, e.target);
+    steps = step_at_is (along commands e) k w.globals w.seats cs u g
+      ∙ ap (option_map (seated k w.seats))
+        (along_is (e.source == u.at) (after_edge commands e (record { globals = w.globals; locals = u.locals }) cs) v e.target
+          (eq-eqb e.source u.at (source ∙ place_is w k u g))
+          (ap (option_and_then (run (ops_of commands e.command) (record { globals = w.globals; locals = u.locals }))) fits ∙ r));
+    state = state_seated w k v e.target ∙ same_Some (with_values k (state_of w) v) s m;
+    moves = place_seated w k v e.target within;
+    same_number = length-set w.seats k (record { locals = v.locals; at = e.target })
+  }
+  seat : (u : Seat ℕ) → slice_get w.seats k ≡ Some u → Strode commands k e cs w s
+  seat u g =
+      ran u g (run (ops_of commands e.command) (record { globals = w.globals; locals = u.locals }) hs) refl
+      (ap (λ (vs : Values). option_map (with_values k (state_of w)) (run (ops_of commands e.command) vs hs)) (sym (values_are w k u g)) ∙ runs)
