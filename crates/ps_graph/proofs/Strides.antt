@@ -194,3 +194,97 @@ stride_back commands k e cs hs w s within source fits runs = seat (get_or w.seat
   seat u g =
       ran u g (run (ops_of commands e.command) (record { globals = w.globals; locals = u.locals }) hs) refl
       (ap (λ (vs : Values). option_map (with_values k (state_of w)) (run (ops_of commands e.command) vs hs)) (sym (values_are w k u g)) ∙ runs)
+
+-- the ops of an edge of a number
+edge_ops_are : (commands : List Command) (edges : List Edge) (n : ℕ) (e : Edge) → slice_get edges n ≡ Some e → edge_ops commands edges n ≡ ops_of commands e.command
+edge_ops_are commands edges n e g = ap (λ (o : Option Edge). unwrap_or (option_map (λ (e : Edge). ops_of commands e.command) o) []) g
+
+threads_among : (m n : ℕ) (ls : List (ℕ × ℕ)) → m ≡ n → AreThreads m ls → AreThreads n ls
+threads_among m n ls e h = subst (λ (i : ℕ). AreThreads i ls) e h
+
+-- the letters of a walk
+pub record Spelled (commands : List Command) (edges : List Edge) (ms : List Stride) (w x : World ℕ) : Type 0 where
+  pub letters : List (ℕ × ℕ)
+  pub havocs : List (List ℤ)
+  pub matches : Matches edges ms letters havocs
+  pub threads : AreThreads (length w.seats) letters
+  pub located : Located edges (place_of w) letters
+  pub runs : after_letters commands edges letters havocs (state_of w) ≡ Some (state_of x)
+
+spelled : (commands : List Command) (edges : List Edge) (ms : List Stride) (w x : World ℕ) → Takes edges ms → walked commands ms w ≡ Some x → Spelled commands edges ms w x
+spelled commands edges [] w x t h =
+    record { letters = []; havocs = []; matches = tt; threads = tt; located = tt; runs = ap (λ (o : Option (World ℕ)). option_map state_of o) h }
+spelled commands edges (m ∷ ms) w x (i, t) h =
+    first (step_at (along commands m.edge) m.thread w.globals w.seats m.choices) refl h (λ y r. spelled commands edges ms y x t r)
+  where
+  put : (y : World ℕ) → Strides commands m.thread m.edge m.choices w y → (n : ℕ) × (slice_get edges n ≡ Some m.edge) → Spelled commands edges ms y x →
+      Spelled commands edges (m ∷ ms) w x
+  put y a (n, g) b = record {
+    letters = (m.thread, n) ∷ b.letters;
+    havocs = a.havocs ∷ b.havocs;
+    matches = (refl, g, a.fits, b.matches);
+    threads = (a.within, threads_among (length y.seats) (length w.seats) b.letters a.same_number b.threads);
+    located = (m.edge, g, a.source, relocated edges b.letters (place_of y) (moved_to (place_of w) m.thread m.edge.target) a.moves b.located);
+    runs = ap (λ (ops : List Op). option_and_then (after_letters commands edges b.letters b.havocs) (run_by m.thread ops (state_of w) a.havocs)) (edge_ops_are commands edges n m.edge g)
+      ∙ ap (option_and_then (after_letters commands edges b.letters b.havocs)) a.runs
+      ∙ b.runs
+  }
+  first : (o : Option (World ℕ)) → step_at (along commands m.edge) m.thread w.globals w.seats m.choices ≡ o → option_and_then (walked commands ms) o ≡ Some x →
+      ((y : World ℕ) → walked commands ms y ≡ Some x → Spelled commands edges ms y x) → Spelled commands edges (m ∷ ms) w x
+  first None s r rest = cc
+  first (Some y) s r rest = put y (stride_forth commands m.thread m.edge m.choices w y s) (numbered m.edge edges i) (rest y r)
+
+-- the walk of letters
+pub record Walks (commands : List Command) (edges : List Edge) (ls : List (ℕ × ℕ)) (hss : List (List ℤ)) (w : World ℕ) (s : State) : Type 0 where
+  pub strides : List Stride
+  pub after : World ℕ
+  pub takes : Takes edges strides
+  pub matches : Matches edges strides ls hss
+  pub walks : walked commands strides w ≡ Some after
+  pub state : state_of after ≡ s
+
+walk_of : (commands : List Command) (edges : List Edge) → ((e : Edge) → IsIn e edges → values_in e.picks ≡ havocs_in (ops_of commands e.command)) →
+    (ls : List (ℕ × ℕ)) (hss : List (List ℤ)) (w : World ℕ) (s : State) → AreThreads (length w.seats) ls →
+    Located edges (place_of w) ls → HavocsFit commands edges ls hss → after_letters commands edges ls hss (state_of w) ≡ Some s → Walks commands edges ls hss w s
+walk_of commands edges fit [] [] w s t l f h = record { strides = []; after = w; takes = tt; matches = tt; walks = refl; state = same_Some (state_of w) s h }
+walk_of commands edges fit [] (hs ∷ hss) w s t l f h = absurd f
+walk_of commands edges fit (l ∷ ls) [] w s t g f h = absurd f
+walk_of commands edges fit (l ∷ ls) (hs ∷ hss) w s (within, t) (e, g, source, located) (count, f) h =
+    first (run_by l.0 (edge_ops commands edges l.1) (state_of w) hs) refl h
+    (λ y u i r. walk_of commands edges fit ls hss y s (threads_among (length w.seats) (length y.seats) ls (sym u) t) i f r)
+  where
+  is_edge : IsIn e edges
+  is_edge = in_numbered e edges l.1 g
+  counts : length hs ≡ values_in e.picks
+  counts = count ∙ ap havocs_in (edge_ops_are commands edges l.1 e g) ∙ sym (fit e is_edge)
+  put : (n : State) → Strode commands l.0 e (woven e.picks hs) w n → after_letters commands edges ls hss n ≡ Some s →
+      ((y : World ℕ) → length y.seats ≡ length w.seats → Located edges (place_of y) ls → after_letters commands edges ls hss (state_of y) ≡ Some s → Walks commands edges ls hss y s) →
+      Walks commands edges (l ∷ ls) (hs ∷ hss) w s
+  put n a r rest = join (rest a.after a.same_number
+      (relocated edges ls (moved_to (place_of w) l.0 e.target) (place_of a.after) (λ j. sym (a.moves j)) located)
+      (ap (after_letters commands edges ls hss) a.state ∙ r))
+    where
+    join : Walks commands edges ls hss a.after s → Walks commands edges (l ∷ ls) (hs ∷ hss) w s
+    join b = record {
+      strides = record { thread = l.0; choices = woven e.picks hs; edge = e } ∷ b.strides;
+      after = b.after;
+      takes = (is_edge, b.takes);
+      matches = (refl, g, havocs_of-woven e.picks hs counts, b.matches);
+      walks = ap (option_and_then (walked commands b.strides)) a.steps ∙ b.walks;
+      state = b.state
+    }
+  first : (o : Option State) → run_by l.0 (edge_ops commands edges l.1) (state_of w) hs ≡ o → option_and_then (after_letters commands edges ls hss) o ≡ Some s →
+      ((y : World ℕ) → length y.seats ≡ length w.seats → Located edges (place_of y) ls → after_letters commands edges ls hss (state_of y) ≡ Some s → Walks commands edges ls hss y s) →
+      Walks commands edges (l ∷ ls) (hs ∷ hss) w s
+  first None o r rest = cc
+  first (Some n) o r rest =
+      put n (stride_back commands l.0 e (woven e.picks hs) hs w n within source (havocs_of-woven e.picks hs counts)
+      (ap (λ (ops : List Op). run_by l.0 ops (state_of w) hs) (sym (edge_ops_are commands edges l.1 e g)) ∙ o)) r rest
+
+-- walks are letters, both ways, where each edge has as many values among its picks as its command has havocs
+pub walks_are_letters : (commands : List Command) (edges : List Edge) →
+    ((e : Edge) → IsIn e edges → values_in e.picks ≡ havocs_in (ops_of commands e.command)) → WalksAreLetters commands edges
+walks_are_letters commands edges fit = record {
+  forth = λ ms w x t h. (let a = spelled commands edges ms w x t h in (a.letters, a.havocs, a.matches, a.threads, a.located, a.runs));
+  back = λ ls hss w s t l f h. (let a = walk_of commands edges fit ls hss w s t l f h in (a.strides, a.after, a.takes, a.matches, a.walks, a.state))
+}
