@@ -1,5 +1,5 @@
 -- Walks over locations are letters whose commands run one after another.
-use Rattle.std.proofs.Common.{◌≡◌, ◌≢◌, Bool, true, false, ◌==◌, refl, sym, ◌∙◌, ap, ap₂, subst, ℕ, zero, suc, ◌<◌, ◌≤◌, ℤ, List, [], ◌∷◌, length, map, get_or, ◌⊎◌, inl, inr, if◌then◌else◌, eq-eqb, arith}
+use Rattle.std.proofs.Common.{◌≡◌, ◌≢◌, Bool, true, false, ◌&&◌, ◌==◌, refl, sym, ◌∙◌, ap, ap₂, subst, ℕ, zero, suc, ◌<◌, ◌≤◌, ℤ, List, [], ◌∷◌, length, map, get_or, ◌⊎◌, inl, inr, if◌then◌else◌, eq-eqb, arith}
 use Rattle.std.specs.Prelude.{Option, Some, None, option_map, slice_get, slice_set, unwrap_or, IsTrue}
 use Rattle.std.specs.List.{list_all}
 use Rattle.std.specs.Option.{option_and_then}
@@ -12,7 +12,7 @@ use Rattle.ps_command.specs.declared.command.Command.{Command}
 use Rattle.ps_command.specs.declared.op.Op.{Op}
 use Rattle.ps_command.specs.declared.state.State.{State}
 use Rattle.ps_graph.specs.ErrorTrace.{edge_ops, after_letters, HavocsFit}
-use Rattle.ps_graph.specs.Facts.{IsIn, ops_of, after_edge}
+use Rattle.ps_graph.specs.Facts.{IsIn, ops_of, after_edge, picks_fit}
 use Rattle.ps_graph.specs.Follows.{along}
 use Rattle.ps_graph.specs.Letters.{moved_to, Located, woven}
 use Rattle.ps_graph.specs.Picks.{havocs_of, values_in}
@@ -288,3 +288,22 @@ walks_are_letters commands edges fit = record {
   forth = λ ms w x t h. (let a = spelled commands edges ms w x t h in (a.letters, a.havocs, a.matches, a.threads, a.located, a.runs));
   back = λ ls hss w s t l f h. (let a = walk_of commands edges fit ls hss w s t l f h in (a.strides, a.after, a.takes, a.matches, a.walks, a.state))
 }
+
+all_in : {X : Type 0} → (test : X → Bool) (x : X) (xs : List X) → list_all test xs ≡ true → IsIn x xs → test x ≡ true
+all_in test x [] h i = absurd i
+all_in test x (y ∷ xs) h i = at (test y) refl (list_all test xs) refl h i (λ g j. all_in test x xs g j)
+  where
+  at : (t : Bool) → test y ≡ t → (u : Bool) → list_all test xs ≡ u → (t && u) ≡ true → (x ≡ y) ⊎ IsIn x xs →
+      (list_all test xs ≡ true → IsIn x xs → test x ≡ true) → test x ≡ true
+  at true t true u h (inl e) rest = ap test e ∙ t
+  at true t true u h (inr j) rest = rest u j
+  at true t false u h i rest = let no_such : false ≡ true = h in cc
+  at false t u v h i rest = let no_such : false ≡ true = h in cc
+
+-- each edge's picks have as many values as its command has havocs
+pub picks_count : (commands : List Command) (edges : List Edge) → IsTrue (picks_fit commands edges) →
+    (e : Edge) → IsIn e edges → values_in e.picks ≡ havocs_in (ops_of commands e.command)
+unfolding picks_fit
+picks_count commands edges h e i =
+    eqb-true (values_in e.picks) (havocs_in (ops_of commands e.command))
+    (all_in (λ (e : Edge). values_in e.picks == havocs_in (ops_of commands e.command)) e edges h i)

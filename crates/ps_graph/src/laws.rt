@@ -1,8 +1,12 @@
 //! How edges follow the text: each function does no work, and its clause is the fact.
-ghost use Rattle.std.specs.Prelude.{◌≡◌, [], List, not, true, false, ℕ, ℤ};
+ghost use Rattle.std.specs.Prelude.{◌↔◌, IsTrue, ◌≡◌, [], List, not, true, false, ℕ, ℤ};
 ghost use Rattle.ps_command.specs.declared.command.Command.{Command};
 ghost use Rattle.ps_graph.specs.Alternatives.{alternatives, any_hold};
+ghost use Rattle.ps_graph.specs.ErrorTrace.{edges_of, is_path};
+ghost use Rattle.ps_graph.specs.Facts.{picks_fit};
 ghost use Rattle.ps_graph.specs.Follows.{StepsAreEdges, leaving};
+ghost use Rattle.ps_graph.specs.Letters.{Located};
+ghost use Rattle.ps_graph.specs.Strides.{WalksAreLetters};
 ghost use Rattle.ps_graph.specs.Walks.{ExecutionsAreWalks};
 ghost use Rattle.ps_graph.specs.declared.edge.Edge.{Edge};
 ghost use Rattle.ps_syntax.specs.Cond.{truth};
@@ -28,3 +32,19 @@ pub fn executions_are_walks()
     ensures { (commands : List Command) (edges : List Edge) (z : ℕ) → leaving z edges ≡ [] → leaving 1 edges ≡ []
         → ExecutionsAreWalks commands edges z }
 {}
+
+/// Walks are letters whose commands run one after another, both ways, where each edge has as many values
+/// among its picks as its command has havocs.
+pub fn walks_are_letters()
+    ensures { (commands : List Command) (edges : List Edge) → IsTrue (picks_fit commands edges)
+        → WalksAreLetters commands edges }
+{
+}
+
+/// Each thread's edges are a path from where the thread is exactly where each letter's edge leaves the
+/// location at which its thread then is.
+pub fn paths_are_located()
+    ensures { (edges : List Edge) (at : ℕ → ℕ) (letters : List (ℕ × ℕ))
+        → (((k : ℕ) → IsTrue (is_path edges (at k) (edges_of k letters))) ↔ Located edges at letters) }
+{
+}
