@@ -16,3 +16,6 @@ pub use sequence::{Duplicate, Sequence, copies};
 pub use setting::Setting;
 pub use state::State;
 pub use symbolic_form::SymbolicForm;
+
+#[cfg(test)]
+mod tests;

@@ -8,3 +8,6 @@ pub mod worked;
 
 pub use edge::{Edge, Pick};
 pub use graph::Graph;
+
+#[cfg(test)]
+mod tests;

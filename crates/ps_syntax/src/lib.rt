@@ -16,3 +16,6 @@ pub use program::Program;
 pub use relation::{Relation, Sign};
 pub use stmt::{Stmt, StmtKind};
 pub use sum::Sum;
+
+#[cfg(test)]
+mod tests;

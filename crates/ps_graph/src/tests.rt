@@ -1,0 +1,33 @@
+// Copies, with ample memory: each is spelled as what it copies.
+use crate::edge::{Edge, Pick};
+use crate::graph::Graph;
+use ps_command::{Sequence, Setting};
+use std::alloc::Global;
+use std::test::Fail;
+
+fn setting(alloc: Global) -> Setting {
+    Setting {
+        globals: 0,
+        locals: 0,
+        init_once: Sequence::from_list(Vec::new(alloc)),
+        init_each: Sequence::from_list(Vec::new(alloc)),
+        commands: Sequence::from_list(Vec::new(alloc)),
+        symbols: Sequence::from_list(Vec::new(alloc)),
+    }
+}
+
+#[test]
+fn copies_edges(rt: HostRuntime) -> Result<(), Fail> {
+    let alloc = rt.alloc();
+    let picks = [Pick::Value, Pick::Star(true), Pick::Star(false)];
+    let given = Edge {
+        source: 3,
+        target: 1,
+        command: 2,
+        picks: Sequence::from_slice(alloc, &picks)?,
+    };
+    let copied = given.copy(alloc)?;
+    assert_eq!(rt; (copied.source, copied.target, copied.command), (3, 1, 2));
+    assert_eq!(rt; copied.picks.as_slice(), picks.as_slice());
+    Ok(())
+}
