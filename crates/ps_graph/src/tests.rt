@@ -31,3 +31,22 @@ fn copies_edges(rt: HostRuntime) -> Result<(), Fail> {
     assert_eq!(rt; copied.picks.as_slice(), picks.as_slice());
     Ok(())
 }
+
+#[test]
+fn copies_graphs(rt: HostRuntime) -> Result<(), Fail> {
+    let alloc = rt.alloc();
+    let given = Graph {
+        locations: 2,
+        edges: Sequence::from_list(Vec::new(alloc)),
+        entries: Sequence::from_list(Vec::new(alloc)),
+        once: None,
+        owner: Sequence::from_slice(alloc, &[None, None])?,
+        setting: setting(alloc),
+    };
+    let copied = given.copy(alloc)?;
+    assert_eq!(rt; copied.owner.as_slice(), [None, None].as_slice());
+    let want = format!(in alloc; "{given:?}")?;
+    let got = format!(in alloc; "{copied:?}")?;
+    assert_eq!(rt; got.as_str(), want.as_str());
+    Ok(())
+}
