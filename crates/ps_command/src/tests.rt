@@ -49,7 +49,11 @@ fn copies_commands(rt: HostRuntime) -> Result<(), Fail> {
 #[test]
 fn copies_symbolic_forms(rt: HostRuntime) -> Result<(), Fail> {
     let alloc = rt.alloc();
-    let rows = vec![in alloc; Row { term: number(alloc, -1) }]?;
+    let rows = vec![in alloc;
+        Row {
+            term: number(alloc, -1)
+        },
+    ]?;
     let given = SymbolicForm {
         rows: Sequence::from_list(rows),
         after: Assignments::from_list(vec![in alloc; (X, number(alloc, 3))]?),
@@ -65,7 +69,10 @@ fn copies_symbolic_forms(rt: HostRuntime) -> Result<(), Fail> {
 #[test]
 fn copies_states_and_settings(rt: HostRuntime) -> Result<(), Fail> {
     let alloc = rt.alloc();
-    let locals = vec![in alloc; Sequence::from_slice(alloc, &[5])?, Sequence::from_slice(alloc, &[-6])?]?;
+    let locals = vec![in alloc;
+        Sequence::from_slice(alloc, &[5])?,
+        Sequence::from_slice(alloc, &[-6])?,
+    ]?;
     let given = State {
         globals: Sequence::from_slice(alloc, &[1, 2])?,
         locals: Sequence::from_list(locals),

@@ -38,13 +38,11 @@ pub fn executions_are_walks()
 pub fn walks_are_letters()
     ensures { (commands : List Command) (edges : List Edge) → IsTrue (picks_fit commands edges)
         → WalksAreLetters commands edges }
-{
-}
+{}
 
 /// Each thread's edges are a path from where the thread is exactly where each letter's edge leaves the
 /// location at which its thread then is.
 pub fn paths_are_located()
     ensures { (edges : List Edge) (at : ℕ → ℕ) (letters : List (ℕ × ℕ))
         → (((k : ℕ) → IsTrue (is_path edges (at k) (edges_of k letters))) ↔ Located edges at letters) }
-{
-}
+{}

@@ -2,7 +2,7 @@
 use crate::edge::{Edge, Pick};
 use crate::graph::Graph;
 use ps_command::{Sequence, Setting};
-use std::alloc::Global;
+use std::alloc::{AllocError, Global};
 use std::test::Fail;
 
 fn setting(alloc: Global) -> Setting {
@@ -14,6 +14,17 @@ fn setting(alloc: Global) -> Setting {
         commands: Sequence::from_list(Vec::new(alloc)),
         symbols: Sequence::from_list(Vec::new(alloc)),
     }
+}
+
+fn empty_graph(alloc: Global) -> Result<Graph, AllocError> {
+    Ok(Graph {
+        locations: 2,
+        edges: Sequence::from_list(Vec::new(alloc)),
+        entries: Sequence::from_list(Vec::new(alloc)),
+        once: None,
+        owner: Sequence::from_slice(alloc, &[None, None])?,
+        setting: setting(alloc),
+    })
 }
 
 #[test]
@@ -35,14 +46,7 @@ fn copies_edges(rt: HostRuntime) -> Result<(), Fail> {
 #[test]
 fn copies_graphs(rt: HostRuntime) -> Result<(), Fail> {
     let alloc = rt.alloc();
-    let given = Graph {
-        locations: 2,
-        edges: Sequence::from_list(Vec::new(alloc)),
-        entries: Sequence::from_list(Vec::new(alloc)),
-        once: None,
-        owner: Sequence::from_slice(alloc, &[None, None])?,
-        setting: setting(alloc),
-    };
+    let given = empty_graph(alloc)?;
     let copied = given.copy(alloc)?;
     assert_eq!(rt; copied.owner.as_slice(), [None, None].as_slice());
     let want = format!(in alloc; "{given:?}")?;

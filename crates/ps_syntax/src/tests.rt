@@ -30,7 +30,9 @@ fn relation(alloc: Global, sign: Sign) -> Result<Relation, AllocError> {
 
 fn cond(alloc: Global) -> Result<Cond, AllocError> {
     let negated = Cond::Not(Boxed::new(alloc, Cond::Rel(relation(alloc, Sign::Less)?))?);
-    let either = Cond::Or(Items::from_vec(vec![in alloc; Cond::Rel(relation(alloc, Sign::Equal)?)]?));
+    let either = Cond::Or(Items::from_vec(vec![in alloc;
+        Cond::Rel(relation(alloc, Sign::Equal)?),
+    ]?));
     let mut members = Vec::new(alloc);
     members.push(negated)?;
     members.push(either)?;
@@ -57,7 +59,10 @@ fn simple(alloc: Global) -> Result<Items<Stmt>, AllocError> {
 fn body(alloc: Global) -> Result<Items<Stmt>, AllocError> {
     let mut block = Vec::new(alloc);
     block.push(stmt(6, StmtKind::Atomic(simple(alloc)?)))?;
-    block.push(stmt(7, StmtKind::If(Test::Star, simple(alloc)?, Items::new(alloc))))?;
+    block.push(stmt(
+        7,
+        StmtKind::If(Test::Star, simple(alloc)?, Items::new(alloc)),
+    ))?;
     block.push(stmt(8, StmtKind::While(Test::Cond(cond(alloc)?), simple(alloc)?)))?;
     Ok(Items::from_vec(block))
 }
