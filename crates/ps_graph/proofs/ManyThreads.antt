@@ -1,5 +1,5 @@
 -- Executions of any number of threads are walks over the locations at which they stand.
-use Rattle.std.proofs.Common.{◌≡◌, refl, sym, ◌∙◌, ap, ap₂, subst, ℕ, zero, suc, ℤ, List, [], ◌∷◌, map}
+use Rattle.std.proofs.Common.{◌≡◌, refl, sym, ◌∙◌, ap, subst, ℕ, zero, suc, ℤ, List, [], ◌∷◌}
 use Rattle.std.specs.Prelude.{Option, Some, None, option_map}
 use Rattle.std.specs.Option.{option_and_then}
 use Rattle.ps_command.specs.Values.{Values}
@@ -7,7 +7,7 @@ use Rattle.ps_command.specs.declared.command.Command.{Command}
 use Rattle.ps_graph.specs.Facts.{IsIn}
 use Rattle.ps_graph.specs.Follows.{ThreadStands, along, StepsAreEdges}
 use Rattle.ps_graph.specs.Step.{Thread, step}
-use Rattle.ps_graph.specs.Threads.{Seat, World, step_at, moved, all_moved}
+use Rattle.ps_graph.specs.Threads.{Seat, World, step_at, all_moved}
 use Rattle.ps_graph.specs.Walks.{Stride, steps_of, Takes, walked, SeatsStand, WorldStands, ExecutionsAreWalks}
 use Rattle.ps_graph.specs.declared.edge.Edge.{Edge}
 

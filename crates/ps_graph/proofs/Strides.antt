@@ -1,5 +1,5 @@
 -- Walks over locations are letters whose commands run one after another.
-use Rattle.std.proofs.Common.{◌≡◌, ◌≢◌, Bool, true, false, ◌&&◌, ◌==◌, refl, sym, ◌∙◌, ap, ap₂, subst, ℕ, zero, suc, ◌<◌, ◌≤◌, ℤ, List, [], ◌∷◌, length, map, get_or, ◌⊎◌, inl, inr, if◌then◌else◌, eq-eqb, arith}
+use Rattle.std.proofs.Common.{◌≡◌, Bool, true, false, ◌&&◌, ◌==◌, refl, sym, ◌∙◌, ap, subst, ℕ, zero, suc, ◌<◌, ℤ, List, [], ◌∷◌, length, map, get_or, ◌⊎◌, inl, inr, if◌then◌else◌, eq-eqb, arith}
 use Rattle.std.specs.Prelude.{Option, Some, None, option_map, slice_get, slice_set, unwrap_or, IsTrue}
 use Rattle.std.specs.List.{list_all}
 use Rattle.std.specs.Option.{option_and_then}
@@ -17,7 +17,7 @@ use Rattle.ps_graph.specs.Follows.{along}
 use Rattle.ps_graph.specs.Letters.{moved_to, Located, woven}
 use Rattle.ps_graph.specs.Picks.{havocs_of, values_in}
 use Rattle.ps_graph.specs.Strides.{state_of, places, place_of, Matches, AreThreads, WalksAreLetters}
-use Rattle.ps_graph.specs.Threads.{Seat, World, Stepping, step_at, moved}
+use Rattle.ps_graph.specs.Threads.{Seat, World, Stepping, step_at}
 use Rattle.ps_graph.specs.Walks.{Stride, Takes, walked}
 use Rattle.ps_graph.specs.declared.edge.Edge.{Edge}
 use Rattle.ps_graph.proofs.Letters.{havocs_of-woven}

@@ -1,6 +1,5 @@
 -- What one stride, and a whole walk, does to a state and to the locations of threads.
-use Rattle.std.specs.Prelude.{◌≡◌, ℕ, ℤ, List, [], ◌∷◌, ◌<◌, length, map, slice_get, slice_index_or, Option, Some, None}
-use Rattle.std.specs.Option.{option_and_then}
+use Rattle.std.specs.Prelude.{◌≡◌, ℕ, ℤ, List, [], ◌∷◌, ◌<◌, length, map, slice_get, slice_index_or, Some}
 use Rattle.ps_command.specs.declared.command.Command.{Command}
 use Rattle.ps_command.specs.declared.state.State.{State}
 use Rattle.ps_graph.specs.ErrorTrace.{after_letters, HavocsFit}

@@ -1,5 +1,5 @@
 -- Walks of many threads over the locations of a graph.
-use Rattle.std.specs.Prelude.{◌≡◌, ℕ, ℤ, List, [], ◌∷◌, map, Option, Some, None}
+use Rattle.std.specs.Prelude.{◌≡◌, ℕ, ℤ, List, [], ◌∷◌, map, Option, Some}
 use Rattle.std.specs.Option.{option_and_then}
 use Rattle.ps_command.specs.declared.command.Command.{Command}
 use Rattle.ps_graph.specs.Facts.{IsIn}
