@@ -12,7 +12,7 @@ ghost use Rattle.proofspace.specs.declared.status.Status.TheVariants.{Holds, Fai
 use crate::answer::{Answer, answer_line};
 use crate::status::Status;
 use crate::texts::{NO, PAST, TOO_LONG, YES, fault_line};
-use ps_farkas::certificate::refutes;
+use ps_farkas::refutes;
 use ps_io::{ReadEnd, Sink, Source, read_all, write_all};
 use ps_rows::{Claim, read_rows};
 use ps_text::FormEnd;

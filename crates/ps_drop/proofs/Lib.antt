@@ -1,3 +1,4 @@
+mod Examples
 pub mod Linked
 pub mod Members
 pub mod Search

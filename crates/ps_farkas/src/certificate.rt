@@ -8,7 +8,7 @@ use crate::past::Past128;
 use crate::visit::visit;
 use crate::walk::first_variable;
 use crate::weigh::constant_total;
-use ps_term::row::Row;
+use ps_term::Row;
 
 /// Whether the multipliers show that no whole numbers satisfy all rows: there is one for each row, and
 /// the rows weighted by them sum to a constant of at least 1. With another number of multipliers the
@@ -57,9 +57,7 @@ fn all_cancel(rows: &[Row], lambda: &[u128]) -> Option<bool>
 #[cfg(test)]
 mod tests {
     use super::*;
-    use ps_term::pairs::Pairs;
-    use ps_term::term::Term;
-    use ps_term::var::Var;
+    use ps_term::{Pairs, Term, Var};
     use std::alloc::{AllocError, Global};
     use std::test::Fail;
 

@@ -6,8 +6,7 @@ ghost use Rattle.ps_farkas.specs.Walk.{IsNext};
 
 use crate::product::weighed;
 use crate::walk::lesser;
-use ps_term::row::Row;
-use ps_term::var::Var;
+use ps_term::{Row, Var};
 
 // What the walk finds at one variable.
 #[derive(Clone, Copy, Debug)]

@@ -2,8 +2,7 @@
 ghost use Rattle.std.specs.Prelude.{◌≡◌, None};
 ghost use Rattle.ps_farkas.specs.Walk.{IsNext, lesser_of};
 
-use ps_term::row::Row;
-use ps_term::var::{Var, is_before};
+use ps_term::{Row, Var, is_before};
 
 // The least variable of the rows.
 pub(crate) fn first_variable(rows: &[Row]) -> Option<Var>

@@ -3,8 +3,7 @@ ghost use Rattle.std.specs.Prelude.{◌≡◌, pos, length, SomeIff};
 ghost use Rattle.ps_farkas.specs.Refutes.{SumsFit, weighted};
 
 use crate::product::weighed;
-use ps_term::row::Row;
-use ps_term::term::Term;
+use ps_term::{Row, Term};
 
 // The sum of each multiplier times its row's constant, in row order, or `None` where a product or a partial
 // sum lies outside `i128`.

@@ -1,5 +1,5 @@
 -- Ascending lists, and the set of the lists found.
-use Rattle.std.proofs.Common.{◌≡◌, ◌≢◌, ℕ, ◌+◌, ◌<◌, ◌≤◌, Bool, true, false, List, [], ◌∷◌, ◌++◌, length, sym, ap, ◌∙◌, subst, refl, inl, inr, ◌⊎◌, Contains, All, arith, get_or, zero, suc}
+use Rattle.std.proofs.Common.{◌≡◌, ℕ, ◌<◌, List, [], ◌∷◌, length, sym, ap, ◌∙◌, subst, refl, inl, inr, ◌⊎◌, Contains, arith, get_or, zero, suc}
 use Rattle.std.specs.declared.cmp.Ordering.{Ordering}
 use Rattle.std.specs.Ordering.{nat_cmp, match_ordering}
 use Rattle.std.specs.declared.cmp.Ordering.TheVariants.{Less, Equal, Greater}
@@ -28,8 +28,9 @@ same_first x xs y ys up vp (inr h) (inr k) = let a : y < x = above_first y ys vp
 
 rest_subset : (x : ℕ) (xs : List ℕ) (y : ℕ) (ys : List ℕ) → IsStrictlySortedBy nat_cmp (x ∷ xs) → x ≡ y → IsSubset (x ∷ xs) (y ∷ ys) → IsSubset xs ys
 rest_subset x xs y ys up same sub n h = elim (cons_cases y ys n (sub n (there x xs n h))) [
-    inl is ↦ (let a : x < n = above_first x xs up n h in absurd (omega (arith, same, is)))
-    | inr later ↦ later ]
+  | inl is ↦ (let a : x < n = above_first x xs up n h in absurd (omega (arith, same, is)))
+  | inr later ↦ later
+]
 
 same_sorted : (xs ys : List ℕ) → IsStrictlySortedBy nat_cmp xs → IsStrictlySortedBy nat_cmp ys → IsSubset xs ys → IsSubset ys xs → xs ≡ ys
 same_sorted [] [] up vp to back = refl
@@ -91,8 +92,9 @@ cases_at : (k x : List ℕ) (xs later : List (List ℕ)) (o : Ordering) (q : Lis
 cases_at k x xs later Less q b h = elim (cons_cases k (x ∷ xs) q h) [ inl is ↦ inr is | inr old ↦ inl old ]
 cases_at k x xs later Equal q b h = inl h
 cases_at k x xs later Greater q b h = elim (cons_cases x later q h) [
-    inl is ↦ inl (subst (λ (z : List ℕ). Contains (x ∷ xs) z) is (here x xs))
-    | inr l ↦ elim (b l) [ inl old ↦ inl (there x xs q old) | inr is ↦ inr is ] ]
+  | inl is ↦ inl (subst (λ (z : List ℕ). Contains (x ∷ xs) z) is (here x xs))
+  | inr l ↦ elim (b l) [ inl old ↦ inl (there x xs q old) | inr is ↦ inr is ]
+]
 
 pub put_cases : (lists : List (List ℕ)) (k q : List ℕ) → Contains (put lists k) q → Contains lists q ⊎ (k ≡ q)
 put_cases [] k q h = elim (cons_cases k [] q h) [ inl is ↦ inr is | inr none ↦ absurd (nothing q none) ]

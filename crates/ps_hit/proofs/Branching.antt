@@ -1,13 +1,12 @@
 -- The loop over the numbers of an unmet set.
-use Rattle.std.proofs.Common.{◌≡◌, ◌≢◌, ℕ, zero, suc, ◌+◌, ◌-◌, ◌*◌, ◌<◌, ◌≤◌, Bool, true, false, List, [], ◌∷◌, ◌++◌, length, get_or, take, sym, ap, ◌∙◌, subst, refl, inl, inr, ◌⊎◌, Contains, All, arith}
+use Rattle.std.proofs.Common.{◌≡◌, ℕ, ◌+◌, ◌-◌, ◌*◌, ◌<◌, ◌≤◌, List, [], ◌∷◌, ◌++◌, length, get_or, take, sym, subst, inl, inr, ◌⊎◌, Contains, All, arith}
 use Rattle.std.proofs.lemmas.List.{take_more, take_all}
 use Rattle.std.proofs.lemmas.List.Elements.{All-push, Contains-push, Contains-push_cases, Contains-append_left, Contains-get_or}
-use Rattle.ps_hit.specs.declared.cover.Cover.{Cover}
 use Rattle.ps_hit.specs.declared.cover.Cover.TheVariants.{Unmet}
 use Rattle.ps_hit.specs.declared.node.Node.{Node}
-use Rattle.ps_hit.specs.Hitting.{numbers_of, Meets, IsSubset, IsMinimalHit}
-use Rattle.ps_hit.specs.Covers.{unmet, covers_with}
-use Rattle.ps_hit.specs.Searching.{IsNode, IsBelow, IsChild, HasNoChild, AddsChild, Branches, work, works}
+use Rattle.ps_hit.specs.Hitting.{Meets, IsMinimalHit}
+use Rattle.ps_hit.specs.Covers.{unmet}
+use Rattle.ps_hit.specs.Searching.{IsNode, IsBelow, AddsChild, Branches, work, works}
 use Rattle.ps_hit.proofs.Members.{nothing}
 use Rattle.ps_hit.proofs.CoverSteps.{is_in, unmet_falls}
 use Rattle.ps_hit.proofs.Nodes.{child_node, below_child, no_child, not_chosen, zip_length, work_more, works-append}
@@ -28,36 +27,38 @@ pub record IsUnmet (sets : List (List ℕ)) (node : Node) (place : ℕ) (set : L
 
 pub branching_none : (sets : List (List ℕ)) (node : Node) (set : List ℕ) (before : List Node) (barred : List ℕ) → barred ≡ node.barred.items → Branching sets node set 0 before barred before
 branching_none sets node set before barred same = record {
-    nodes = λ are. are;
-    stays = λ other h. h;
-    reached = λ hit minimal below. inr (rw same below.barred);
-    passed = λ n h. absurd (nothing n h);
-    work_falls = λ most some. omega arith;
-  }
+  nodes = λ are. are;
+  stays = λ other h. h;
+  reached = λ hit minimal below. inr (rw same below.barred);
+  passed = λ n h. absurd (nothing n h);
+  work_falls = λ most some. omega arith;
+}
 
 passed_more : (set : List ℕ) (i : ℕ) (d : ℕ) (barred : List ℕ) → i < length set → ((n : ℕ) → Contains (take i set) n → Contains barred n) → Contains barred (get_or set i d)
     → (n : ℕ) → Contains (take (i + 1) set) n → Contains barred n
 passed_more set i d barred inside passed has n h =
     elim (Contains-push_cases (take i set) (get_or set i d) n (subst (λ (xs : List ℕ). Contains xs n) (take_more set i d inside) h)) [
-      inl old ↦ passed n old
-      | inr is ↦ subst (λ (m : ℕ). Contains barred m) is has ]
+      | inl old ↦ passed n old
+      | inr is ↦ subst (λ (m : ℕ). Contains barred m) is has
+    ]
 
 -- the number was passed before
 pub branching_skip : (sets : List (List ℕ)) (node : Node) (set : List ℕ) (i d : ℕ) (before : List Node) (barred : List ℕ) (after : List Node)
     → Branching sets node set i before barred after → i < length set → Contains barred (get_or set i d) → Branching sets node set (i + 1) before barred after
 branching_skip sets node set i d before barred after b inside has = record {
-    nodes = b.nodes;
-    stays = b.stays;
-    reached = b.reached;
-    passed = passed_more set i d barred inside b.passed has;
-    work_falls = λ most some. omega (arith, b.work_falls most some);
-  }
+  nodes = b.nodes;
+  stays = b.stays;
+  reached = b.reached;
+  passed = passed_more set i d barred inside b.passed has;
+  work_falls = λ most some. omega (arith, b.work_falls most some);
+}
 
 -- a set that has none of the barred, nor the number, has none of the two together
 misses_more : (barred hit : List ℕ) (number : ℕ) → (¬ Meets barred hit) → (¬ Contains hit number) → ¬ Meets (barred ++ number ∷ []) hit
 misses_more barred hit number misses lacks = λ m. elim (Contains-push_cases barred number m.0 m.1) [
-    inl old ↦ misses (m.0, old, m.2)
-    | inr is ↦ lacks (subst (λ (n : ℕ). Contains hit n) (sym is) m.2) ]
+  | inl old ↦ misses (m.0, old, m.2)
+  | inr is ↦ lacks (subst (λ (n : ℕ). Contains hit n) (sym is) m.2)
+]
 
 kept : (after later : List Node) (child : Node) → later ≡ after ++ child ∷ [] → (other : Node) → Contains after other → Contains later other
 kept after later child added other h = rw added (Contains-append_left after (child ∷ []) other h)
@@ -77,10 +78,12 @@ branching_add sets node place set i d before barred barred' after later is at b 
       nodes = λ are. rw none.0 (b.nodes are);
       stays = λ other h. rw none.0 (b.stays other h);
       reached = λ hit minimal below. elim (b.reached hit minimal below) [
-        inl there ↦ inl (there.0, rw none.0 there.1, there.2)
+        | inl there ↦ inl (there.0, rw none.0 there.1, there.2)
         | inr misses ↦ elim (is_in hit number) [
-          inl in_hit ↦ absurd (no_child sets node number hit is new none.1 minimal below in_hit)
-          | inr lacks ↦ inr (rw more (misses_more barred hit number misses lacks)) ] ];
+          | inl in_hit ↦ absurd (no_child sets node number hit is new none.1 minimal below in_hit)
+          | inr lacks ↦ inr (rw more (misses_more barred hit number misses lacks))
+        ]
+      ];
       passed = passed_more set i d barred' inside (λ n h. rw more (Contains-append_left barred (number ∷ []) n (b.passed n h))) (rw more (Contains-push barred number));
       work_falls = λ most some. rw none.0 (omega (arith, b.work_falls most some));
     }
@@ -94,14 +97,16 @@ branching_add sets node place set i d before barred barred' after later is at b 
       nodes = λ are. rw one.1 (All-push (IsNode sets) after child (b.nodes are) (child_node sets node number barred child is new one.2));
       stays = λ other h. kept after later child one.1 other (b.stays other h);
       reached = λ hit minimal below. elim (b.reached hit minimal below) [
-        inl there ↦ inl (there.0, kept after later child one.1 there.0 there.1, there.2)
+        | inl there ↦ inl (there.0, kept after later child one.1 there.0 there.1, there.2)
         | inr misses ↦ elim (is_in hit number) [
-          inl in_hit ↦ inl (child, last after later child one.1, below_child sets node number barred child hit below misses in_hit one.2)
-          | inr lacks ↦ inr (rw more (misses_more barred hit number misses lacks)) ] ];
+          | inl in_hit ↦ inl (child, last after later child one.1, below_child sets node number barred child hit below misses in_hit one.2)
+          | inr lacks ↦ inr (rw more (misses_more barred hit number misses lacks))
+        ]
+      ];
       passed = passed_more set i d barred' inside (λ n h. rw more (Contains-append_left barred (number ∷ []) n (b.passed n h))) (rw more (Contains-push barred number));
       work_falls = λ most some.
-        let less = work_more most (unmet child.covers.items) (unmet node.covers.items - 1) some (omega arith) in
-        rw (one.1, works-append) (omega (arith, b.work_falls most some, less));
+          let less = work_more most (unmet child.covers.items) (unmet node.covers.items - 1) some (omega arith) in
+          rw (one.1, works-append) (omega (arith, b.work_falls most some, less));
     }
 
 -- all numbers of the set are passed
@@ -114,7 +119,8 @@ branching_all sets node set i before barred after b past upto =
       nodes = b.nodes;
       stays = b.stays;
       reached = λ hit minimal below m. elim (b.reached hit minimal below) [
-        inl there ↦ there
-        | inr misses ↦ absurd (misses (m.0, b.passed m.0 (rw all m.2), m.1)) ];
+        | inl there ↦ there
+        | inr misses ↦ absurd (misses (m.0, b.passed m.0 (rw all m.2), m.1))
+      ];
       work_falls = λ most some. rw (← is) (b.work_falls most some);
     }

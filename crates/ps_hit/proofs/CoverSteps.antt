@@ -1,15 +1,15 @@
 -- How the covers change as one more number is chosen.
-use Rattle.std.proofs.Common.{◌≡◌, ◌≢◌, ℕ, suc, zero, ◌+◌, ◌-◌, ◌<◌, ◌≤◌, Bool, true, false, List, [], ◌∷◌, ◌++◌, length, get_or, take, drop, sym, ap, ◌∙◌, subst, refl, inl, inr, ◌⊎◌, Contains, All, arith, append_assoc, eqb, rules}
-use Rattle.std.specs.Prelude.{◌==◌, Any}
+use Rattle.std.proofs.Common.{◌≡◌, ℕ, suc, zero, ◌+◌, ◌<◌, ◌≤◌, Bool, true, false, List, [], ◌∷◌, ◌++◌, length, get_or, drop, sym, subst, refl, inl, inr, ◌⊎◌, Contains, All, arith, append_assoc, eqb, rules}
+use Rattle.std.specs.Prelude.{◌==◌}
 use Rattle.std.specs.List.{list_any, AllZip}
 use Rattle.std.specs.declared.vec.Vec.{Vec}
 use Rattle.std.proofs.lemmas.Bool.{both_ways, eqb-true, eq-eqb, cases_Bool, false≢true, or_cases, or_left, or_right}
 use Rattle.std.proofs.lemmas.List.{drop_more}
-use Rattle.std.proofs.lemmas.List.Elements.{All-head, All-tail, All-nil, All-cons, Contains-append_left, Contains-push, Contains-push_cases}
+use Rattle.std.proofs.lemmas.List.Elements.{All-head, All-tail, Contains-append_left, Contains-push, Contains-push_cases}
 use Rattle.ps_hit.specs.declared.cover.Cover.{Cover}
 use Rattle.ps_hit.specs.declared.cover.Cover.TheVariants.{Unmet, Once, Again}
-use Rattle.ps_hit.specs.Hitting.{numbers_of, Meets}
-use Rattle.ps_hit.specs.Covers.{IsCover, cover_with, covers_with, HasOwn, unmet}
+use Rattle.ps_hit.specs.Hitting.{numbers_of}
+use Rattle.ps_hit.specs.Covers.{IsCover, cover_with, covers_with, unmet}
 use Rattle.ps_hit.proofs.Members.{nothing, cons_cases, here, there}
 
 -- one more set is done
@@ -27,27 +27,31 @@ covers_more n sets covers i set d done all cover has inside same read is becomes
 pub has_from : (xs : List ℕ) (n : ℕ) → list_any (λ m. m == n) xs ≡ true → Contains xs n
 has_from [] n h = absurd (false≢true h)
 has_from (x ∷ xs) n h = elim (or_cases (eqb x n) (list_any (λ m. m == n) xs) h) [
-    inl is ↦ subst (λ (m : ℕ). Contains (x ∷ xs) m) (eqb-true x n is) (here x xs)
-    | inr later ↦ there x xs n (has_from xs n later) ]
+  | inl is ↦ subst (λ (m : ℕ). Contains (x ∷ xs) m) (eqb-true x n is) (here x xs)
+  | inr later ↦ there x xs n (has_from xs n later)
+]
 
 pub has_to : (xs : List ℕ) (n : ℕ) → Contains xs n → list_any (λ m. m == n) xs ≡ true
 has_to [] n h = absurd (nothing n h)
 has_to (x ∷ xs) n h = elim (cons_cases x xs n h) [
-    inl is ↦ or_left (eqb x n) (list_any (λ m. m == n) xs) (eq-eqb x n is)
-    | inr later ↦ or_right (eqb x n) (list_any (λ m. m == n) xs) (has_to xs n later) ]
+  | inl is ↦ or_left (eqb x n) (list_any (λ m. m == n) xs) (eq-eqb x n is)
+  | inr later ↦ or_right (eqb x n) (list_any (λ m. m == n) xs) (has_to xs n later)
+]
 
 -- a list has a number or not
 pub is_in : (xs : List ℕ) (n : ℕ) → Contains xs n ⊎ (¬ Contains xs n)
 is_in xs n = elim (cases_Bool (list_any (λ m. m == n) xs)) [
-    inl has ↦ inl (has_from xs n has)
-    | inr lacks ↦ inr (λ h. both_ways (list_any (λ m. m == n) xs) lacks (has_to xs n h)) ]
+  | inl has ↦ inl (has_from xs n has)
+  | inr lacks ↦ inr (λ h. both_ways (list_any (λ m. m == n) xs) lacks (has_to xs n h))
+]
 
 -- ---- the covers stay right
 
 lacks_more : (chosen set : List ℕ) (n m : ℕ) → (¬ Contains set n) → Contains (chosen ++ n ∷ []) m → Contains set m → Contains chosen m
 lacks_more chosen set n m lacks h in_set = elim (Contains-push_cases chosen n m h) [
-    inl old ↦ old
-    | inr is ↦ absurd (lacks (subst (λ (k : ℕ). Contains set k) (sym is) in_set)) ]
+  | inl old ↦ old
+  | inr is ↦ absurd (lacks (subst (λ (k : ℕ). Contains set k) (sym is) in_set))
+]
 
 still : (chosen : List ℕ) (n m : ℕ) → Contains chosen m → Contains (chosen ++ n ∷ []) m
 still chosen n m h = Contains-append_left chosen (n ∷ []) m h
@@ -79,9 +83,10 @@ pub root_covers : (sets : List (List ℕ)) (covers : List Cover) → length cove
 root_covers [] [] same each = search rules
 root_covers [] (c ∷ cs) same each = absurd (omega (arith, same))
 root_covers (set ∷ sets) [] same each = absurd (omega (arith, same))
-root_covers (set ∷ sets) (c ∷ cs) same each =
-    (subst (λ (k : Cover). IsCover [] set k) (sym (All-head (λ (k : Cover). k ≡ Unmet) c cs each)) (λ h. nothing h.0 h.1),
-     root_covers sets cs (omega (arith, same)) (All-tail (λ (k : Cover). k ≡ Unmet) c cs each))
+root_covers (set ∷ sets) (c ∷ cs) same each = (
+  subst (λ (k : Cover). IsCover [] set k) (sym (All-head (λ (k : Cover). k ≡ Unmet) c cs each)) (λ h. nothing h.0 h.1),
+  root_covers sets cs (omega (arith, same)) (All-tail (λ (k : Cover). k ≡ Unmet) c cs each),
+)
 
 -- ---- fewer sets are unmet
 

@@ -1,12 +1,11 @@
 -- Each number of a minimal hitting set is the only one that meets some set.
 use Rattle.std.proofs.Common.{◌≡◌, ◌≢◌, ℕ, Bool, true, false, cond, List, [], ◌∷◌, sym, ◌∙◌, subst, refl, inl, inr, ◌⊎◌, Contains, All, eqb}
-use Rattle.std.specs.Prelude.{Any}
 use Rattle.std.specs.List.{AllZip}
 use Rattle.std.proofs.lemmas.Bool.{cases_eq, eqb-true, eqb-false}
-use Rattle.std.proofs.lemmas.List.Elements.{All-nil, All-cons, All-head, All-tail, All-contains}
+use Rattle.std.proofs.lemmas.List.Elements.{All-nil, All-cons, All-contains}
 use Rattle.ps_hit.specs.declared.cover.Cover.{Cover}
 use Rattle.ps_hit.specs.declared.cover.Cover.TheVariants.{Unmet, Once, Again}
-use Rattle.ps_hit.specs.Hitting.{Meets, IsSubset, IsStrictSubset, IsHit, IsMinimalHit}
+use Rattle.ps_hit.specs.Hitting.{Meets, IsSubset, IsHit, IsMinimalHit}
 use Rattle.ps_hit.specs.Covers.{IsCover, HasOwn}
 use Rattle.ps_hit.proofs.Members.{nothing, cons_cases, here, there}
 use Rattle.ps_hit.proofs.CoverSteps.{is_in}
@@ -21,8 +20,9 @@ rest_of_first : (n x : ℕ) (xs : List ℕ) (m : ℕ) (t : Bool) → eqb x n ≡
     → Contains (cond t (without n xs) (x ∷ without n xs)) m → Contains (x ∷ xs) m × (m ≢ n)
 rest_of_first n x xs m true e later h = let rest = later h in (there x xs m rest.0, rest.1)
 rest_of_first n x xs m false e later h = elim (cons_cases x (without n xs) m h) [
-    inl is ↦ (subst (λ (k : ℕ). Contains (x ∷ xs) k) is (here x xs), λ same. eqb-false x n e (is ∙ same))
-    | inr h' ↦ (let rest = later h' in (there x xs m rest.0, rest.1)) ]
+  | inl is ↦ (subst (λ (k : ℕ). Contains (x ∷ xs) k) is (here x xs), λ same. eqb-false x n e (is ∙ same))
+  | inr h' ↦ (let rest = later h' in (there x xs m rest.0, rest.1))
+]
 
 rest_of : (n : ℕ) (xs : List ℕ) (m : ℕ) → Contains (without n xs) m → Contains xs m × (m ≢ n)
 unfolding without
@@ -45,18 +45,22 @@ in_rest n (x ∷ xs) m h other = in_rest_first n x xs m (eqb x n) refl other (el
 meets_or_not : (h set : List ℕ) → Meets h set ⊎ (¬ Meets h set)
 meets_or_not [] set = inr (λ m. nothing m.0 m.1)
 meets_or_not (x ∷ xs) set = elim (is_in set x) [
-    inl has ↦ inl (x, here x xs, has)
-    | inr lacks ↦ elim (meets_or_not xs set) [
-      inl m ↦ inl (m.0, there x xs m.0 m.1, m.2)
-      | inr none ↦ inr (λ m. elim (cons_cases x xs m.0 m.1) [ inl is ↦ lacks (subst (λ (k : ℕ). Contains set k) (sym is) m.2) | inr later ↦ none (m.0, later, m.2) ]) ] ]
+  | inl has ↦ inl (x, here x xs, has)
+  | inr lacks ↦ elim (meets_or_not xs set) [
+    | inl m ↦ inl (m.0, there x xs m.0 m.1, m.2)
+    | inr none ↦ inr (λ m. elim (cons_cases x xs m.0 m.1) [ inl is ↦ lacks (subst (λ (k : ℕ). Contains set k) (sym is) m.2) | inr later ↦ none (m.0, later, m.2) ])
+  ]
+]
 
 hits_or_misses : (h : List ℕ) (sets : List (List ℕ)) → IsHit sets h ⊎ ((set : List ℕ) × Contains sets set × (¬ Meets h set))
 hits_or_misses h [] = inl (All-nil (Meets h))
 hits_or_misses h (set ∷ sets) = elim (meets_or_not h set) [
-    inl m ↦ elim (hits_or_misses h sets) [
-      inl all ↦ inl (All-cons (Meets h) set sets m all)
-      | inr missed ↦ inr (missed.0, there set sets missed.0 missed.1, missed.2) ]
-    | inr none ↦ inr (set, here set sets, none) ]
+  | inl m ↦ elim (hits_or_misses h sets) [
+    | inl all ↦ inl (All-cons (Meets h) set sets m all)
+    | inr missed ↦ inr (missed.0, there set sets missed.0 missed.1, missed.2)
+  ]
+  | inr none ↦ inr (set, here set sets, none)
+]
 
 -- some set has this number alone of these
 pub record IsCritical (sets : List (List ℕ)) (hit : List ℕ) (n : ℕ) : Type 0 where
@@ -74,8 +78,9 @@ critical_at sets hit is n set listed missed =
 pub critical : (sets : List (List ℕ)) (hit : List ℕ) → IsMinimalHit sets hit → (n : ℕ) → Contains hit n → IsCritical sets hit n
 critical sets hit is n h =
     elim (hits_or_misses (without n hit) sets) [
-      inl all ↦ absurd (is.minimal (without n hit) ((λ m k. (rest_of n hit m k).0), (λ back. (rest_of n hit n (back n h)).1 refl)) all)
-      | inr missed ↦ critical_at sets hit is n missed.0 missed.1 missed.2 ]
+      | inl all ↦ absurd (is.minimal (without n hit) ((λ m k. (rest_of n hit m k).0), (λ back. (rest_of n hit n (back n h)).1 refl)) all)
+      | inr missed ↦ critical_at sets hit is n missed.0 missed.1 missed.2
+    ]
 
 -- ---- covers and sets
 
@@ -89,8 +94,9 @@ covered : (chosen : List ℕ) (sets : List (List ℕ)) (covers : List Cover) →
 covered chosen [] cs are set h = absurd (nothing set h)
 covered chosen (x ∷ xs) [] are set h = absurd are
 covered chosen (x ∷ xs) (c ∷ cs) are set h = elim (cons_cases x xs set h) [
-    inl is ↦ record { cover = c; listed = here c cs; is = subst (λ (s : List ℕ). IsCover chosen s c) is are.0 }
-    | inr later ↦ let rest = covered chosen xs cs are.1 set later in record { cover = rest.cover; listed = there c cs rest.cover rest.listed; is = rest.is } ]
+  | inl is ↦ record { cover = c; listed = here c cs; is = subst (λ (s : List ℕ). IsCover chosen s c) is are.0 }
+  | inr later ↦ let rest = covered chosen xs cs are.1 set later in record { cover = rest.cover; listed = there c cs rest.cover rest.listed; is = rest.is }
+]
 
 -- a cover among the covers, with its set
 covers_set : (chosen : List ℕ) (sets : List (List ℕ)) (covers : List Cover) → AllZip (IsCover chosen) sets covers → (c : Cover) → Contains covers c
@@ -99,8 +105,9 @@ covers_set chosen [] [] are c h = absurd (nothing c h)
 covers_set chosen [] (x ∷ xs) are c h = absurd are
 covers_set chosen (s ∷ ss) [] are c h = absurd are
 covers_set chosen (s ∷ ss) (x ∷ xs) are c h = elim (cons_cases x xs c h) [
-    inl is ↦ (s, here s ss, subst (λ (k : Cover). IsCover chosen s k) is are.0)
-    | inr later ↦ (let rest = covers_set chosen ss xs are.1 c later in (rest.0, there s ss rest.0 rest.1, rest.2)) ]
+  | inl is ↦ (s, here s ss, subst (λ (k : Cover). IsCover chosen s k) is are.0)
+  | inr later ↦ (let rest = covers_set chosen ss xs are.1 c later in (rest.0, there s ss rest.0 rest.1, rest.2))
+]
 
 contains_once : (covers : List Cover) (n : ℕ) → HasOwn covers n → Contains covers (Once n)
 contains_once covers n h = subst (λ (c : Cover). Contains covers c) h.4 (h.0, h.2, h.3)
@@ -145,13 +152,13 @@ hits_all h (set ∷ sets) each = All-cons (Meets h) set sets (each set (here set
 pub leaf_minimal : (sets : List (List ℕ)) (chosen hit : List ℕ) (covers : List Cover) → AllZip (IsCover chosen) sets covers → All (HasOwn covers) chosen
     → All (λ (c : Cover). c ≢ Unmet) covers → IsSubset chosen hit → IsSubset hit chosen → IsMinimalHit sets hit
 leaf_minimal sets chosen hit covers are own met to back = record {
-    hits = hits_all hit sets (λ set listed. let m = all_met chosen sets covers are met set listed in (m.0, to m.0 m.1, m.2));
-    minimal = λ part strict hits. strict.1 (λ n h.
+  hits = hits_all hit sets (λ set listed. let m = all_met chosen sets covers are met set listed in (m.0, to m.0 m.1, m.2));
+  minimal = λ part strict hits. strict.1 (λ n h.
       let in_chosen : Contains chosen n = back n h in
       let s = covers_set chosen sets covers are (Once n) (contains_once covers n (All-contains (HasOwn covers) chosen n own in_chosen)) in
       let m : Meets part s.0 = All-contains (Meets part) sets s.0 hits s.1 in
       subst (λ (k : ℕ). Contains part k) (s.2.2 m.0 (back m.0 (strict.0 m.0 m.1)) m.2) m.1);
-  }
+}
 
 -- a minimal hitting set that has such numbers has no others
 pub leaf_all : (sets : List (List ℕ)) (chosen hit : List ℕ) (covers : List Cover) → AllZip (IsCover chosen) sets covers → All (λ (c : Cover). c ≢ Unmet) covers

@@ -1,11 +1,10 @@
 -- A node's children, and the work that is left below nodes.
-use Rattle.std.proofs.Common.{◌≡◌, ◌≢◌, ℕ, zero, suc, ◌+◌, ◌-◌, ◌*◌, ◌<◌, ◌≤◌, Bool, true, false, List, [], ◌∷◌, ◌++◌, length, get_or, take, sym, ap, ◌∙◌, subst, refl, inl, inr, ◌⊎◌, Contains, All, arith, eqb, rules}
+use Rattle.std.proofs.Common.{◌≡◌, ℕ, zero, suc, ◌+◌, ◌<◌, ◌≤◌, Bool, true, false, List, [], ◌∷◌, ◌++◌, length, get_or, sym, ap, ◌∙◌, subst, refl, inl, inr, Contains, All, arith, eqb, rules}
 use Rattle.std.specs.List.{list_any, AllZip, IsDistinct}
 use Rattle.std.specs.Cmp.{nat_eq_equiv}
 use Rattle.std.specs.declared.vec.Vec.{Vec}
 use Rattle.std.proofs.lemmas.Bool.{both_ways, false≢true, eqb-true, or_cases, false_from_ne_true}
-use Rattle.std.proofs.lemmas.List.{take_more}
-use Rattle.std.proofs.lemmas.List.Elements.{All-nil, All-push, All-contains, Contains-push, Contains-push_cases, Contains-append_left, Contains-get_or}
+use Rattle.std.proofs.lemmas.List.Elements.{All-nil, Contains-push_cases, Contains-get_or}
 use Rattle.std.proofs.lemmas.Map.Keys.{IsDistinct-push}
 use Rattle.std.proofs.Math.Nat.{mul-le-mul_left}
 use Rattle.ps_hit.specs.declared.cover.Cover.{Cover}
@@ -13,9 +12,9 @@ use Rattle.ps_hit.specs.declared.cover.Cover.TheVariants.{Unmet}
 use Rattle.ps_hit.specs.declared.node.Node.{Node}
 use Rattle.ps_hit.specs.Hitting.{numbers_of, Meets, IsSubset, IsMinimalHit}
 use Rattle.ps_hit.specs.Covers.{IsCover, HasOwn, covers_with, unmet}
-use Rattle.ps_hit.specs.Searching.{IsNode, IsBelow, IsChild, HasNoChild, AddsChild, Branches, work, works}
-use Rattle.ps_hit.proofs.Members.{nothing, cons_cases, here, there}
-use Rattle.ps_hit.proofs.CoverSteps.{covers_step, root_covers, unmet_falls}
+use Rattle.ps_hit.specs.Searching.{IsNode, IsBelow, IsChild, HasNoChild, AddsChild, work, works}
+use Rattle.ps_hit.proofs.Members.{here, there}
+use Rattle.ps_hit.proofs.CoverSteps.{covers_step, root_covers}
 use Rattle.ps_hit.proofs.Critical.{has_own_below}
 
 -- ---- nodes
@@ -47,24 +46,25 @@ none_twice = search rules
 pub root_node : {A : Type 0} (sets : List (Vec ℕ A)) (node : Node) → node.chosen.items ≡ [] → length node.covers.items ≡ length sets → All (λ (c : Cover). c ≡ Unmet) node.covers.items
     → IsNode (numbers_of sets) node
 root_node sets node chosen same each = record {
-    covers = rw chosen (root_covers (numbers_of sets) node.covers.items (same ∙ sym (length-numbers_of sets)) each);
-    own = rw chosen (All-nil (HasOwn node.covers.items));
-    distinct = rw chosen none_twice;
-  }
+  covers = rw chosen (root_covers (numbers_of sets) node.covers.items (same ∙ sym (length-numbers_of sets)) each);
+  own = rw chosen (All-nil (HasOwn node.covers.items));
+  distinct = rw chosen none_twice;
+}
 
 eq_from : (xs : List ℕ) (n : ℕ) → list_any (eqb n) xs ≡ true → Contains xs n
 eq_from [] n h = absurd (false≢true h)
 eq_from (x ∷ xs) n h = elim (or_cases (eqb n x) (list_any (eqb n) xs) h) [
-    inl is ↦ subst (λ (m : ℕ). Contains (x ∷ xs) m) (sym (eqb-true n x is)) (here x xs)
-    | inr later ↦ there x xs n (eq_from xs n later) ]
+  | inl is ↦ subst (λ (m : ℕ). Contains (x ∷ xs) m) (sym (eqb-true n x is)) (here x xs)
+  | inr later ↦ there x xs n (eq_from xs n later)
+]
 
 pub child_node : (sets : List (List ℕ)) (node : Node) (number : ℕ) (passed : List ℕ) (child : Node) → IsNode sets node → (¬ Contains node.chosen.items number)
     → IsChild sets node number passed child → IsNode sets child
 child_node sets node number passed child is new made = record {
-    covers = rw (made.chosen, made.covers) (covers_step node.chosen.items number new sets node.covers.items is.covers);
-    own = made.own;
-    distinct = rw made.chosen (IsDistinct-push nat_eq_equiv node.chosen.items number is.distinct (false_from_ne_true (list_any (eqb number) node.chosen.items) (λ h. new (eq_from node.chosen.items number h))));
-  }
+  covers = rw (made.chosen, made.covers) (covers_step node.chosen.items number new sets node.covers.items is.covers);
+  own = made.own;
+  distinct = rw made.chosen (IsDistinct-push nat_eq_equiv node.chosen.items number is.distinct (false_from_ne_true (list_any (eqb number) node.chosen.items) (λ h. new (eq_from node.chosen.items number h))));
+}
 
 -- a number of an unmet set is not chosen yet
 pub not_chosen : (sets : List (List ℕ)) (node : Node) → IsNode sets node → (place : ℕ) (d : Cover) → place < length sets → get_or node.covers.items place d ≡ Unmet
@@ -75,15 +75,16 @@ not_chosen sets node is place d within unmet_there n has = λ h.
 
 chosen_more : (chosen hit : List ℕ) (number : ℕ) → IsSubset chosen hit → Contains hit number → IsSubset (chosen ++ number ∷ []) hit
 chosen_more chosen hit number below has n h = elim (Contains-push_cases chosen number n h) [
-    inl old ↦ below n old
-    | inr is ↦ subst (λ (m : ℕ). Contains hit m) is has ]
+  | inl old ↦ below n old
+  | inr is ↦ subst (λ (m : ℕ). Contains hit m) is has
+]
 
 pub below_child : (sets : List (List ℕ)) (node : Node) (number : ℕ) (passed : List ℕ) (child : Node) (hit : List ℕ) → IsBelow node hit → (¬ Meets passed hit) → Contains hit number
     → IsChild sets node number passed child → IsBelow child hit
 below_child sets node number passed child hit below misses has made = record {
-    chosen = rw made.chosen (chosen_more node.chosen.items hit number below.chosen has);
-    barred = rw made.barred misses;
-  }
+  chosen = rw made.chosen (chosen_more node.chosen.items hit number below.chosen has);
+  barred = rw made.barred misses;
+}
 
 pub no_child : (sets : List (List ℕ)) (node : Node) (number : ℕ) (hit : List ℕ) → IsNode sets node → (¬ Contains node.chosen.items number) → HasNoChild sets node number
     → IsMinimalHit sets hit → IsBelow node hit → Contains hit number → ⊥
@@ -91,7 +92,7 @@ no_child sets node number hit is new none minimal below has =
     let more = chosen_more node.chosen.items hit number below.chosen has in
     let covers = covers_step node.chosen.items number new sets node.covers.items is.covers in
     none (λ k d inside. has_own_below sets (node.chosen.items ++ number ∷ []) hit (covers_with number sets node.covers.items) covers minimal more
-      _ (Contains-get_or (node.chosen.items ++ number ∷ []) k d inside))
+    _ (Contains-get_or (node.chosen.items ++ number ∷ []) k d inside))
 
 -- ---- what `add_child` leaves
 

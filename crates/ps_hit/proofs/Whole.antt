@@ -1,17 +1,17 @@
 -- The whole search: what it keeps, and why it ends.
-use Rattle.std.proofs.Common.{◌≡◌, ◌≢◌, ℕ, zero, suc, ◌+◌, ◌-◌, ◌*◌, ◌<◌, ◌≤◌, List, [], ◌∷◌, ◌++◌, length, get_or, sym, ap, ◌∙◌, subst, refl, inl, inr, ◌⊎◌, Contains, All, arith}
+use Rattle.std.proofs.Common.{◌≡◌, ◌≢◌, ℕ, zero, suc, ◌+◌, ◌-◌, ◌*◌, ◌<◌, ◌≤◌, List, [], ◌∷◌, ◌++◌, length, get_or, sym, subst, refl, inl, inr, ◌⊎◌, Contains, All, arith}
 use Rattle.std.specs.Prelude.{◌↔◌}
 use Rattle.std.specs.List.Sorted.{IsStrictlyIncreasing}
 use Rattle.std.proofs.Math.Nat.{mul-le-mul_left}
-use Rattle.std.proofs.lemmas.List.Elements.{All-nil, All-cons, All-push, All-contains, Contains-get_or, Contains-push, Contains-push_cases, Contains-append_left}
+use Rattle.std.proofs.lemmas.List.Elements.{All-nil, All-cons, All-contains, Contains-get_or, Contains-push, Contains-push_cases, Contains-append_left}
 use Rattle.ps_hit.specs.declared.cover.Cover.{Cover}
 use Rattle.ps_hit.specs.declared.cover.Cover.TheVariants.{Unmet, Once, Again}
 use Rattle.ps_hit.specs.declared.node.Node.{Node}
-use Rattle.ps_hit.specs.Hitting.{Meets, IsSubset, IsMinimalHit, IsListed}
-use Rattle.ps_hit.specs.Answer.{IsLexicographic, HasMore}
+use Rattle.ps_hit.specs.Hitting.{Meets, IsSubset, IsListed}
+use Rattle.ps_hit.specs.Answer.{IsLexicographic}
 use Rattle.ps_hit.specs.Covers.{unmet}
 use Rattle.ps_hit.specs.Searching.{IsNode, IsBelow, Branches, work, works}
-use Rattle.ps_hit.proofs.Members.{nothing, here, there}
+use Rattle.ps_hit.proofs.Members.{nothing, here}
 use Rattle.ps_hit.proofs.Critical.{leaf_minimal, leaf_all}
 use Rattle.ps_hit.proofs.Ascending.{put, put_keeps, put_new, put_cases, same_ascending}
 use Rattle.ps_hit.proofs.Nodes.{works-append, work_some}
@@ -26,12 +26,15 @@ pub record Searching (sets found : List (List ℕ)) (waiting : List Node) : Type
 pub searching_first : (sets : List (List ℕ)) (node : Node) (found : List (List ℕ)) (waiting : List Node) → found ≡ [] → IsLexicographic found → waiting ≡ [] ++ node ∷ [] → IsNode sets node
     → node.chosen.items ≡ [] → node.barred.items ≡ [] → Searching sets found waiting
 searching_first sets node found waiting none up one is chosen barred = record {
-    nodes = rw one (All-cons (IsNode sets) node [] is (All-nil (IsNode sets)));
-    minimal = rw none (All-nil (IsListed sets));
-    every = λ hit listed. inr (node, rw one (here node []),
-      record { chosen = rw chosen (λ n h. absurd (nothing n h)); barred = rw barred (λ m. nothing m.0 m.1) });
-    ordered = up;
-  }
+  nodes = rw one (All-cons (IsNode sets) node [] is (All-nil (IsNode sets)));
+  minimal = rw none (All-nil (IsListed sets));
+  every = λ hit listed. inr (
+    node,
+    rw one (here node []),
+    record { chosen = rw chosen (λ n h. absurd (nothing n h)); barred = rw barred (λ m. nothing m.0 m.1) },
+  );
+  ordered = up;
+}
 
 rest_nodes : (sets : List (List ℕ)) (waiting rest : List Node) (node : Node) → waiting ≡ rest ++ node ∷ [] → All (IsNode sets) waiting → All (IsNode sets) rest
 rest_nodes sets waiting rest node popped are k d inside =
@@ -44,16 +47,18 @@ last_node sets found waiting rest node popped s = All-contains (IsNode sets) wai
 pub searching_branch : (sets found : List (List ℕ)) (waiting rest after : List Node) (node : Node) (place : ℕ) → Searching sets found waiting → waiting ≡ rest ++ node ∷ []
     → place < length sets → Branches sets node (get_or sets place []) rest after → Searching sets found after
 searching_branch sets found waiting rest after node place s popped within b = record {
-    nodes = b.nodes (rest_nodes sets waiting rest node popped s.nodes);
-    minimal = s.minimal;
-    every = λ hit listed. elim (s.every hit listed) [
-      inl known ↦ inl known
-      | inr some ↦ elim (Contains-push_cases rest node some.0 (subst (λ (nodes : List Node). Contains nodes some.0) popped some.1)) [
-        inl later ↦ inr (some.0, b.stays some.0 later, some.2)
-        | inr is ↦ inr (b.reached hit listed.is_minimal (subst (λ (n : Node). IsBelow n hit) (sym is) some.2)
-          (All-contains (Meets hit) sets (get_or sets place []) listed.is_minimal.hits (Contains-get_or sets place [] within))) ] ];
-    ordered = s.ordered;
-  }
+  nodes = b.nodes (rest_nodes sets waiting rest node popped s.nodes);
+  minimal = s.minimal;
+  every = λ hit listed. elim (s.every hit listed) [
+    | inl known ↦ inl known
+    | inr some ↦ elim (Contains-push_cases rest node some.0 (subst (λ (nodes : List Node). Contains nodes some.0) popped some.1)) [
+      | inl later ↦ inr (some.0, b.stays some.0 later, some.2)
+      | inr is ↦ inr (b.reached hit listed.is_minimal (subst (λ (n : Node). IsBelow n hit) (sym is) some.2)
+          (All-contains (Meets hit) sets (get_or sets place []) listed.is_minimal.hits (Contains-get_or sets place [] within)))
+    ]
+  ];
+  ordered = s.ordered;
+}
 
 -- a node went at which each set is met, and its numbers were found
 pub searching_leaf : (sets found found' : List (List ℕ)) (waiting rest : List Node) (node : Node) (list : List ℕ) → Searching sets found waiting → waiting ≡ rest ++ node ∷ []
@@ -65,25 +70,29 @@ searching_leaf sets found found' waiting rest node list s popped met up same add
     record {
       nodes = rest_nodes sets waiting rest node popped s.nodes;
       minimal = rw added (λ k d inside. elim (put_cases found list _ (Contains-get_or (put found list) k d inside)) [
-        inl old ↦ All-contains (IsListed sets) found _ s.minimal old
-        | inr is_new ↦ subst (λ (l : List ℕ). IsListed sets l) is_new minimal ]);
+        | inl old ↦ All-contains (IsListed sets) found _ s.minimal old
+        | inr is_new ↦ subst (λ (l : List ℕ). IsListed sets l) is_new minimal
+      ]);
       every = λ hit listed. elim (s.every hit listed) [
-        inl known ↦ inl (rw added (put_keeps found list hit known))
+        | inl known ↦ inl (rw added (put_keeps found list hit known))
         | inr some ↦ elim (Contains-push_cases rest node some.0 (subst (λ (nodes : List Node). Contains nodes some.0) popped some.1)) [
-          inl later ↦ inr (some.0, later, some.2)
+          | inl later ↦ inr (some.0, later, some.2)
           | inr is_this ↦
               let below : IsBelow node hit = subst (λ (n : Node). IsBelow n hit) (sym is_this) some.2 in
               let all : IsSubset hit node.chosen.items = leaf_all sets node.chosen.items hit node.covers.items is.covers met listed.is_minimal below.chosen in
               let equal : list ≡ hit = same_ascending list hit up listed.ascends (λ n h. below.chosen n ((same n).0 h)) (λ n h. (same n).1 (all n h)) in
-              inl (rw added (subst (λ (l : List ℕ). Contains (put found list) l) equal (put_new found list))) ] ];
+              inl (rw added (subst (λ (l : List ℕ). Contains (put found list) l) equal (put_new found list)))
+        ]
+      ];
       ordered = ordered;
     }
 
 -- where nothing waits, each was found
 pub searched_every : (sets found : List (List ℕ)) → Searching sets found [] → (hit : List ℕ) → IsListed sets hit → Contains found hit
 searched_every sets found s hit listed = elim (s.every hit listed) [
-    inl known ↦ known
-    | inr some ↦ absurd (nothing some.0 some.1) ]
+  | inl known ↦ known
+  | inr some ↦ absurd (nothing some.0 some.1)
+]
 
 -- ---- the end of the search
 
@@ -119,7 +128,7 @@ pub branch_less : (sets : List (List ℕ)) (waiting rest after : List Node) (nod
     → get_or node.covers.items place d ≡ Unmet → Branches sets node (get_or sets place []) rest after → works (1 + sizes sets) after < works (1 + sizes sets) waiting
 branch_less sets waiting rest after node place d popped within within' is b =
     rw (popped, works-append) (one_less (1 + sizes sets) (sizes sets) (length (get_or sets place [])) (unmet node.covers.items) (works (1 + sizes sets) rest) (works (1 + sizes sets) after)
-      refl (size_at sets place within) (unmet_some node.covers.items place d within' is) (b.work_falls (1 + sizes sets) (omega arith)))
+    refl (size_at sets place within) (unmet_some node.covers.items place d within' is) (b.work_falls (1 + sizes sets) (omega arith)))
 
 pub leaf_less : (sets : List (List ℕ)) (waiting rest : List Node) (node : Node) → waiting ≡ rest ++ node ∷ [] → works (1 + sizes sets) rest < works (1 + sizes sets) waiting
 leaf_less sets waiting rest node popped =

@@ -1,7 +1,5 @@
-use Rattle.std.specs.Prelude.{◌≡◌, ◌≢◌, ℕ, zero, suc, ◌-◌, ◌+◌, ◌*◌, ◌<◌, ◌≤◌, ◌⊎◌, List, [], ◌∷◌, ◌++◌, length, All, Contains, nat_eq}
+use Rattle.std.specs.Prelude.{◌≡◌, ℕ, zero, suc, ◌-◌, ◌+◌, ◌*◌, ◌≤◌, ◌⊎◌, List, [], ◌∷◌, ◌++◌, length, All, Contains, nat_eq}
 use Rattle.std.specs.List.{AllZip, IsDistinct}
-use Rattle.ps_hit.specs.declared.cover.Cover.{Cover}
-use Rattle.ps_hit.specs.declared.cover.Cover.TheVariants.{Unmet}
 use Rattle.ps_hit.specs.declared.node.Node.{Node}
 use Rattle.ps_hit.specs.Hitting.{Meets, IsSubset, IsMinimalHit}
 use Rattle.ps_hit.specs.Covers.{IsCover, HasOwn, covers_with, unmet}

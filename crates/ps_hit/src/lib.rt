@@ -7,25 +7,64 @@ mod lists;
 mod node;
 mod search;
 
-
-
 pub use hits::Hits;
-pub use search::minimal_hits;
 pub use lists::{NumberLists, Numbers};
-
+pub use search::minimal_hits;
 
 #[cfg(test)]
 mod tests {
     use super::*;
     use std::alloc::{AllocError, Global};
+    use std::mem;
     use std::test::Fail;
 
-    fn sets_of(alloc: Global, sets: &[&[u32]]) -> Result<Vec<Vec<u32>>, AllocError> {
-        let mut all = Vec::new(alloc);
-        for set in sets {
-            all.push(Vec::from_slice(alloc, set)?)?;
+    // Reads sets of digits, each of which ends with a semicolon.
+    fn sets_of(alloc: Global, text: &str) -> Result<Vec<Vec<u32>>, AllocError> {
+        let mut sets = Vec::new(alloc);
+        let mut set = Vec::new(alloc);
+        for byte in text.bytes() {
+            if byte == b';' {
+                sets.push(mem::replace(&mut set, Vec::new(alloc)))?;
+            } else {
+                set.push(u32::from(byte.saturating_sub(b'0')))?;
+            }
         }
-        Ok(all)
+        Ok(sets)
+    }
+
+    fn shown(alloc: Global, hits: &Hits) -> Result<String, AllocError> {
+        let mut text = String::new(alloc);
+        match hits {
+            Hits::All(lists) => {
+                for list in lists.as_slice() {
+                    for number in list.as_slice() {
+                        text.push_str(format!(in alloc; "{number}")?.as_str())?;
+                    }
+                    text.push(';')?;
+                }
+            }
+            Hits::TooMany => text.push_str("too many")?,
+        }
+        Ok(text)
+    }
+
+    #[test]
+    fn lists_each_minimal_set(rt: HostRuntime) -> Result<(), Fail> {
+        let cases = [
+            ("12;23;", 2, "13;2;"),
+            ("12;23;", 1, "too many"),
+            ("", 1, ";"),
+            ("", 0, "too many"),
+            ("12;;3;", 0, ""),
+            ("949;7474;", 5, "4;79;"),
+            ("5;56;85;", 1, "5;"),
+            ("31;23;12;", 3, "12;13;23;"),
+        ];
+        for (sets, most, want) in cases {
+            let hits = minimal_hits(rt.alloc(), sets_of(rt.alloc(), sets)?.as_slice(), most)?;
+            assert_eq!(rt; shown(rt.alloc(), &hits.copy(rt.alloc())?)?.as_str(), want);
+        }
+        Ok(())
     }
 
     // The pairs 0 1, 2 3 and so on, of which each choice of one number a pair is a minimal hitting set.
@@ -37,49 +76,19 @@ mod tests {
         Ok(all)
     }
 
-    fn listed(hits: Hits) -> Option<Vec<Numbers>> {
+    fn count_of(hits: Hits) -> Option<usize> {
         match hits {
-            Hits::All(lists) => Some(lists.into_vec()),
+            Hits::All(lists) => Some(lists.into_vec().len()),
             Hits::TooMany => None,
         }
     }
 
     #[test]
-    fn lists_each_minimal_set(rt: HostRuntime) -> Result<(), Fail> {
-        let cases: [(&[&[u32]], u32, Option<&[&[u32]]>); 8] = [
-            (&[&[1, 2], &[2, 3]], 2, Some(&[&[1, 3], &[2]])),
-            (&[&[1, 2], &[2, 3]], 1, None),
-            (&[], 1, Some(&[&[]])),
-            (&[], 0, None),
-            (&[&[1, 2], &[], &[3]], 0, Some(&[])),
-            (&[&[9, 4, 9], &[7, 4, 7, 4]], 5, Some(&[&[4], &[7, 9]])),
-            (&[&[5], &[5, 6], &[8, 5]], 1, Some(&[&[5]])),
-            (&[&[3, 1], &[2, 3], &[1, 2]], 3, Some(&[&[1, 2], &[1, 3], &[2, 3]])),
-        ];
-        for (sets, most, want) in cases {
-            let hits = minimal_hits(rt.alloc(), sets_of(rt.alloc(), sets)?.as_slice(), most)?;
-            match (listed(hits.copy(rt.alloc())?), want) {
-                (Some(lists), Some(want)) => {
-                    assert_eq!(rt; lists.len(), want.len());
-                    for (list, numbers) in lists.as_slice().iter().zip(want.iter()) {
-                        assert_eq!(rt; list.as_slice(), *numbers);
-                    }
-                }
-                (None, None) => {}
-                _ => assert!(rt; false, "the other answer"),
-            }
-        }
-        Ok(())
-    }
-
-    #[test]
     fn stops_past_the_most(rt: HostRuntime) -> Result<(), Fail> {
-        let ten = minimal_hits(rt.alloc(), pairs(rt.alloc(), 10)?.as_slice(), 1024)?;
-        assert_eq!(rt; listed(ten).map(|lists| lists.len()), Some(1024));
-        let eleven = minimal_hits(rt.alloc(), pairs(rt.alloc(), 11)?.as_slice(), 1024)?;
-        assert!(rt; listed(eleven).is_none());
-        let less = minimal_hits(rt.alloc(), pairs(rt.alloc(), 10)?.as_slice(), 1023)?;
-        assert!(rt; listed(less).is_none());
+        for (count, most, want) in [(10, 1024, Some(1024)), (10, 1023, None), (11, 1024, None)] {
+            let hits = minimal_hits(rt.alloc(), pairs(rt.alloc(), count)?.as_slice(), most)?;
+            assert_eq!(rt; count_of(hits), want);
+        }
         Ok(())
     }
 }

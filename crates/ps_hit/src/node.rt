@@ -3,7 +3,7 @@ ghost use Rattle.std.specs.Prelude.{◌≡◌, [], IfOk, OnOk};
 ghost use Rattle.ps_hit.specs.Hitting.{numbers_of};
 ghost use Rattle.ps_hit.specs.Searching.{IsNode, AddsChild};
 
-use crate::cover::{all_have_own, chosen_too, none_chosen, Cover};
+use crate::cover::{Cover, all_have_own, chosen_too, none_chosen};
 use std::alloc::{AllocError, Global};
 
 /// What is chosen, what may be chosen no more, and how the chosen numbers meet the sets.
@@ -38,7 +38,8 @@ pub fn add_child(
     waiting: &mut Vec<Node>,
 ) -> Result<(), AllocError>
     requires { IsNode (numbers_of sets.now) node.now }
-    ensures { OnOk result (AddsChild (numbers_of sets.now) node.now number barred.now waiting.old.items waiting.new.items) }
+    ensures { OnOk result (AddsChild (numbers_of sets.now) node.now number barred.now
+        waiting.old.items waiting.new.items) }
 {
     let covers = chosen_too(alloc, sets, node.covers.as_slice(), number)?;
     let mut chosen = Vec::from_slice(alloc, node.chosen.as_slice())?;

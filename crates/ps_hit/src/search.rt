@@ -1,16 +1,15 @@
 //! The search for the minimal hitting sets.
-ghost use Rattle.std.specs.Prelude.{◌≡◌, ◌<◌, ◌≤◌, ◌↔◌, ℕ, List, [], IfOk, OnOk, Contains, All, length, slice_index_or};
-ghost use Rattle.std.specs.Prelude.{nat_eq};
+ghost use Rattle.std.specs.Prelude.{◌≡◌, ◌<◌, ◌≤◌, ◌↔◌, ℕ, List, [], IfOk, OnOk, Contains, All, length, slice_index_or, nat_eq};
 ghost use Rattle.std.specs.List.{HoldsAt, IsDistinct};
 ghost use Rattle.std.specs.List.Sorted.{IsStrictlyIncreasing};
 ghost use Rattle.ps_hit.specs.Answer.{IfAll, OnTooMany, IsLexicographic, HasMore};
 ghost use Rattle.ps_hit.specs.Hitting.{numbers_of, IsListed};
 ghost use Rattle.ps_hit.specs.Searching.{IsNode, Branches};
 
-use crate::cover::{shortest_unmet, Cover};
+use crate::cover::{Cover, shortest_unmet};
 use crate::hits::Hits;
 use crate::lists::{NumberLists, Numbers};
-use crate::node::{add_child, root, Node};
+use crate::node::{Node, add_child, root};
 use std::alloc::{AllocError, Global};
 use std::collections::BTreeSet;
 
@@ -23,7 +22,8 @@ use std::collections::BTreeSet;
 /// takes one pass over the sets. The search ends once more than `most` sets were found.
 pub fn minimal_hits(alloc: Global, sets: &[Vec<u32>], most: u32) -> Result<Hits, AllocError>
     ensures minimal { IfOk result (λ hits. IfAll hits (All (IsListed (numbers_of sets.now)))) }
-    ensures every { IfOk result (λ hits. IfAll hits (λ all. (hit : List ℕ) → IsListed (numbers_of sets.now) hit → Contains all hit)) }
+    ensures every { IfOk result (λ hits. IfAll hits (λ all.
+        (hit : List ℕ) → IsListed (numbers_of sets.now) hit → Contains all hit)) }
     ensures ordered { IfOk result (λ hits. IfAll hits IsLexicographic) }
     ensures few { IfOk result (λ hits. IfAll hits (λ all. length all ≤ most)) }
     ensures too_many { IfOk result (λ hits. OnTooMany hits (HasMore (numbers_of sets.now) most)) }

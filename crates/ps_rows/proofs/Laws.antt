@@ -1,13 +1,12 @@
 -- The two laws of rows with their multipliers: what is read is spelled so, and what is spelled so is read.
-use Rattle.std.proofs.Common.{◌≡◌, ℕ, ◌^◌, ◌<◌, ◌≤◌, List, [], ◌∷◌, ◌++◌, map, length, Result, Ok, Err, refl, sym, ap, subst, ◌∙◌, arith, append_assoc, Bool, true, false, not, ◌&&◌, eqb}
-use Rattle.std.proofs.lemmas.Bool.{and_parts, not-true}
-use Rattle.std.specs.Prelude.{IfOk, decimal, codes}
+use Rattle.std.proofs.Common.{◌≡◌, ℕ, ◌^◌, ◌<◌, List, [], ◌∷◌, ◌++◌, map, length, refl, sym, ap, subst, ◌∙◌, arith, append_assoc}
+use Rattle.std.specs.Prelude.{decimal, codes}
 use Rattle.std.specs.List.{flat_map, AllByRecursion}
 use Rattle.std.proofs.lemmas.List.{append-nil}
 use Rattle.ps_term.specs.declared.row.Row.{Row}
 use Rattle.ps_text.specs.Tokens.{Token, Field, Newline, after_blank, line_bytes, text_bytes, line_tokens, text_tokens}
-use Rattle.ps_text.specs.Reading.{At, and_then, ◌>>=◌, leaf_at, natural, times_at}
-use Rattle.ps_text.proofs.Bytes.{IsPlain, IsClean, AreClean, IsClean-append}
+use Rattle.ps_text.specs.Reading.{At, leaf_at, natural, times_at}
+use Rattle.ps_text.proofs.Bytes.{IsPlain, IsClean, AreClean, IsClean-append, plain_word, spread_mapped, flat_map-map}
 use Rattle.ps_text.proofs.Decimals.{natural_is_leaf}
 use Rattle.ps_text.proofs.Exact.{Finds, Gets, found_bind, found_end, gets_bind, gets_end, Exact, Always, leaf_exact, line_exact, end_exact, ended-append}
 use Rattle.ps_text.proofs.Forms.{only_exact, header_tokens, header_exact, times_exact, done_found, done_again, IsFormat}
@@ -16,18 +15,6 @@ use Rattle.ps_rows.specs.declared.claim.Claim.{Claim}
 use Rattle.ps_rows.specs.Spelling.{row_line, multipliers_line, claim_lines, RowFits, ClaimFits}
 use Rattle.ps_rows.specs.Reading.{row_at, multipliers_at, claim_at}
 
--- whether a word has neither a blank nor a line feed
-abbrev is_plain : List ℕ → Bool
-is_plain [] = true
-is_plain (b ∷ bs) = not (eqb b 32) && (not (eqb b 10) && is_plain bs)
-
-plain_word : (bs : List ℕ) → is_plain bs ≡ true → IsPlain bs
-plain_word [] h = tt
-plain_word (b ∷ bs) h =
-    let p = and_parts _ _ h in
-    let q = and_parts _ _ p.1 in
-    (record { no_blank = not-true _ p.0; no_feed = not-true _ q.0 }, plain_word bs q.1)
-
 -- ---- a row
 
 abbrev row_tokens : Row → List Token
@@ -35,9 +22,6 @@ row_tokens r = line_tokens (row_line r)
 
 row_plain : IsPlain (codes "row")
 row_plain = plain_word (codes "row") refl
-
-abbrev make_row : Row → Row
-make_row r = r
 
 row_found : (at : At) → Finds (row_at at) (λ y. (at.tokens ≡ row_tokens y.0 ++ y.1.tokens) × RowFits y.0)
 unfolding row_at
@@ -118,11 +102,6 @@ end_plain = plain_word (codes "end") refl
 rows_plain : IsPlain (codes "rows")
 rows_plain = plain_word (codes "rows") refl
 
--- lines of a list, with lines after them
-spread_mapped : {X A B : Type 0} (s : B → List A) (f : X → B) (xs : List X) (ys : List B) → flat_map s (map f xs ++ ys) ≡ flat_map (λ x. s (f x)) xs ++ flat_map s ys
-spread_mapped s f [] ys = refl
-spread_mapped s f (x ∷ xs) ys = ap (λ r. s (f x) ++ r) (spread_mapped s f xs ys) ∙ sym (append_assoc (s (f x)) (flat_map (λ y. s (f y)) xs) (flat_map s ys))
-
 abbrev end_tokens : List Token
 end_tokens = Field (codes "end") ∷ (Newline ∷ [])
 
@@ -146,9 +125,11 @@ claim_found at =
     found_bind _ _ _ _ (done_found e.1) (λ d t.
     let claim : Claim = record { rows = rows.0; multipliers = ns.0 } in
     let all : at.tokens ≡ header_tokens (codes "rows") n.0 ++ tail_tokens rows.0 ns.0 end_tokens =
-        p.0 ∙ ap (λ (ts : List Token). header_tokens (codes "rows") n.0 ++ ts) (q.0 ∙ ap (λ (ts : List Token). flat_map row_tokens rows.0 ++ ts) (r.0 ∙ ap (λ (ts : List Token). line_tokens (multipliers_line ns.0) ++ ts) (s.0 ∙ ap (λ (ts : List Token). end_tokens ++ ts) t))) in
-    found_end _ _ (all ∙ ap (λ k. header_tokens (codes "rows") k ++ tail_tokens rows.0 ns.0 end_tokens) (sym q.1.0) ∙ sym (claim_tokens claim),
-      record { few = omega (arith, q.1.0, p.1); rows = q.1.1; as_many = r.1.0 ∙ sym q.1.0; multipliers = r.1.1 }))))))
+    p.0 ∙ ap (λ (ts : List Token). header_tokens (codes "rows") n.0 ++ ts) (q.0 ∙ ap (λ (ts : List Token). flat_map row_tokens rows.0 ++ ts) (r.0 ∙ ap (λ (ts : List Token). line_tokens (multipliers_line ns.0) ++ ts) (s.0 ∙ ap (λ (ts : List Token). end_tokens ++ ts) t))) in
+    found_end _ _ (
+      all ∙ ap (λ k. header_tokens (codes "rows") k ++ tail_tokens rows.0 ns.0 end_tokens) (sym q.1.0) ∙ sym (claim_tokens claim),
+      record { few = omega (arith, q.1.0, p.1); rows = q.1.1; as_many = r.1.0 ∙ sym q.1.0; multipliers = r.1.1 },
+    ))))))
 
 abbrev make_claim : List Row → List ℕ → Claim
 make_claim rows ns = record { rows = rows; multipliers = ns }
@@ -169,9 +150,9 @@ claim_again at claim fit e =
 claim_clean : (claim : Claim) → ClaimFits claim → AreClean (claim_lines claim)
 claim_clean claim fit =
     let parts : IsClean (header_tokens (codes "rows") (length claim.rows) ++ tail_tokens claim.rows claim.multipliers end_tokens) =
-        IsClean-append (header_tokens (codes "rows") (length claim.rows)) (tail_tokens claim.rows claim.multipliers end_tokens) ((header_exact (codes "rows") 4096 rows_plain (omega arith)).clean (length claim.rows) fit.few)
-          (IsClean-append (flat_map row_tokens claim.rows) (line_tokens (multipliers_line claim.multipliers) ++ end_tokens) ((rows_exact (length claim.rows)).clean claim.rows (refl, fit.rows))
-            (IsClean-append (line_tokens (multipliers_line claim.multipliers)) end_tokens ((multipliers_exact (length claim.rows)).clean claim.multipliers (fit.as_many, fit.multipliers)) (end_plain, tt))) in
+    IsClean-append (header_tokens (codes "rows") (length claim.rows)) (tail_tokens claim.rows claim.multipliers end_tokens) ((header_exact (codes "rows") 4096 rows_plain (omega arith)).clean (length claim.rows) fit.few)
+    (IsClean-append (flat_map row_tokens claim.rows) (line_tokens (multipliers_line claim.multipliers) ++ end_tokens) ((rows_exact (length claim.rows)).clean claim.rows (refl, fit.rows))
+    (IsClean-append (line_tokens (multipliers_line claim.multipliers)) end_tokens ((multipliers_exact (length claim.rows)).clean claim.multipliers (fit.as_many, fit.multipliers)) (end_plain, tt))) in
     subst IsClean (sym (claim_tokens claim)) parts
 
 pub claim_is_format : IsFormat claim_at claim_lines ClaimFits
@@ -179,14 +160,20 @@ claim_is_format = record { found = claim_found; again = claim_again; clean = cla
 
 -- ---- printing
 
-flat_map-map : {X A B : Type 0} (s : B → List A) (f : X → B) (xs : List X) → flat_map s (map f xs) ≡ flat_map (λ x. s (f x)) xs
-flat_map-map s f [] = refl
-flat_map-map s f (x ∷ xs) = ap (λ r. s (f x) ++ r) (flat_map-map s f xs)
+-- a line of numbers, put in pieces
+pub printed_numbers : (out word word_done numbers_done : List ℕ) (ns : List ℕ) → word_done ≡ out ++ word → numbers_done ≡ word_done ++ flat_map (λ n. after_blank (decimal n)) ns → numbers_done ++ 10 ∷ [] ≡ out ++ line_bytes (word, map decimal ns)
+printed_numbers out word word_done numbers_done ns a b =
+    ap (λ (m : List ℕ). m ++ 10 ∷ []) (b ∙ ap (λ (m : List ℕ). m ++ flat_map (λ n. after_blank (decimal n)) ns) a)
+    ∙ append_assoc (out ++ word) (flat_map (λ n. after_blank (decimal n)) ns) (10 ∷ [])
+    ∙ append_assoc out word (flat_map (λ n. after_blank (decimal n)) ns ++ 10 ∷ [])
+    ∙ ap (λ (r : List ℕ). out ++ (word ++ (r ++ 10 ∷ []))) (sym (flat_map-map after_blank decimal ns))
 
--- the multipliers' line, put in pieces
-pub printed_multipliers : (out word numbers done : List ℕ) (ns : List ℕ) → word ≡ out ++ codes "by" → numbers ≡ word ++ flat_map (λ n. after_blank (decimal n)) ns → done ≡ numbers ++ 10 ∷ [] → done ≡ out ++ line_bytes (multipliers_line ns)
-printed_multipliers out word numbers done ns a b c = ?
-
--- the whole text, put in pieces
-pub printed_claim : (claim : Claim) (head rows multipliers done : List ℕ) → head ≡ line_bytes (codes "rows", decimal (length claim.rows) ∷ []) → rows ≡ head ++ flat_map (λ r. line_bytes (row_line r)) claim.rows → multipliers ≡ rows ++ line_bytes (multipliers_line claim.multipliers) → done ≡ multipliers ++ line_bytes (codes "end", []) → done ≡ text_bytes (claim_lines claim)
-printed_claim claim head rows multipliers done a b c d = ?
+-- a whole text, put in pieces
+pub printed_text : (first by last : List ℕ × List (List ℕ)) (rows : List Row) (head_done rows_done by_done done : List ℕ) → head_done ≡ line_bytes first → rows_done ≡ head_done ++ flat_map (λ r. line_bytes (row_line r)) rows → by_done ≡ rows_done ++ line_bytes by → done ≡ by_done ++ line_bytes last → done ≡ text_bytes (first ∷ (map row_line rows ++ (by ∷ (last ∷ []))))
+printed_text first by last rows head_done rows_done by_done done a b c d =
+    let lines : List ℕ = flat_map (λ r. line_bytes (row_line r)) rows in
+    d ∙ ap (λ (m : List ℕ). m ++ line_bytes last) (c ∙ ap (λ (m : List ℕ). m ++ line_bytes by) (b ∙ ap (λ (m : List ℕ). m ++ lines) a))
+    ∙ append_assoc (line_bytes first ++ lines) (line_bytes by) (line_bytes last)
+    ∙ append_assoc (line_bytes first) lines (line_bytes by ++ line_bytes last)
+    ∙ ap (λ (r : List ℕ). line_bytes first ++ (lines ++ (line_bytes by ++ r))) (sym (append-nil (line_bytes last)))
+    ∙ ap (λ (r : List ℕ). line_bytes first ++ r) (sym (spread_mapped line_bytes row_line rows (by ∷ (last ∷ []))))

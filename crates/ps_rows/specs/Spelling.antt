@@ -16,7 +16,7 @@ multipliers_line numbers = (codes "by", map decimal numbers)
 -- `rows` and their number, a line for each row, the multipliers, and `end`.
 abbrev pub claim_lines : Claim → List (List ℕ × List (List ℕ))
 claim_lines claim =
-  (codes "rows", decimal (length claim.rows) ∷ []) ∷ (map row_line claim.rows ++ (multipliers_line claim.multipliers ∷ ((codes "end", []) ∷ [])))
+    (codes "rows", decimal (length claim.rows) ∷ []) ∷ (map row_line claim.rows ++ (multipliers_line claim.multipliers ∷ ((codes "end", []) ∷ [])))
 
 abbrev pub RowFits : Row → Type 0
 RowFits row = TermFits row.term

@@ -1,3 +1,4 @@
+//! Rows with their multipliers.
 ghost use Rattle.std.specs.Prelude.{◌≡◌, IfOk};
 
 use crate::multipliers::Multipliers;

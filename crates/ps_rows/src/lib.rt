@@ -12,3 +12,6 @@ pub use multipliers::Multipliers;
 pub use printing::print_rows;
 pub use reading::{MOST_ROWS, read_rows};
 pub use rows::Rows;
+
+#[cfg(test)]
+mod tests;

@@ -6,7 +6,7 @@ ghost use Rattle.ps_text.specs.Tokens.{after_blank, line_bytes, text_bytes};
 ghost use Rattle.ps_rows.specs.Spelling.{claim_lines, row_line, multipliers_line};
 
 use crate::claim::Claim;
-use ps_term::row::Row;
+use ps_term::Row;
 use ps_term_text::put_term;
 use ps_text::{put_end, put_header, put_natural, put_only, put_word};
 use std::alloc::{AllocError, Global};

@@ -10,7 +10,7 @@ ghost use Rattle.ps_rows.specs.Reading.{row_at, multipliers_at, claim_at};
 use crate::claim::Claim;
 use crate::multipliers::Multipliers;
 use crate::rows::Rows;
-use ps_term::row::Row;
+use ps_term::Row;
 use ps_term_text::take_term;
 use ps_text::{Form, FormEnd, Natural, Reader, times};
 use std::alloc::Global;
@@ -37,7 +37,11 @@ impl Form for RowLine {
 
 // The line of multipliers, as many as there are rows.
 #[tactic(auto, unfolding(crate::specs::Reading::multipliers_at, ps_text::specs::Reading::and_then))]
-fn take_multipliers<'a>(alloc: Global, count: u32, reader: &mut Reader<'a>) -> Result<Multipliers, FormEnd>
+fn take_multipliers<'a>(
+    alloc: Global,
+    count: u32,
+    reader: &mut Reader<'a>,
+) -> Result<Multipliers, FormEnd>
     ensures { Gives (λ x. x) result reader.new (multipliers_at count reader.old) }
 {
     reader.line(b"by")?;

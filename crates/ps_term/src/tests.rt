@@ -1,5 +1,5 @@
 // Worked examples, at small numbers and at the ends of the type.
-ghost use Rattle.std.specs.Prelude.{◌≡◌};
+ghost use Rattle.std.specs.Prelude.{◌≢◌, pos};
 ghost use Rattle.ps_term.specs.Pairs.{IsCanonical};
 
 use crate::negation::negate;
@@ -69,7 +69,7 @@ fn adds_scaled_terms(rt: HostRuntime) -> Result<(), Fail> {
 }
 
 #[test]
-fn negates_and_tightens_rows(rt: HostRuntime) -> Result<(), Fail> {
+fn negates_rows(rt: HostRuntime) -> Result<(), Fail> {
     let alloc = rt.alloc();
     let row = Row {
         term: term(alloc, &[(G, 6), (L, -4)], -3)?,
@@ -77,24 +77,50 @@ fn negates_and_tightens_rows(rt: HostRuntime) -> Result<(), Fail> {
     let negated = negate(alloc, &row)?;
     assert_eq!(rt; negated.term.pairs.as_slice(), [(G, -6), (L, 4)].as_slice());
     assert_eq!(rt; negated.term.constant, 4);
-    let tight = tighten(alloc, &row)?.copy(alloc)?;
-    assert_eq!(rt; tight.term.pairs.as_slice(), [(G, 3), (L, -2)].as_slice());
-    assert_eq!(rt; tight.term.constant, -1);
-
-    let least = Row {
-        term: term(alloc, &[(G, i128::MIN)], 5)?,
-    };
-    assert!(rt; matches!(negate(alloc, &least), Err(TermEnd::Past128)));
-    let tight = tighten(alloc, &least)?;
-    assert_eq!(rt; tight.term.pairs.as_slice(), [(G, -1)].as_slice());
-    assert_eq!(rt; tight.term.constant, 1);
-
-    let bare = Row {
-        term: Term::from_constant(alloc, -i128::MAX),
-    };
-    assert!(rt; matches!(negate(alloc, &bare), Err(TermEnd::Past128)));
-    assert_eq!(rt; tighten(alloc, &bare)?.term.constant, -i128::MAX);
     Ok(())
+}
+
+#[test]
+fn refuses_negations_past_128_bits(rt: HostRuntime) -> Result<(), Fail> {
+    let alloc = rt.alloc();
+    for (coefficient, constant) in [(i128::MIN, 5), (1, i128::MIN), (1, -i128::MAX)] {
+        let row = Row {
+            term: Term {
+                pairs: single(alloc, coefficient)?,
+                constant,
+            },
+        };
+        assert!(rt; matches!(negate(alloc, &row), Err(TermEnd::Past128)));
+    }
+    Ok(())
+}
+
+#[test]
+fn tightens_rows(rt: HostRuntime) -> Result<(), Fail> {
+    let alloc = rt.alloc();
+    // The coefficients and the constant before and after; 2^127 is the factor of the last row.
+    for (old, constant, new, rounded) in [(6, 5, 1, 1), (-6, -5, -1, 0), (i128::MIN, 5, -1, 1)] {
+        let row = Row {
+            term: Term {
+                pairs: single(alloc, old)?,
+                constant,
+            },
+        };
+        let tight = tighten(alloc, &row)?;
+        assert_eq!(rt; tight.term.pairs.as_slice(), [(G, new)].as_slice());
+        assert_eq!(rt; tight.term.constant, rounded);
+    }
+    let bare = Row {
+        term: Term::from_constant(alloc, -7),
+    };
+    assert_eq!(rt; tighten(alloc, &bare)?.copy(alloc)?.term.constant, -7);
+    Ok(())
+}
+
+fn single(alloc: Global, coefficient: i128) -> Result<Pairs, AllocError>
+    requires { coefficient ≢ pos 0 }
+{
+    Ok(Pairs::from_list([(G, coefficient)].to_vec(alloc)?))
 }
 
 #[test]

@@ -1,27 +1,30 @@
 -- The laws of variables, pairs and terms as fields.
-use Rattle.std.proofs.Common.{◌≡◌, ◌≢◌, ℕ, ◌+◌, ◌^◌, ◌<◌, ◌≤◌, Bool, true, false, ◌&&◌, List, [], ◌∷◌, ◌++◌, map, length, drop, get_or, Option, Some, None, Result, Ok, Err, refl, sym, ap, subst, ◌∙◌, arith, append_assoc, eqb, inl, inr}
-use Rattle.std.specs.Prelude.{ℤ, pos, IfOk, FitsSigned, IsTrue, decimal, option_and_then, option_map, if◌then◌else◌}
+use Rattle.std.proofs.Common.{◌≡◌, ◌≢◌, ℕ, ◌≤◌, Bool, true, false, ◌&&◌, List, [], ◌∷◌, ◌++◌, map, Option, Some, None, Result, Ok, Err, refl, sym, ap, subst, ◌∙◌, arith, append_assoc, eqb}
+use Rattle.std.specs.Prelude.{ℤ, pos, IfOk, FitsSigned, decimal, option_map, if◌then◌else◌}
 use Rattle.std.specs.Fmt.{signed_decimal}
 use Rattle.std.specs.Int.{w128}
-use Rattle.std.specs.List.{AllByRecursion, flat_map, list_any}
+use Rattle.std.specs.List.{AllByRecursion, flat_map}
 use Rattle.std.specs.Ordering.{int_eq}
-use Rattle.std.proofs.lemmas.Bool.{and_parts, and_from, cond-true, cond-false, eqb-true, eq-eqb, leb-true, le-leb, false_from_ne_true}
+use Rattle.std.proofs.lemmas.Bool.{and_parts, and_from, cond-true, cond-false, eqb-true, leb-true, le-leb, false_from_ne_true}
 use Rattle.std.proofs.lemmas.Bool.Decides.{Decides-int_eq}
 use Rattle.std.proofs.lemmas.Option.{none-some, same_Some, cond_some, option_and_then_some}
 use Rattle.ps_term.specs.declared.var.Var.{Var}
 use Rattle.ps_term.specs.declared.var.Var.TheVariants.{Global, Local, Havoc}
 use Rattle.ps_term.specs.declared.term.Term.{Term}
-use Rattle.ps_term.specs.Var.{var_lt}
 use Rattle.ps_term.specs.Pairs.{IsCanonical, IsBelow}
 use Rattle.ps_text.specs.declared.form_name.FormName.{FormName}
 use Rattle.ps_text.specs.declared.form_name.FormName.TheVariants as name
-use Rattle.ps_text.specs.Tokens.{Token, Field, Newline, after_blank}
+use Rattle.ps_text.specs.declared.form_fault.FormFault.{FormFault}
+use Rattle.ps_text.specs.declared.form_end.FormEnd.{FormEnd}
+use Rattle.ps_text.specs.declared.form_end.FormEnd.TheVariants.{Fault, Memory}
+use Rattle.ps_text.proofs.Loop.{read_of, read_is}
+use Rattle.ps_text.specs.Tokens.{Token, Field, after_blank}
 use Rattle.std.proofs.lemmas.List.{append-nil}
 use Rattle.ps_text.specs.Decimal.{counts_as_decimal, u32_of, i128_of}
 use Rattle.ps_text.specs.Parts.{cut_at}
-use Rattle.ps_text.specs.Reading.{At, ◌>>=◌, leaf_at, list_at, integer}
-use Rattle.ps_text.proofs.Bytes.{IsPlain, IsClean, IsClean-append}
-use Rattle.ps_text.proofs.Cutting.{IsFree, cut_found, cut_again, decimal_free, signed_decimal_free, free_has_none, has_middle}
+use Rattle.ps_text.specs.Reading.{At, Gives, Tells, leaf_at, list_at, integer}
+use Rattle.ps_text.proofs.Bytes.{IsPlain, IsClean}
+use Rattle.ps_text.proofs.Cutting.{cut_found, cut_again, decimal_free, signed_decimal_free, free_has_none, has_middle}
 use Rattle.ps_text.proofs.Digits.{u32_is, u32_from, i128_is, i128_from}
 use Rattle.ps_text.proofs.Decimals.{decimal-of, decimal-is, signed_decimal-of, signed_decimal-is, decimal_plain, signed_decimal_plain, decimal_counts, signed_counts, integer_is_leaf}
 use Rattle.ps_text.proofs.Exact.{Finds, Gets, found_bind, found_end, gets_bind, gets_end, Exact, Always, leaf_exact}
@@ -34,9 +37,9 @@ use Rattle.ps_term_text.specs.Reading.{looks_local, looks_variable, at_most_6553
 number_is : (f : List ℕ) (n : ℕ) → number_of f ≡ Some n → (f ≡ decimal n) × (n ≤ 65535)
 number_is f n e =
     option_and_then_some at_most_65535 (u32_of f) n e (λ m whole small.
-      let p = cond_some _ _ _ small in
-      let q = u32_is f m whole in
-      subst (λ (k : ℕ). (f ≡ decimal k) × (k ≤ 65535)) p.1 (decimal-of f m (omega (arith, q.0)) q.1, leb-true _ _ p.0))
+    let p = cond_some _ _ _ small in
+    let q = u32_is f m whole in
+    subst (λ (k : ℕ). (f ≡ decimal k) × (k ≤ 65535)) p.1 (decimal-of f m (omega (arith, q.0)) q.1, leb-true _ _ p.0))
 
 number_from : (n : ℕ) → n ≤ 65535 → number_of (decimal n) ≡ Some n
 number_from n le = rw (u32_from (decimal n) n (omega (arith, le)) (decimal-is n (omega (arith, le)))) (cond-true _ _ _ (le-leb _ _ le))
@@ -54,11 +57,11 @@ local_is : (f : List ℕ) (r : Option (List ℕ × List ℕ)) (x : Var) → ((pa
 local_is f None x cut e = absurd (none-some x e)
 local_is f (Some parts) x cut e =
     option_and_then_some (λ n. option_map (λ s. Local s n) (number_of parts.1)) (number_of parts.0) x e (λ n first inner.
-      let second = option_map_some (λ s. Local s n) (number_of parts.1) x inner in
-      let p = number_is parts.0 n first in
-      let q = number_is parts.1 second.0 second.1 in
-      subst (λ (y : Var). (108 ∷ f ≡ variable_text y) × VariableFits y) second.2
-        (ap (λ (r : List ℕ). 108 ∷ r) (cut parts refl ∙ ap (λ (r : List ℕ). r ++ 64 ∷ parts.1) p.0 ∙ ap (λ (r : List ℕ). decimal n ++ 64 ∷ r) q.0), (p.1, q.1)))
+    let second = option_map_some (λ s. Local s n) (number_of parts.1) x inner in
+    let p = number_is parts.0 n first in
+    let q = number_is parts.1 second.0 second.1 in
+    subst (λ (y : Var). (108 ∷ f ≡ variable_text y) × VariableFits y) second.2
+    (ap (λ (r : List ℕ). 108 ∷ r) (cut parts refl ∙ ap (λ (r : List ℕ). r ++ 64 ∷ parts.1) p.0 ∙ ap (λ (r : List ℕ). decimal n ++ 64 ∷ r) q.0), (p.1, q.1)))
 
 variable_is_at : (b : ℕ) (bs : List ℕ) (x : Var) (t u : Bool) → eqb b 103 ≡ t → eqb b 108 ≡ u → (if t then counts_as_decimal bs else (if u then looks_local (cut_at 64 bs) else false)) ≡ true → (if t then option_map Global (number_of bs) else local_of (cut_at 64 bs)) ≡ Some x → (b ∷ bs ≡ variable_text x) × VariableFits x
 variable_is_at b bs x true u global local looks e =
@@ -134,8 +137,8 @@ passed_by_tests before q p false true zero_test above e =
       above = above;
     })
   where
-  differ : (b : Bool) → b ≡ true → b ≡ false → ⊥
-  differ b p q = absurd cc
+    differ : (b : Bool) → b ≡ true → b ≡ false → ⊥
+    differ b p q = absurd cc
 
 ordered_is : (before o : Option (Var × ℤ)) (p : Var × ℤ) → ordered before o ≡ done p → Passed before o p
 ordered_is before None p e = absurd cc
@@ -144,10 +147,10 @@ ordered_is before (Some q) p e = passed_by_tests before q p (int_eq q.1 (pos 0))
 pair_is : (parts : List ℕ × List ℕ) (p : Var × ℤ) → looks_variable parts.1 ≡ true → pair_of parts ≡ Some p → (parts.0 ≡ signed_decimal p.1) × (parts.1 ≡ variable_text p.0) × PairFits p
 pair_is parts p looks e =
     option_and_then_some (λ c. option_map (λ x. (x, c)) (variable_of parts.1)) (i128_of parts.0) p e (λ c first inner.
-      let x = option_map_some (λ y. (y, c)) (variable_of parts.1) p inner in
-      let number = i128_is parts.0 c first in
-      let v = variable_is parts.1 x.0 looks x.1 in
-      subst (λ (q : Var × ℤ). (parts.0 ≡ signed_decimal q.1) × (parts.1 ≡ variable_text q.0) × PairFits q) x.2 (signed_decimal-of parts.0 c number.0 number.1, v.0, record { coefficient = number.0; variable = v.1 }))
+    let x = option_map_some (λ y. (y, c)) (variable_of parts.1) p inner in
+    let number = i128_is parts.0 c first in
+    let v = variable_is parts.1 x.0 looks x.1 in
+    subst (λ (q : Var × ℤ). (parts.0 ≡ signed_decimal q.1) × (parts.1 ≡ variable_text q.0) × PairFits q) x.2 (signed_decimal-of parts.0 c number.0 number.1, v.0, record { coefficient = number.0; variable = v.1 }))
 
 pair_found_parts : (before : Option (Var × ℤ)) (f : List ℕ) (parts : List ℕ × List ℕ) → f ≡ parts.0 ++ 42 ∷ parts.1 → (t : Bool) → (counts_as_decimal parts.0 && looks_variable parts.1) ≡ t → (r : Result (Var × ℤ) FormName) → ordered before (pair_of parts) ≡ r → IfOk (if t then r else Err name.Field) (λ p. (f ≡ pair_text p) × PairAfter before p)
 pair_found_parts before f parts cut false looks r e = tt
@@ -271,6 +274,26 @@ term_exact = record {
   again = term_again;
   clean = λ t fit. clean_fields t.pairs (signed_decimal t.constant) (pairs_exact.clean t.pairs (canonical_chain None t.pairs fit.canonical fit.pairs (above_none t.pairs))) (signed_decimal_plain t.constant fit.constant);
 }
+
+-- the two laws, of what a call answers
+pub term_is_found : (at now : At) (r : Result Term FormEnd) → Gives (λ x. x) r now (term_at at) → IfOk r (λ t. TermFits t × (at.tokens ≡ term_tokens t ++ now.tokens))
+term_is_found at now (Ok t) h =
+    let p = subst (λ s. IfOk s (λ y. (at.tokens ≡ term_tokens y.0 ++ y.1.tokens) × TermFits y.0)) h (term_exact.found at).is in
+    (p.1, p.0)
+term_is_found at now (Err e) h = tt
+
+pub term_is_read : (at now : At) (r : Result Term FormEnd) → Gives (λ x. x) r now (term_at at) → (t : Term) (rest : List Token) → TermFits t → at.tokens ≡ term_tokens t ++ rest → Tells (λ x. x) r (Ok t)
+term_is_read at now r h t rest fit e =
+    let g = term_exact.again at t rest fit e tt in
+    told r now g.value t (subst (λ (s : Result (Term × At) FormFault). Gives (λ x. x) r now s) g.ok h) g.is.0
+  where
+    differ : (y : Term × At) (f : FormFault) → read_of y ≡ Err f → ⊥
+    differ y f h = absurd cc
+
+    told : (r : Result Term FormEnd) (now : At) (y : Term × At) (t : Term) → Gives (λ x. x) r now (Ok y) → y.0 ≡ t → Tells (λ x. x) r (Ok t)
+    told (Ok x) now y t h same = ap (λ (u : Term). Ok u) (sym same ∙ ap (λ (p : Term × At). p.0) (read_is y (x, now) h))
+    told (Err (Fault f)) now y t h same = absurd (differ y f h)
+    told (Err (Memory m)) now y t h same = tt
 
 -- ---- printing
 

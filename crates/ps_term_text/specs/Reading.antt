@@ -22,8 +22,8 @@ looks_local (Some parts) = counts_as_decimal parts.0 && counts_as_decimal parts.
 -- Whether a field is of a variable's form, whatever its decimals are.
 abbrev pub looks_variable : List ℕ → Bool
 looks_variable field =
-  if slice_index field 0 == 103 then counts_as_decimal (drop 1 field)
-  else (if slice_index field 0 == 108 then looks_local (cut_at 64 (drop 1 field)) else false)
+    if slice_index field 0 == 103 then counts_as_decimal (drop 1 field)
+    else (if slice_index field 0 == 108 then looks_local (cut_at 64 (drop 1 field)) else false)
 
 -- A number that a variable may have.
 abbrev pub at_most_65535 : ℕ → Option ℕ

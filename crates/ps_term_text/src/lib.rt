@@ -6,5 +6,8 @@ mod printing;
 mod term;
 mod variable;
 
-pub use printing::{put_pair, put_term, put_variable};
+pub use printing::put_term;
 pub use term::take_term;
+
+#[cfg(test)]
+mod tests;

@@ -6,7 +6,7 @@ ghost use Rattle.ps_text.specs.Reading.{Reads, leaf_at, member_at};
 ghost use Rattle.ps_term_text.specs.Reading.{ascends, ordered, pair_of, pair_from, pair_after, has_star};
 
 use crate::variable::{looks_variable, variable_of};
-use ps_term::var::{Var, is_before};
+use ps_term::{Var, is_before};
 use ps_text::{FormName, Leaf, counts_as_decimal, cut, read_i128};
 
 fn pair_of(parts: (&[u8], &[u8])) -> Option<(Var, i128)>
@@ -48,7 +48,10 @@ fn ordered(before: Option<(Var, i128)>, pair: Option<(Var, i128)>) -> Result<(Va
     }
 }
 
-fn pair_from(before: Option<(Var, i128)>, parts: Option<(&[u8], &[u8])>) -> Result<(Var, i128), FormName>
+fn pair_from(
+    before: Option<(Var, i128)>,
+    parts: Option<(&[u8], &[u8])>,
+) -> Result<(Var, i128), FormName>
     ensures { result ≡ pair_from before (option_map (λ p. (p.0.now, p.1.now)) parts.entry) }
 {
     match parts {

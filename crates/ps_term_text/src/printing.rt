@@ -5,13 +5,12 @@ ghost use Rattle.std.specs.List.{flat_map};
 ghost use Rattle.ps_text.specs.Tokens.{after_blank};
 ghost use Rattle.ps_term_text.specs.Spelling.{variable_text, pair_text, term_fields};
 
-use ps_term::term::Term;
-use ps_term::var::Var;
+use ps_term::{Term, Var};
 use ps_text::{put_digits, put_integer, put_signed_digits, put_word};
 use std::alloc::AllocError;
 
-/// Puts a variable as a part of a field; nothing for a havoc, which has no spelling.
-pub fn put_variable(out: &mut Vec<u8>, variable: Var) -> Result<(), AllocError>
+// A variable as a part of a field; nothing for a havoc, which has no spelling.
+fn put_variable(out: &mut Vec<u8>, variable: Var) -> Result<(), AllocError>
     ensures { OnOk result (out.new.items ≡ out.old.items ++ variable_text variable) }
 {
     match variable {
@@ -29,8 +28,8 @@ pub fn put_variable(out: &mut Vec<u8>, variable: Var) -> Result<(), AllocError>
     }
 }
 
-/// Puts a pair of a term as a further field of a line.
-pub fn put_pair(out: &mut Vec<u8>, pair: (Var, i128)) -> Result<(), AllocError>
+// A pair of a term as a further field of a line.
+fn put_pair(out: &mut Vec<u8>, pair: (Var, i128)) -> Result<(), AllocError>
     ensures { OnOk result (out.new.items ≡ out.old.items ++ after_blank (pair_text pair)) }
 {
     put_word(out, b" ")?;
@@ -48,7 +47,7 @@ fn put_pairs(out: &mut Vec<u8>, pairs: &[(Var, i128)]) -> Result<(), AllocError>
     Ok(())
 }
 
-/// Puts a term as further fields of a line.
+/// Puts a term as further fields of a line. A havoc in it has no spelling, so what stands for it isn't read back.
 pub fn put_term(out: &mut Vec<u8>, term: &Term) -> Result<(), AllocError>
     ensures { OnOk result (out.new.items ≡ out.old.items ++ flat_map after_blank (term_fields term.now)) }
 {

@@ -3,7 +3,7 @@
 ghost use Rattle.std.specs.Prelude.{◌≡◌, option_map};
 ghost use Rattle.ps_term_text.specs.Reading.{looks_local, looks_variable, at_most_65535, number_of, local_of, variable_of};
 
-use ps_term::var::Var;
+use ps_term::Var;
 use ps_text::{counts_as_decimal, cut, read_u32};
 
 fn looks_local(parts: Option<(&[u8], &[u8])>) -> bool

@@ -1,11 +1,10 @@
 -- The tokens ahead, from the bytes.
-use Rattle.std.proofs.Common.{◌≡◌, ℕ, zero, suc, ◌+◌, ◌-◌, ◌<◌, ◌≤◌, Bool, true, false, ◌||◌, List, [], ◌∷◌, ◌++◌, length, get_or, take, drop, Option, Some, None, Result, Ok, Err, refl, sym, ap, subst, ◌∙◌, arith, add-one, eqb, inl, inr}
-use Rattle.std.specs.Prelude.{if◌then◌else◌}
-use Rattle.std.proofs.lemmas.Bool.{eqb-true, eqb-false, eq-eqb, ne_eqb, or_left, or_right, or_parts, or_cases, cond-true, cond-false, cond_both}
+use Rattle.std.proofs.Common.{◌≡◌, ℕ, suc, ◌+◌, ◌<◌, Bool, true, false, ◌||◌, List, [], ◌∷◌, length, get_or, take, drop, Some, Ok, Err, refl, sym, ap, subst, ◌∙◌, arith, add-one, eqb}
+use Rattle.std.proofs.lemmas.Bool.{eqb-true, ne_eqb, or_left, or_right, cond-true, cond-false}
 use Rattle.std.proofs.lemmas.List.{nil_from_length}
 use Rattle.ps_text.specs.declared.form_name.FormName.TheVariants as name
 use Rattle.ps_text.specs.Reading.{At, end_from, done_from, field_from, end_at, done_at, field_at, fault_at, line_fault}
-use Rattle.ps_text.specs.Tokens.{Token, Field, Newline, onto, token_onto, tokens, has_newline, next_field, field_len, ahead}
+use Rattle.ps_text.specs.Tokens.{Token, Field, Newline, onto, token_onto, tokens, next_field, field_len, ahead}
 
 -- a byte is a blank, a line feed, or one of a field
 pub data Byte (b : ℕ) : Type 0 where
@@ -16,10 +15,10 @@ pub data Byte (b : ℕ) : Type 0 where
 pub byte_is : (b : ℕ) → Byte b
 byte_is b = byte_from b (eqb b 32) (eqb b 10) refl refl
   where
-  byte_from : (b : ℕ) (s t : Bool) → eqb b 32 ≡ s → eqb b 10 ≡ t → Byte b
-  byte_from b true t p q = blank p
-  byte_from b false true p q = feed p q
-  byte_from b false false p q = inside p q
+    byte_from : (b : ℕ) (s t : Bool) → eqb b 32 ≡ s → eqb b 10 ≡ t → Byte b
+    byte_from b true t p q = blank p
+    byte_from b false true p q = feed p q
+    byte_from b false false p q = inside p q
 
 -- the tokens of some bytes begin with a field
 pub onto_begins : (b : ℕ) (ts : List Token) → (f : List ℕ) × (rest : List Token) × (token_onto b ts ≡ Field f ∷ rest)
@@ -30,10 +29,10 @@ onto_begins b ts =
       | inside p q ↦ inside_begins b ts p q
     ]
   where
-  inside_begins : (b : ℕ) (ts : List Token) → eqb b 32 ≡ false → eqb b 10 ≡ false → (f : List ℕ) × (rest : List Token) × (token_onto b ts ≡ Field f ∷ rest)
-  inside_begins b [] p q = (b ∷ [], [], rw (p, q) refl)
-  inside_begins b (Field f ∷ ts) p q = (b ∷ f, ts, rw (p, q) refl)
-  inside_begins b (Newline ∷ ts) p q = (b ∷ [], Newline ∷ ts, rw (p, q) refl)
+    inside_begins : (b : ℕ) (ts : List Token) → eqb b 32 ≡ false → eqb b 10 ≡ false → (f : List ℕ) × (rest : List Token) × (token_onto b ts ≡ Field f ∷ rest)
+    inside_begins b [] p q = (b ∷ [], [], rw (p, q) refl)
+    inside_begins b (Field f ∷ ts) p q = (b ∷ f, ts, rw (p, q) refl)
+    inside_begins b (Newline ∷ ts) p q = (b ∷ [], Newline ∷ ts, rw (p, q) refl)
 
 -- where the line's last field wasn't taken there is no end of a line yet
 pub no_end : (line field : ℕ) (bs : List ℕ) → end_from line field (tokens bs) ≡ Err (record { line = line; field = field; what = name.Count })
@@ -48,10 +47,6 @@ no_done line (b ∷ bs) h = let p = onto_begins b (tokens bs) in rw p.2 refl
 abbrev pub behind : List ℕ → List Token
 behind [] = []
 behind (c ∷ bs) = ahead (eqb c 10) bs
-
-pub field_len-le : (bs : List ℕ) → field_len bs ≤ length bs
-field_len-le [] = omega arith
-field_len-le (b ∷ bs) = let h = field_len-le bs in cond_both (eqb b 32 || eqb b 10) 0 (field_len bs + 1) (λ n. n ≤ suc (length bs)) (λ _. omega arith) (λ _. omega (arith, h))
 
 field_len-stops : (b : ℕ) (bs : List ℕ) → (eqb b 32 || eqb b 10) ≡ true → field_len (b ∷ bs) ≡ 0
 field_len-stops b bs h = cond-true _ _ _ h
@@ -94,9 +89,9 @@ field_last line field bs h e =
 pub field_more : (line field : ℕ) (bs : List ℕ) → 0 < length bs → 0 < length (drop (field_len bs) bs) → field_from line field (tokens bs) ≡ Ok (take (field_len bs) bs, record { line = line; field = field + 1; tokens = ahead (eqb (get_or (drop (field_len bs) bs) 0 0) 10) (drop 1 (drop (field_len bs) bs)) })
 field_more line field bs h more = rw (cut_tokens bs h) (more_at (drop (field_len bs) bs) more)
   where
-  more_at : (tail : List ℕ) → 0 < length tail → field_from line field (Field (take (field_len bs) bs) ∷ behind tail) ≡ Ok (take (field_len bs) bs, record { line = line; field = field + 1; tokens = ahead (eqb (get_or tail 0 0) 10) (drop 1 tail) })
-  more_at [] h = absurd (omega arith)
-  more_at (c ∷ tail) h = refl
+    more_at : (tail : List ℕ) → 0 < length tail → field_from line field (Field (take (field_len bs) bs) ∷ behind tail) ≡ Ok (take (field_len bs) bs, record { line = line; field = field + 1; tokens = ahead (eqb (get_or tail 0 0) 10) (drop 1 tail) })
+    more_at [] h = absurd (omega arith)
+    more_at (c ∷ tail) h = refl
 
 pub peeked : (bs : List ℕ) → 0 < length bs → next_field (tokens bs) ≡ Some (take (field_len bs) bs)
 peeked bs h = rw (cut_tokens bs h) refl

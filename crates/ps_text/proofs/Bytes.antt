@@ -1,9 +1,9 @@
 -- Between the bytes of a text that is a list of lines and its tokens.
-use Rattle.std.proofs.Common.{◌≡◌, ℕ, zero, suc, ◌+◌, ◌<◌, ◌≤◌, Bool, true, false, List, [], ◌∷◌, ◌++◌, map, length, refl, sym, ap, subst, ◌∙◌, arith, append_assoc, eqb}
+use Rattle.std.proofs.Common.{◌≡◌, ℕ, Bool, true, false, not, ◌&&◌, List, [], ◌∷◌, ◌++◌, map, refl, sym, ap, subst, ◌∙◌, append_assoc, eqb}
 use Rattle.std.specs.List.{flat_map, AllByRecursion}
-use Rattle.std.proofs.lemmas.Bool.{eqb-true}
+use Rattle.std.proofs.lemmas.Bool.{eqb-true, and_parts, not-true}
 use Rattle.ps_text.specs.Tokens.{Token, Field, Newline, onto, token_onto, tokens, after_blank, line_bytes, text_bytes, line_tokens, text_tokens}
-use Rattle.ps_text.proofs.Ahead.{Byte, blank, feed, inside, byte_is, onto_begins, token_onto-blank, token_onto-feed, token_onto-inside}
+use Rattle.ps_text.proofs.Ahead.{blank, feed, inside, byte_is, onto_begins, token_onto-blank, token_onto-feed, token_onto-inside}
 
 -- neither a blank nor a line feed
 pub record IsInside (b : ℕ) : Type 0 where
@@ -146,3 +146,29 @@ untokens-text ((w, fs) ∷ ls) =
 -- bytes with the tokens of such a text are its bytes
 pub text_back : (bs : List ℕ) (ls : List (List ℕ × List (List ℕ))) → tokens bs ≡ text_tokens ls → bs ≡ text_bytes ls
 text_back bs ls e = sym (untokens-tokens bs (rw e (closed-text ls))) ∙ ap untokens e ∙ untokens-text ls
+
+-- ---- words
+
+-- whether a word has neither a blank nor a line feed
+abbrev pub is_plain : List ℕ → Bool
+is_plain [] = true
+is_plain (b ∷ bs) = not (eqb b 32) && (not (eqb b 10) && is_plain bs)
+
+-- of a word that is written out, the premise is `refl`
+pub plain_word : (bs : List ℕ) → is_plain bs ≡ true → IsPlain bs
+plain_word [] h = tt
+plain_word (b ∷ bs) h =
+    let p = and_parts _ _ h in
+    let q = and_parts _ _ p.1 in
+    (record { no_blank = not-true _ p.0; no_feed = not-true _ q.0 }, plain_word bs q.1)
+
+-- ---- lists that are spread
+
+-- what a list is spread to, with further members after it
+pub spread_mapped : {X A B : Type 0} (s : B → List A) (f : X → B) (xs : List X) (ys : List B) → flat_map s (map f xs ++ ys) ≡ flat_map (λ x. s (f x)) xs ++ flat_map s ys
+spread_mapped s f [] ys = refl
+spread_mapped s f (x ∷ xs) ys = ap (λ r. s (f x) ++ r) (spread_mapped s f xs ys) ∙ sym (append_assoc (s (f x)) (flat_map (λ y. s (f y)) xs) (flat_map s ys))
+
+pub flat_map-map : {X A B : Type 0} (s : B → List A) (f : X → B) (xs : List X) → flat_map s (map f xs) ≡ flat_map (λ x. s (f x)) xs
+flat_map-map s f [] = refl
+flat_map-map s f (x ∷ xs) = ap (λ r. s (f x) ++ r) (flat_map-map s f xs)

@@ -1,21 +1,20 @@
 -- The canonical decimal of a number is what the number is printed as.
-use Rattle.std.proofs.Common.{◌≡◌, ℕ, zero, suc, ◌+◌, ◌-◌, ◌*◌, ◌/◌, ◌%◌, ◌^◌, ◌<◌, ◌≤◌, Bool, true, false, ◌||◌, List, [], ◌∷◌, ◌++◌, length, get_or, drop, Option, Some, None, Result, Ok, Err, refl, sym, ap, subst, ◌∙◌, arith, append_assoc, eqb, inl, inr, rules}
+use Rattle.std.proofs.Common.{◌≡◌, ℕ, suc, ◌+◌, ◌*◌, ◌/◌, ◌%◌, ◌^◌, ◌<◌, ◌≤◌, Bool, true, false, List, [], ◌∷◌, ◌++◌, length, get_or, drop, Option, Some, None, Result, Ok, Err, refl, sym, ap, subst, ◌∙◌, arith, append_assoc, eqb, inl, inr, rules}
 use Rattle.std.specs.Prelude.{decimal, ℤ, pos, negsuc, FitsSigned, IfOk, ok_or, nat_le, if◌then◌else◌}
 use Rattle.std.specs.Fmt.{signed_decimal}
 use Rattle.std.specs.Int.{w128}
 use Rattle.std.specs.Char.{digit_value}
-use Rattle.std.specs.List.{AllByRecursion}
-use Rattle.std.specs.Str.Parse.{digits_value, digits_value_after, AllDigits, IsNumeral}
-use Rattle.std.proofs.lemmas.Bool.{cases_eq, eqb-true, eqb-false, eq-eqb, ne_eqb, cond-true, cond-false, and_from, le-leb, leb-true}
+use Rattle.std.specs.Str.Parse.{digits_value, digits_value_after, AllDigits}
+use Rattle.std.proofs.lemmas.Bool.{cases_eq, eq-eqb, ne_eqb, cond-true, cond-false, le-leb, leb-true}
 use Rattle.std.proofs.lemmas.List.{append-nil, nil_from_length}
 use Rattle.std.proofs.lemmas.Fmt.{decimal_digit, decimal_step_wide, decimal_by_steps_wide, decimal_is_IsNumeral_wide}
 use Rattle.ps_text.specs.declared.form_name.FormName.{FormName}
 use Rattle.ps_text.specs.declared.form_name.FormName.TheVariants as name
 use Rattle.ps_text.specs.Decimal.{IsDecimal, IsSignedDecimal, counts_as_decimal, is_run, u32_of, u128_of, i128_of}
 use Rattle.ps_text.specs.Reading.{natural32, natural, integer, within, count, decimal_leaf}
-use Rattle.ps_text.proofs.Digits.{digit_is, digits_value_after_ge, AllDigits-from, are_digits-from, run_from, u32_is, u32_from, u128_is, u128_from, i128_is, i128_from, first_is_digit}
-use Rattle.ps_text.proofs.Bytes.{IsInside, IsPlain}
-use Rattle.ps_text.proofs.Exact.{IsLeaf, Always}
+use Rattle.ps_text.proofs.Digits.{digit_is, digits_value_after_ge, are_digits-from, run_from, u32_is, u32_from, u128_is, u128_from, i128_is, i128_from, first_is_digit}
+use Rattle.ps_text.proofs.Bytes.{IsPlain}
+use Rattle.ps_text.proofs.Exact.{IsLeaf}
 
 -- further digits stand after the front
 grow : (n : ℕ) (front cs : List ℕ) → 0 < n → decimal n ≡ front → AllDigits 10 cs → digits_value_after 10 n cs < 10 ^ 64 → decimal (digits_value_after 10 n cs) ≡ front ++ cs
@@ -38,19 +37,20 @@ decimal-of (c ∷ cs) n lt d =
       | inr other ↦ several c cs n lt d other
     ]
   where
-  alone : (c : ℕ) (cs : List ℕ) (n : ℕ) → n < 10 ^ 64 → IsDecimal (c ∷ cs) n → c ≡ 48 → c ∷ cs ≡ decimal n
-  alone c cs n lt d zero_first =
-      let len : length cs ≡ 0 = omega (arith, d.no_leading_zero zero_first) in
-      let none : cs ≡ [] = nil_from_length cs len in
-      let value : digits_value 10 (48 ∷ []) ≡ n = subst (λ (f : List ℕ). digits_value 10 f ≡ n) (ap (λ (k : ℕ). k ∷ cs) zero_first ∙ ap (λ (r : List ℕ). 48 ∷ r) none) d.value in
-      ap (λ (k : ℕ). k ∷ cs) zero_first ∙ ap (λ (r : List ℕ). 48 ∷ r) none ∙ sym (decimal_digit 0 (omega arith)) ∙ ap decimal value
-  several : (c : ℕ) (cs : List ℕ) (n : ℕ) → n < 10 ^ 64 → IsDecimal (c ∷ cs) n → (c ≡ 48 → ⊥) → c ∷ cs ≡ decimal n
-  several c cs n lt d other =
-      let e = digit_is c d.digits.0 in
-      let first : decimal (digit_value c) ≡ c ∷ [] = decimal_digit (digit_value c) d.digits.0 ∙ ap (λ (k : ℕ). k ∷ []) (omega (arith, e.2)) in
-      let first_value : digit_value c ≡ 0 * 10 + digit_value c = omega arith in
-      let value : digits_value_after 10 (digit_value c) cs ≡ n = ap (λ (k : ℕ). digits_value_after 10 k cs) first_value ∙ d.value in
-      sym (grow (digit_value c) (c ∷ []) cs (omega (arith, e.0, e.2, other)) first d.digits.1 (omega (arith, value, lt))) ∙ ap decimal value
+    alone : (c : ℕ) (cs : List ℕ) (n : ℕ) → n < 10 ^ 64 → IsDecimal (c ∷ cs) n → c ≡ 48 → c ∷ cs ≡ decimal n
+    alone c cs n lt d zero_first =
+        let len : length cs ≡ 0 = omega (arith, d.no_leading_zero zero_first) in
+        let none : cs ≡ [] = nil_from_length cs len in
+        let value : digits_value 10 (48 ∷ []) ≡ n = subst (λ (f : List ℕ). digits_value 10 f ≡ n) (ap (λ (k : ℕ). k ∷ cs) zero_first ∙ ap (λ (r : List ℕ). 48 ∷ r) none) d.value in
+        ap (λ (k : ℕ). k ∷ cs) zero_first ∙ ap (λ (r : List ℕ). 48 ∷ r) none ∙ sym (decimal_digit 0 (omega arith)) ∙ ap decimal value
+
+    several : (c : ℕ) (cs : List ℕ) (n : ℕ) → n < 10 ^ 64 → IsDecimal (c ∷ cs) n → (c ≡ 48 → ⊥) → c ∷ cs ≡ decimal n
+    several c cs n lt d other =
+        let e = digit_is c d.digits.0 in
+        let first : decimal (digit_value c) ≡ c ∷ [] = decimal_digit (digit_value c) d.digits.0 ∙ ap (λ (k : ℕ). k ∷ []) (omega (arith, e.2)) in
+        let first_value : digit_value c ≡ 0 * 10 + digit_value c = omega arith in
+        let value : digits_value_after 10 (digit_value c) cs ≡ n = ap (λ (k : ℕ). digits_value_after 10 k cs) first_value ∙ d.value in
+        sym (grow (digit_value c) (c ∷ []) cs (omega (arith, e.0, e.2, other)) first d.digits.1 (omega (arith, value, lt))) ∙ ap decimal value
 
 -- what is printed has no leading zero, and isn't empty
 record Printed (n : ℕ) (ds : List ℕ) : Type 0 where
@@ -63,9 +63,9 @@ printed = decimal_by_steps_wide Printed
     (λ n lt. record { nonempty = omega arith; first = λ some e. omega (arith, some, e); one = λ _. refl })
     (λ n ds le p. printed_more n ds le p)
   where
-  printed_more : (n : ℕ) (ds : List ℕ) → 10 ≤ n → Printed (n / 10) ds → Printed n (ds ++ ((48 + n % 10) ∷ []))
-  printed_more n [] le p = absurd (omega (arith, p.nonempty))
-  printed_more n (d ∷ ds) le p = record { nonempty = omega arith; first = λ some e. p.first (omega (arith, le)) e; one = λ lt. absurd (omega (arith, le, lt)) }
+    printed_more : (n : ℕ) (ds : List ℕ) → 10 ≤ n → Printed (n / 10) ds → Printed n (ds ++ ((48 + n % 10) ∷ []))
+    printed_more n [] le p = absurd (omega (arith, p.nonempty))
+    printed_more n (d ∷ ds) le p = record { nonempty = omega arith; first = λ some e. p.first (omega (arith, le)) e; one = λ lt. absurd (omega (arith, le, lt)) }
 
 pub decimal-is : (n : ℕ) → n < 10 ^ 64 → IsDecimal (decimal n) n
 decimal-is n lt =
@@ -75,10 +75,10 @@ decimal-is n lt =
       nonempty = p.nonempty;
       digits = q.0.1;
       no_leading_zero = λ (zero_first : get_or (decimal n) 0 0 ≡ 48).
-        elim (cases_eq n 0) [
-          | inl none ↦ p.one (omega (arith, none))
-          | inr some ↦ absurd (p.first (omega (arith, some)) zero_first)
-        ];
+          elim (cases_eq n 0) [
+            | inl none ↦ p.one (omega (arith, none))
+            | inr some ↦ absurd (p.first (omega (arith, some)) zero_first)
+          ];
       value = q.1;
     }
 
@@ -137,10 +137,10 @@ decimal_leaf_is {A = A} of text fits found back = record {
   clean = λ x fit. (back x fit).2;
 }
   where
-  by_test : (f : List ℕ) (t : Bool) (o : Option A) → of f ≡ o → IfOk (if t then ok_or o name.Number else Err name.Field) (λ x. (f ≡ text x) × fits x)
-  by_test f true (Some x) e = found f x e
-  by_test f true None e = tt
-  by_test f false o e = tt
+    by_test : (f : List ℕ) (t : Bool) (o : Option A) → of f ≡ o → IfOk (if t then ok_or o name.Number else Err name.Field) (λ x. (f ≡ text x) × fits x)
+    by_test f true (Some x) e = found f x e
+    by_test f true None e = tt
+    by_test f false o e = tt
 
 pub natural32_is_leaf : IsLeaf natural32 decimal (λ n. n < 2 ^ 32)
 natural32_is_leaf = decimal_leaf_is u32_of decimal (λ n. n < 2 ^ 32)
@@ -164,9 +164,10 @@ count_is_leaf limit small = record {
   clean = λ n le. decimal_plain n (omega (arith, small, le));
 }
   where
-  by_limit : (f : List ℕ) (n : ℕ) → f ≡ decimal n → (t : Bool) → nat_le n limit ≡ t → IfOk (if t then Ok n else Err name.Limit) (λ k. (f ≡ decimal k) × (k ≤ limit))
-  by_limit f n e true le = (e, leb-true _ _ le)
-  by_limit f n e false le = tt
-  by_number : (f : List ℕ) (r : Result ℕ FormName) → IfOk r (λ n. (f ≡ decimal n) × (n < 2 ^ 32)) → IfOk (within limit r) (λ n. (f ≡ decimal n) × (n ≤ limit))
-  by_number f (Ok n) h = by_limit f n h.0 (nat_le n limit) refl
-  by_number f (Err what) h = tt
+    by_limit : (f : List ℕ) (n : ℕ) → f ≡ decimal n → (t : Bool) → nat_le n limit ≡ t → IfOk (if t then Ok n else Err name.Limit) (λ k. (f ≡ decimal k) × (k ≤ limit))
+    by_limit f n e true le = (e, leb-true _ _ le)
+    by_limit f n e false le = tt
+
+    by_number : (f : List ℕ) (r : Result ℕ FormName) → IfOk r (λ n. (f ≡ decimal n) × (n < 2 ^ 32)) → IfOk (within limit r) (λ n. (f ≡ decimal n) × (n ≤ limit))
+    by_number f (Ok n) h = by_limit f n h.0 (nat_le n limit) refl
+    by_number f (Err what) h = tt

@@ -1,5 +1,5 @@
 -- Digits, and the number that they represent.
-use Rattle.std.proofs.Common.{◌≡◌, ℕ, zero, suc, ◌+◌, ◌-◌, ◌*◌, ◌^◌, ◌<◌, ◌≤◌, Bool, true, false, ◌&&◌, List, [], ◌∷◌, length, get_or, drop, refl, sym, ap, subst, ◌∙◌, arith, add-one, drop-cons, ltb, leb, eqb, inl, inr, rules}
+use Rattle.std.proofs.Common.{◌≡◌, ℕ, suc, ◌+◌, ◌-◌, ◌*◌, ◌^◌, ◌<◌, ◌≤◌, Bool, true, false, ◌&&◌, List, [], ◌∷◌, length, get_or, drop, refl, sym, ap, subst, ◌∙◌, arith, add-one, drop-cons, ltb, leb, eqb, inl, inr, rules}
 use Rattle.std.specs.Char.{digit_value}
 use Rattle.std.specs.Str.Parse.{digits_value, digits_value_after, AllDigits}
 use Rattle.std.specs.Prelude.{nat_lt, Option, Some, None, option_and_then, MatchOption, FitsSigned, ℤ, pos, negsuc, if◌then◌else◌}
@@ -77,20 +77,20 @@ canonical_is bs h =
       nonempty = r.0;
       digits = AllDigits-from bs r.1;
       no_leading_zero = λ (zero_first : get_or bs 0 0 ≡ 48).
-        elim (or_cases _ _ p.1) [
-          | inl other ↦ absurd (eqb-false _ _ (not-true _ other) zero_first)
-          | inr one ↦ eqb-true _ _ one
-        ];
+          elim (or_cases _ _ p.1) [
+            | inl other ↦ absurd (eqb-false _ _ (not-true _ other) zero_first)
+            | inr one ↦ eqb-true _ _ one
+          ];
       value = refl;
     }
 
 pub canonical_from : (bs : List ℕ) (n : ℕ) → IsDecimal bs n → is_canonical bs ≡ true
 canonical_from bs n d =
     and_from _ _ (run_from bs d.nonempty (are_digits-from bs d.digits))
-      (elim (cases_eq (get_or bs 0 0) 48) [
-        | inl zero_first ↦ or_right _ _ (eq-eqb _ _ (d.no_leading_zero zero_first))
-        | inr other ↦ or_left _ _ (not_from_false _ (ne_eqb _ _ other))
-      ])
+    (elim (cases_eq (get_or bs 0 0) 48) [
+      | inl zero_first ↦ or_right _ _ (eq-eqb _ _ (d.no_leading_zero zero_first))
+      | inr other ↦ or_left _ _ (not_from_false _ (ne_eqb _ _ other))
+    ])
 
 pub u128_is : (bs : List ℕ) (n : ℕ) → u128_of bs ≡ Some n → (n < 2 ^ 128) × IsDecimal bs n
 u128_is bs n e =
@@ -107,8 +107,8 @@ u128_from bs n lt d =
 pub u32_is : (bs : List ℕ) (n : ℕ) → u32_of bs ≡ Some n → (n < 2 ^ 32) × IsDecimal bs n
 u32_is bs n e =
     option_and_then_some narrow (u128_of bs) n e (λ m whole small.
-      let p = cond_some _ _ _ small in
-      subst (λ (k : ℕ). (k < 2 ^ 32) × IsDecimal bs k) p.1 (ltb-true _ _ p.0, (u128_is bs m whole).1))
+    let p = cond_some _ _ _ small in
+    subst (λ (k : ℕ). (k < 2 ^ 32) × IsDecimal bs k) p.1 (ltb-true _ _ p.0, (u128_is bs m whole).1))
 
 pub u32_from : (bs : List ℕ) (n : ℕ) → n < 2 ^ 32 → IsDecimal bs n → u32_of bs ≡ Some n
 u32_from bs n lt d = rw (u128_from bs n (omega arith) d) (cond-true _ _ _ (lt-ltb _ _ lt))
@@ -127,14 +127,14 @@ negative_is n z e =
 i128_is_at : (bs : List ℕ) (z : ℤ) (t : Bool) → eqb (get_or bs 0 0) 45 ≡ t → (if t then option_and_then negative_of (u128_of (drop 1 bs)) else option_and_then positive_of (u128_of bs)) ≡ Some z → FitsSigned w128 z × IsSignedDecimal bs z
 i128_is_at bs z true test e =
     option_and_then_some negative_of (u128_of (drop 1 bs)) z e (λ n whole signed.
-      let p = negative_is n z signed in
-      let back : (n - 1) + 1 ≡ n = omega (arith, p.1) in
-      let q : IsDecimal (drop 1 bs) ((n - 1) + 1) = rw back ((u128_is (drop 1 bs) n whole).1) in
-      (p.0, subst (λ (y : ℤ). IsSignedDecimal bs y) (sym p.2) (eqb-true _ _ test, q)))
+    let p = negative_is n z signed in
+    let back : (n - 1) + 1 ≡ n = omega (arith, p.1) in
+    let q : IsDecimal (drop 1 bs) ((n - 1) + 1) = rw back ((u128_is (drop 1 bs) n whole).1) in
+    (p.0, subst (λ (y : ℤ). IsSignedDecimal bs y) (sym p.2) (eqb-true _ _ test, q)))
 i128_is_at bs z false test e =
     option_and_then_some positive_of (u128_of bs) z e (λ n whole signed.
-      let p = positive_is n z signed in
-      (p.0, subst (λ (y : ℤ). IsSignedDecimal bs y) (sym p.1) ((u128_is bs n whole).1)))
+    let p = positive_is n z signed in
+    (p.0, subst (λ (y : ℤ). IsSignedDecimal bs y) (sym p.1) ((u128_is bs n whole).1)))
 
 pub i128_is : (bs : List ℕ) (z : ℤ) → i128_of bs ≡ Some z → FitsSigned w128 z × IsSignedDecimal bs z
 i128_is bs z e = i128_is_at bs z (eqb (get_or bs 0 0) 45) refl e

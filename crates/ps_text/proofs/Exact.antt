@@ -1,20 +1,16 @@
 -- The laws of reading functions, in steps: what is read is spelled so, and what is spelled so is read.
 -- Neither speaks of places: an answer that is no fault depends on the tokens alone.
-use Rattle.std.proofs.Common.{◌≡◌, ℕ, zero, suc, ◌+◌, ◌<◌, ◌≤◌, Bool, true, false, ◌&&◌, List, [], ◌∷◌, ◌++◌, map, length, Result, Ok, Err, refl, sym, ap, subst, ◌∙◌, arith, append_assoc}
+use Rattle.std.proofs.Common.{◌≡◌, ℕ, ◌+◌, Bool, true, false, List, [], ◌∷◌, ◌++◌, Result, Ok, Err, refl, ap, ◌∙◌}
 use Rattle.std.specs.Prelude.{IfOk, if◌then◌else◌}
-use Rattle.std.specs.List.{flat_map, AllByRecursion}
 use Rattle.std.specs.Str.{bytes_eq}
-use Rattle.std.proofs.lemmas.Bool.{cond-true, cond-false}
-use Rattle.std.proofs.lemmas.List.{append-nil}
+use Rattle.std.proofs.lemmas.Bool.{cond-true}
 use Rattle.std.proofs.lemmas.Slice.Eq.{bytes_eq-Decides}
 use Rattle.ps_text.specs.declared.form_name.FormName.{FormName}
 use Rattle.ps_text.specs.declared.form_name.FormName.TheVariants as name
 use Rattle.ps_text.specs.declared.form_fault.FormFault.{FormFault}
-use Rattle.ps_text.specs.declared.form_end.FormEnd.{FormEnd}
-use Rattle.ps_text.specs.declared.form_end.FormEnd.TheVariants.{Fault, Memory}
-use Rattle.ps_text.specs.Tokens.{Token, Field, Newline, tokens, has_newline, text_bytes, text_tokens}
-use Rattle.ps_text.specs.Reading.{At, Read, start, and_then, ◌>>=◌, Tells, placed, field_from, field_at, leaf_at, word_leaf, word_at, line_at, end_from, end_at, only_at, done_from, done_at, count, header_at, times_at, list_from, list_at}
-use Rattle.ps_text.proofs.Bytes.{IsPlain, IsClean, AreClean, IsClean-append, text_read, text_back}
+use Rattle.ps_text.specs.Tokens.{Token, Field, Newline, has_newline}
+use Rattle.ps_text.specs.Reading.{At, Read, and_then, ◌>>=◌, placed, field_from, leaf_at, word_leaf, word_at, line_at, end_from, end_at}
+use Rattle.ps_text.proofs.Bytes.{IsPlain, IsClean}
 
 -- what a step that didn't fail found
 pub record Finds {A : Type 0} (r : Result A FormFault) (Q : A → Type 0) : Type 0 where
@@ -89,9 +85,9 @@ leaf_exact leaf text fits is = record { found = leaf_found leaf text fits is; ag
 word_found : (word f : List ℕ) → IfOk (word_leaf word f) (λ x. (f ≡ word) × Unit {0})
 word_found word f = by_test (bytes_eq f word) refl
   where
-  by_test : (t : Bool) → bytes_eq f word ≡ t → IfOk (if t then Ok tt else Err name.Word) (λ (x : Unit {0}). (f ≡ word) × Unit {0})
-  by_test true e = ((bytes_eq-Decides f word).0 e, tt)
-  by_test false e = tt
+    by_test : (t : Bool) → bytes_eq f word ≡ t → IfOk (if t then Ok tt else Err name.Word) (λ (x : Unit {0}). (f ≡ word) × Unit {0})
+    by_test true e = ((bytes_eq-Decides f word).0 e, tt)
+    by_test false e = tt
 
 word_is_leaf : (word : List ℕ) → IsPlain word → IsLeaf (word_leaf word) (λ _. word) Always
 word_is_leaf word plain = record {
@@ -117,9 +113,9 @@ line_found : (word : List ℕ) → IsPlain word → (at : At) → Finds (line_at
 unfolding line_at
 line_found word plain at = by_test (has_newline at.tokens)
   where
-  by_test : (t : Bool) → Finds (if t then word_at word at else Err (record { line = at.line; field = 0; what = name.Cut })) (λ y. (at.tokens ≡ (Field word ∷ []) ++ y.1.tokens) × Unit {0})
-  by_test true = (word_exact word plain).found at
-  by_test false = record { is = tt }
+    by_test : (t : Bool) → Finds (if t then word_at word at else Err (record { line = at.line; field = 0; what = name.Cut })) (λ y. (at.tokens ≡ (Field word ∷ []) ++ y.1.tokens) × Unit {0})
+    by_test true = (word_exact word plain).found at
+    by_test false = record { is = tt }
 
 line_again : (word : List ℕ) → IsPlain word → (at : At) (x : Unit {0}) (rest : List Token) → Unit {0} → at.tokens ≡ (Field word ∷ []) ++ rest → Ended rest → Gets (line_at word at) (λ y. (y.0 ≡ x) × (y.1.tokens ≡ rest))
 unfolding line_at

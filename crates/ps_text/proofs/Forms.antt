@@ -1,18 +1,16 @@
 -- The laws of lines of a word and a count, of repetitions, and of whole texts.
-use Rattle.std.proofs.Common.{◌≡◌, ℕ, zero, suc, ◌+◌, ◌^◌, ◌<◌, ◌≤◌, Bool, true, false, ◌&&◌, List, [], ◌∷◌, ◌++◌, map, length, Result, Ok, Err, refl, sym, ap, subst, ◌∙◌, arith, append_assoc}
+use Rattle.std.proofs.Common.{◌≡◌, ℕ, zero, suc, ◌+◌, ◌^◌, ◌<◌, ◌≤◌, Bool, true, false, List, [], ◌∷◌, ◌++◌, map, length, Result, Ok, Err, refl, sym, ap, subst, ◌∙◌, arith, append_assoc}
 use Rattle.std.specs.Prelude.{IfOk, decimal, if◌then◌else◌}
 use Rattle.std.specs.List.{flat_map, AllByRecursion}
 use Rattle.std.proofs.lemmas.Bool.{cond-true, cond-false}
-use Rattle.std.proofs.lemmas.List.{append-nil}
 use Rattle.ps_text.specs.declared.form_name.FormName.{FormName}
 use Rattle.ps_text.specs.declared.form_name.FormName.TheVariants as name
 use Rattle.ps_text.specs.declared.form_fault.FormFault.{FormFault}
 use Rattle.ps_text.specs.declared.form_end.FormEnd.{FormEnd}
-use Rattle.ps_text.specs.declared.form_end.FormEnd.TheVariants.{Fault, Memory}
-use Rattle.ps_text.specs.Tokens.{Token, Field, Newline, tokens, has_newline, text_bytes, text_tokens}
-use Rattle.ps_text.specs.Reading.{At, Read, start, and_then, ◌>>=◌, Tells, placed, leaf_at, line_at, end_at, only_at, done_from, done_at, count, header_at, times_at, list_from, list_at}
+use Rattle.ps_text.specs.Tokens.{Token, Field, Newline, tokens, text_bytes, text_tokens}
+use Rattle.ps_text.specs.Reading.{At, Read, start, and_then, ◌>>=◌, Tells, placed, leaf_at, end_at, only_at, done_from, done_at, count, header_at, times_at, list_from, list_at, begins_from, begins_at, while_at}
 use Rattle.ps_text.proofs.Bytes.{IsPlain, IsClean, AreClean, IsClean-append, text_read, text_back}
-use Rattle.ps_text.proofs.Exact.{Finds, Gets, found_bind, found_end, gets_bind, gets_end, Exact, Always, IsLeaf, leaf_exact, placed_found, line_exact, end_exact}
+use Rattle.ps_text.proofs.Exact.{Finds, Gets, found_bind, found_end, gets_bind, gets_end, Exact, Always, leaf_exact, placed_found, line_exact, end_exact}
 use Rattle.ps_text.proofs.Decimals.{count_is_leaf}
 
 -- ---- a line that is a word alone
@@ -23,9 +21,9 @@ only_found word plain at =
     found_bind _ _ _ _ ((line_exact word plain).found at) (λ w p.
     record { is = lift_end word at w.1 p.0 (end_at w.1) (end_exact.found w.1).is })
   where
-  lift_end : (word : List ℕ) (at mid : At) → at.tokens ≡ (Field word ∷ []) ++ mid.tokens → (r : Result (Unit {0} × At) FormFault) → IfOk r (λ y. (mid.tokens ≡ (Newline ∷ []) ++ y.1.tokens) × Unit {0}) → IfOk r (λ y. (at.tokens ≡ (Field word ∷ (Newline ∷ [])) ++ y.1.tokens) × Unit {0})
-  lift_end word at mid e (Ok y) h = (e ∙ ap (λ (ts : List Token). Field word ∷ ts) h.0, tt)
-  lift_end word at mid e (Err f) h = tt
+    lift_end : (word : List ℕ) (at mid : At) → at.tokens ≡ (Field word ∷ []) ++ mid.tokens → (r : Result (Unit {0} × At) FormFault) → IfOk r (λ y. (mid.tokens ≡ (Newline ∷ []) ++ y.1.tokens) × Unit {0}) → IfOk r (λ y. (at.tokens ≡ (Field word ∷ (Newline ∷ [])) ++ y.1.tokens) × Unit {0})
+    lift_end word at mid e (Ok y) h = (e ∙ ap (λ (ts : List Token). Field word ∷ ts) h.0, tt)
+    lift_end word at mid e (Err f) h = tt
 
 only_again : (word : List ℕ) → IsPlain word → (at : At) (x : Unit {0}) (rest : List Token) → Unit {0} → at.tokens ≡ (Field word ∷ (Newline ∷ [])) ++ rest → Unit {0} → Gets (only_at word at) (λ y. (y.0 ≡ x) × (y.1.tokens ≡ rest))
 unfolding only_at
@@ -128,14 +126,14 @@ list_found goes leaf step text fits is (Newline ∷ ts) state line field = recor
 list_found {A = A} goes leaf step text fits is (Field f ∷ ts) state line field =
     by_test (goes f) refl (λ x. list_found goes leaf step text fits is ts (step state x) line (field + 1))
   where
-  by_test : (t : Bool) → goes f ≡ t
-    → ((x : A) → Finds (list_from goes leaf step (step state x) line (field + 1) ts) (λ y. (ts ≡ member_tokens text y.0 ++ y.1.tokens) × Chain step fits (step state x) y.0))
-    → Finds {A = List A × At} (if t then (placed line field (leaf state f) >>= λ x. list_from goes leaf step (step state x) line (field + 1) ts >>= λ xs. Ok (x ∷ xs.0, xs.1)) else Ok ([], record { line = line; field = field; tokens = Field f ∷ ts })) (λ y. (Field f ∷ ts ≡ member_tokens text y.0 ++ y.1.tokens) × Chain step fits state y.0)
-  by_test true test rest =
-      found_bind _ _ _ _ (placed_found line field (leaf state f) (λ x. (f ≡ text x) × fits state x) (is.found state f test)) (λ x p.
-      found_bind _ _ _ _ (rest x) (λ xs q.
-      found_end _ _ (ap (λ (g : List ℕ). Field g ∷ ts) p.0 ∙ ap (λ (us : List Token). Field (text x) ∷ us) q.0, (p.1, q.1))))
-  by_test false test rest = record { is = (refl, tt) }
+    by_test : (t : Bool) → goes f ≡ t
+        → ((x : A) → Finds (list_from goes leaf step (step state x) line (field + 1) ts) (λ y. (ts ≡ member_tokens text y.0 ++ y.1.tokens) × Chain step fits (step state x) y.0))
+        → Finds {A = List A × At} (if t then (placed line field (leaf state f) >>= λ x. list_from goes leaf step (step state x) line (field + 1) ts >>= λ xs. Ok (x ∷ xs.0, xs.1)) else Ok ([], record { line = line; field = field; tokens = Field f ∷ ts })) (λ y. (Field f ∷ ts ≡ member_tokens text y.0 ++ y.1.tokens) × Chain step fits state y.0)
+    by_test true test rest =
+        found_bind _ _ _ _ (placed_found line field (leaf state f) (λ x. (f ≡ text x) × fits state x) (is.found state f test)) (λ x p.
+        found_bind _ _ _ _ (rest x) (λ xs q.
+        found_end _ _ (ap (λ (g : List ℕ). Field g ∷ ts) p.0 ∙ ap (λ (us : List Token). Field (text x) ∷ us) q.0, (p.1, q.1))))
+    by_test false test rest = record { is = (refl, tt) }
 
 list_again_none : {A S : Type 0} (goes : List ℕ → Bool) (leaf : S → List ℕ → Result A FormName) (step : S → A → S) (state : S) (line field : ℕ) (rest : List Token) → Stops goes rest → Gets (list_from goes leaf step state line field rest) (λ y. (y.0 ≡ []) × (y.1.tokens ≡ rest))
 unfolding list_from
@@ -151,8 +149,8 @@ list_again {A = A} goes leaf step text fits is (x ∷ xs) state line field rest 
     let next : List A × At → Result (List A × At) FormFault = λ ys. Ok (x ∷ ys.0, ys.1) in
     let one : list_from goes leaf step state line field (Field (text x) ∷ us) ≡ (list_from goes leaf step (step state x) line (field + 1) us >>= next) = rw (is.goes_on state x fit.0, is.again state x fit.0) refl in
     let more : Gets (list_from goes leaf step (step state x) line (field + 1) us >>= next) (λ y. (y.0 ≡ x ∷ xs) × (y.1.tokens ≡ rest)) =
-        gets_bind (list_from goes leaf step (step state x) line (field + 1) us) next (λ y. (y.0 ≡ xs) × (y.1.tokens ≡ rest)) (λ y. (y.0 ≡ x ∷ xs) × (y.1.tokens ≡ rest)) (list_again goes leaf step text fits is xs (step state x) line (field + 1) rest fit.1 stops) (λ ys q.
-        gets_end _ _ (cons_is x x ys.0 xs refl q.0, q.1)) in
+    gets_bind (list_from goes leaf step (step state x) line (field + 1) us) next (λ y. (y.0 ≡ xs) × (y.1.tokens ≡ rest)) (λ y. (y.0 ≡ x ∷ xs) × (y.1.tokens ≡ rest)) (list_again goes leaf step text fits is xs (step state x) line (field + 1) rest fit.1 stops) (λ ys q.
+    gets_end _ _ (cons_is x x ys.0 xs refl q.0, q.1)) in
     record { value = more.value; ok = one ∙ more.ok; is = more.is }
 
 clean_list : {A S : Type 0} (goes : List ℕ → Bool) (leaf : S → List ℕ → Result A FormName) (step : S → A → S) (text : A → List ℕ) (fits : S → A → Type 0) → IsMember goes leaf text fits → (xs : List A) (state : S) → Chain step fits state xs → IsClean (member_tokens text xs)
@@ -171,9 +169,9 @@ list_exact goes leaf step text fits is state = record {
 pub done_found : (at : At) → Finds (done_at at) (λ _. at.tokens ≡ [])
 done_found at = by_tokens at.line at.tokens
   where
-  by_tokens : (line : ℕ) (ts : List Token) → Finds (done_from line ts) (λ _. ts ≡ [])
-  by_tokens line [] = record { is = refl }
-  by_tokens line (t ∷ ts) = record { is = tt }
+    by_tokens : (line : ℕ) (ts : List Token) → Finds (done_from line ts) (λ _. ts ≡ [])
+    by_tokens line [] = record { is = refl }
+    by_tokens line (t ∷ ts) = record { is = tt }
 
 pub done_again : (at : At) → at.tokens ≡ [] → done_at at ≡ Ok tt
 done_again at e = ap (done_from at.line) e
@@ -199,3 +197,55 @@ pub is_read : {X A : Type 0} (read : At → Result A FormFault) (lines : A → L
 is_read {A = A} read lines fits is view first bytes result told v fit e =
     let g = is.again (start first bytes) v fit (ap tokens e ∙ text_read (lines v) (is.clean v fit)) in
     subst (λ (answer : Result A FormFault). Tells view result answer) (g.ok ∙ ap (λ (w : A). Ok w) g.is) told
+
+-- ---- lines as long as they begin with a word
+
+-- each spelling begins with the word, in a line that is ended
+abbrev pub StartWith : {A : Type 0} → List ℕ → (A → List Token) → (A → Type 0) → Type 0
+StartWith {A} word spell fits = (x : A) (rest : List Token) → fits x → begins_from word (spell x ++ rest) ≡ true
+
+abbrev pub Stopped : List ℕ → List Token → Type 0
+Stopped word rest = begins_from word rest ≡ false
+
+while_found : {A : Type 0} (word : List ℕ) (read : Read A) (spell : A → List Token) (fits : A → Type 0) → Exact read spell fits Always → (limit : ℕ) (at : At) → Finds (while_at word read limit at) (λ y. (at.tokens ≡ flat_map spell y.0 ++ y.1.tokens) × ((length y.0 ≤ limit) × AllByRecursion fits y.0))
+unfolding while_at
+while_found {A = A} word read spell fits exact zero at = by_test (begins_at word at)
+  where
+    by_test : (t : Bool) → Finds {A = List A × At} (if t then Err (record { line = at.line; field = 0; what = name.Limit }) else Ok ([], at)) (λ y. (at.tokens ≡ flat_map spell y.0 ++ y.1.tokens) × ((length y.0 ≤ 0) × AllByRecursion fits y.0))
+    by_test true = record { is = tt }
+    by_test false = record { is = (refl, (omega arith, tt)) }
+while_found {A = A} word read spell fits exact (suc n) at = by_test (begins_at word at) (λ mid. while_found word read spell fits exact n mid)
+  where
+    by_test : (t : Bool) → ((mid : At) → Finds (while_at word read n mid) (λ y. (mid.tokens ≡ flat_map spell y.0 ++ y.1.tokens) × ((length y.0 ≤ n) × AllByRecursion fits y.0)))
+        → Finds {A = List A × At} (if t then (read at >>= λ x. while_at word read n x.1 >>= λ xs. Ok (x.0 ∷ xs.0, xs.1)) else Ok ([], at)) (λ y. (at.tokens ≡ flat_map spell y.0 ++ y.1.tokens) × ((length y.0 ≤ suc n) × AllByRecursion fits y.0))
+    by_test true rest =
+        found_bind _ _ _ _ (exact.found at) (λ x p.
+        found_bind _ _ _ _ (rest x.1) (λ xs q.
+        found_end _ _ (p.0 ∙ ap (λ (ts : List Token). spell x.0 ++ ts) q.0 ∙ sym (append_assoc (spell x.0) (flat_map spell xs.0) xs.1.tokens), (omega (arith, q.1.0), (p.1, q.1.1)))))
+    by_test false rest = record { is = (refl, (omega arith, tt)) }
+
+while_again_none : {A : Type 0} (word : List ℕ) (read : Read A) (limit : ℕ) (at : At) → begins_at word at ≡ false → while_at word read limit at ≡ Ok ([], at)
+unfolding while_at
+while_again_none word read zero at h = cond-false _ _ _ h
+while_again_none word read (suc n) at h = cond-false _ _ _ h
+
+while_again : {A : Type 0} (word : List ℕ) (read : Read A) (spell : A → List Token) (fits : A → Type 0) → Exact read spell fits Always → StartWith word spell fits → (xs : List A) (limit : ℕ) (at : At) (rest : List Token) → length xs ≤ limit → AllByRecursion fits xs → at.tokens ≡ flat_map spell xs ++ rest → Stopped word rest → Gets (while_at word read limit at) (λ y. (y.0 ≡ xs) × (y.1.tokens ≡ rest))
+unfolding while_at
+while_again word read spell fits exact start [] limit at rest le fit e stop =
+    record { value = ([], at); ok = while_again_none word read limit at (ap (begins_from word) e ∙ stop); is = (refl, e) }
+while_again word read spell fits exact start (x ∷ xs) zero at rest le fit e stop = absurd (omega arith)
+while_again {A = A} word read spell fits exact start (x ∷ xs) (suc n) at rest le fit e stop =
+    let split : at.tokens ≡ spell x ++ (flat_map spell xs ++ rest) = e ∙ append_assoc (spell x) (flat_map spell xs) rest in
+    let begins : begins_at word at ≡ true = ap (begins_from word) split ∙ start x (flat_map spell xs ++ rest) fit.0 in
+    let more : Gets {A = List A × At} (read at >>= λ y. while_at word read n y.1 >>= λ ys. Ok (y.0 ∷ ys.0, ys.1)) (λ y. (y.0 ≡ x ∷ xs) × (y.1.tokens ≡ rest)) =
+    gets_bind _ _ _ _ (exact.again at x (flat_map spell xs ++ rest) fit.0 split tt) (λ y p.
+    gets_bind _ _ _ _ (while_again word read spell fits exact start xs n y.1 rest (omega (arith, le)) fit.1 p.1 stop) (λ ys q.
+    gets_end _ _ (cons_is y.0 x ys.0 xs p.0 q.0, q.1))) in
+    record { value = more.value; ok = cond-true _ _ _ begins ∙ more.ok; is = more.is }
+
+pub while_exact : {A : Type 0} (word : List ℕ) (read : Read A) (spell : A → List Token) (fits : A → Type 0) → Exact read spell fits Always → StartWith word spell fits → (limit : ℕ) → Exact (while_at word read limit) (flat_map spell) (λ xs. (length xs ≤ limit) × AllByRecursion fits xs) (Stopped word)
+while_exact word read spell fits exact start limit = record {
+  found = while_found word read spell fits exact limit;
+  again = λ at xs rest fit e stop. while_again word read spell fits exact start xs limit at rest fit.0 fit.1 e stop;
+  clean = λ xs fit. clean_times spell fits exact.clean xs fit.1;
+}

@@ -1,7 +1,5 @@
 -- Reading one after the other, as loops do: what was read, with what is still read, is all.
-use Rattle.std.proofs.Common.{◌≡◌, ℕ, zero, suc, ◌-◌, ◌+◌, ◌≤◌, ◌<◌, Bool, true, false, List, [], ◌∷◌, ◌++◌, length, Option, Some, None, Result, Ok, Err, refl, sym, ap, subst, ◌∙◌, append_assoc, arith}
-use Rattle.std.specs.Prelude.{if◌then◌else◌}
-use Rattle.std.proofs.lemmas.Bool.{cond-true, cond-false}
+use Rattle.std.proofs.Common.{◌≡◌, ℕ, zero, suc, ◌-◌, ◌+◌, ◌≤◌, ◌<◌, Bool, true, false, List, [], ◌∷◌, ◌++◌, length, Option, Some, None, Result, Ok, Err, refl, sym, ap, ◌∙◌, append_assoc, arith}
 use Rattle.std.proofs.lemmas.List.{append-nil}
 use Rattle.std.proofs.lemmas.Option.{none-some}
 use Rattle.ps_text.specs.declared.form_name.FormName.{FormName}
@@ -9,8 +7,8 @@ use Rattle.ps_text.specs.declared.form_name.FormName.TheVariants as name
 use Rattle.ps_text.specs.declared.form_fault.FormFault.{FormFault}
 use Rattle.ps_text.specs.declared.form_end.FormEnd.{FormEnd}
 use Rattle.ps_text.specs.declared.form_end.FormEnd.TheVariants.{Fault, Memory}
-use Rattle.ps_text.specs.Reading.{At, Read, and_then, ◌>>=◌, Gives, placed, leaf_at, times_at, list_from, list_at, goes_on, member_at, begins_at, line_fault, while_at}
-use Rattle.ps_text.specs.Tokens.{Token, Field, Newline, next_field}
+use Rattle.ps_text.specs.Reading.{At, Read, and_then, ◌>>=◌, Gives, placed, leaf_at, times_at, list_from, list_at, member_at, begins_at, line_fault, while_at}
+use Rattle.ps_text.specs.Tokens.{Token, Field, Newline}
 
 -- what was read before, and what is still read
 abbrev pub with_front : {A : Type 0} → List A → Result (List A × At) FormFault → Result (List A × At) FormFault
@@ -71,18 +69,20 @@ list_by_members : {A S : Type 0} (goes : List ℕ → Bool) (leaf : S → List �
 unfolding and_then list_from leaf_at
 list_by_members goes leaf step state at = by_tokens goes leaf step state at.line at.field at.tokens
   where
-  by_leaf : {A S : Type 0} (goes : List ℕ → Bool) (leaf : S → List ℕ → Result A FormName) (step : S → A → S) (state : S) (line field : ℕ) (ts : List Token) (r : Result A FormName) →
-    and_then (placed line field r) (λ x. and_then (list_from goes leaf step (step state x) line (field + 1) ts) (λ xs. Ok (x ∷ xs.0, xs.1)))
-    ≡ and_then {A = Option A × At} (and_then {A = A × At} (and_then (placed line field r) (λ x. Ok (x, record { line = line; field = field + 1; tokens = ts }))) (λ x. Ok (Some x.0, x.1))) (λ x. then_list goes leaf step state x.0 x.1)
-  by_leaf goes leaf step state line field ts (Ok x) = refl
-  by_leaf goes leaf step state line field ts (Err what) = refl
-  by_test : {A S : Type 0} (goes : List ℕ → Bool) (leaf : S → List ℕ → Result A FormName) (step : S → A → S) (state : S) (line field : ℕ) (f : List ℕ) (ts : List Token) (t : Bool) → goes f ≡ t → list_at goes leaf step state (record { line = line; field = field; tokens = Field f ∷ ts }) ≡ (member_at goes (leaf state) (record { line = line; field = field; tokens = Field f ∷ ts }) >>= λ x. then_list goes leaf step state x.0 x.1)
-  by_test goes leaf step state line field f ts true e = rw e (by_leaf goes leaf step state line field ts (leaf state f))
-  by_test goes leaf step state line field f ts false e = rw e refl
-  by_tokens : {A S : Type 0} (goes : List ℕ → Bool) (leaf : S → List ℕ → Result A FormName) (step : S → A → S) (state : S) (line field : ℕ) (ts : List Token) → list_at goes leaf step state (record { line = line; field = field; tokens = ts }) ≡ (member_at goes (leaf state) (record { line = line; field = field; tokens = ts }) >>= λ x. then_list goes leaf step state x.0 x.1)
-  by_tokens goes leaf step state line field [] = refl
-  by_tokens goes leaf step state line field (Newline ∷ ts) = refl
-  by_tokens goes leaf step state line field (Field f ∷ ts) = by_test goes leaf step state line field f ts (goes f) refl
+    by_leaf : {A S : Type 0} (goes : List ℕ → Bool) (leaf : S → List ℕ → Result A FormName) (step : S → A → S) (state : S) (line field : ℕ) (ts : List Token) (r : Result A FormName) →
+        and_then (placed line field r) (λ x. and_then (list_from goes leaf step (step state x) line (field + 1) ts) (λ xs. Ok (x ∷ xs.0, xs.1)))
+        ≡ and_then {A = Option A × At} (and_then {A = A × At} (and_then (placed line field r) (λ x. Ok (x, record { line = line; field = field + 1; tokens = ts }))) (λ x. Ok (Some x.0, x.1))) (λ x. then_list goes leaf step state x.0 x.1)
+    by_leaf goes leaf step state line field ts (Ok x) = refl
+    by_leaf goes leaf step state line field ts (Err what) = refl
+
+    by_test : {A S : Type 0} (goes : List ℕ → Bool) (leaf : S → List ℕ → Result A FormName) (step : S → A → S) (state : S) (line field : ℕ) (f : List ℕ) (ts : List Token) (t : Bool) → goes f ≡ t → list_at goes leaf step state (record { line = line; field = field; tokens = Field f ∷ ts }) ≡ (member_at goes (leaf state) (record { line = line; field = field; tokens = Field f ∷ ts }) >>= λ x. then_list goes leaf step state x.0 x.1)
+    by_test goes leaf step state line field f ts true e = rw e (by_leaf goes leaf step state line field ts (leaf state f))
+    by_test goes leaf step state line field f ts false e = rw e refl
+
+    by_tokens : {A S : Type 0} (goes : List ℕ → Bool) (leaf : S → List ℕ → Result A FormName) (step : S → A → S) (state : S) (line field : ℕ) (ts : List Token) → list_at goes leaf step state (record { line = line; field = field; tokens = ts }) ≡ (member_at goes (leaf state) (record { line = line; field = field; tokens = ts }) >>= λ x. then_list goes leaf step state x.0 x.1)
+    by_tokens goes leaf step state line field [] = refl
+    by_tokens goes leaf step state line field (Newline ∷ ts) = refl
+    by_tokens goes leaf step state line field (Field f ∷ ts) = by_test goes leaf step state line field f ts (goes f) refl
 
 pub many_more : {A S : Type 0} (goes : List ℕ → Bool) (leaf : S → List ℕ → Result A FormName) (step : S → A → S) (front : List A) (state : S) (at after : At) (x : A) (total : Result (List A × At) FormFault) → Many goes leaf step front state at total → member_at goes (leaf state) at ≡ Ok (Some x, after) → Many goes leaf step (front ++ x ∷ []) (step state x) after total
 unfolding and_then

@@ -1,5 +1,5 @@
 -- Reading a text from left to right, with the first fault that is met.
-use Rattle.std.specs.Prelude.{◌≡◌, ℕ, zero, suc, ◌+◌, Bool, true, false, ◌&&◌, List, [], ◌∷◌, Option, Some, None, ok_or, Result, Ok, Err, nat_le, if◌then◌else◌, ℤ}
+use Rattle.std.specs.Prelude.{◌≡◌, ℕ, zero, suc, ◌+◌, Bool, false, ◌&&◌, List, [], ◌∷◌, Option, Some, None, ok_or, Result, Ok, Err, nat_le, if◌then◌else◌, ℤ}
 use Rattle.std.specs.Str.{bytes_eq}
 use Rattle.ps_text.specs.declared.form_name.FormName.{FormName}
 use Rattle.ps_text.specs.declared.form_name.FormName.TheVariants as name
@@ -143,8 +143,8 @@ unfoldable pub list_from : {A S : Type 0} → (List ℕ → Bool) → (S → Lis
 list_from goes leaf step state line field [] = Ok ([], record { line = line; field = field; tokens = [] })
 list_from goes leaf step state line field (Newline ∷ ts) = Ok ([], record { line = line; field = field; tokens = Newline ∷ ts })
 list_from goes leaf step state line field (Field f ∷ ts) =
-  if goes f then (placed line field (leaf state f) >>= λ x. list_from goes leaf step (step state x) line (field + 1) ts >>= λ xs. Ok (x ∷ xs.0, xs.1))
-  else Ok ([], record { line = line; field = field; tokens = Field f ∷ ts })
+    if goes f then (placed line field (leaf state f) >>= λ x. list_from goes leaf step (step state x) line (field + 1) ts >>= λ xs. Ok (x ∷ xs.0, xs.1))
+    else Ok ([], record { line = line; field = field; tokens = Field f ∷ ts })
 
 abbrev pub list_at : {A S : Type 0} → (List ℕ → Bool) → (S → List ℕ → Result A FormName) → (S → A → S) → S → Read (List A)
 list_at goes leaf step state at = list_from goes leaf step state at.line at.field at.tokens
@@ -170,7 +170,7 @@ begins_at word at = begins_from word at.tokens
 unfoldable pub while_at : {A : Type 0} → List ℕ → Read A → ℕ → Read (List A)
 while_at word read zero at = if begins_at word at then Err (line_fault at name.Limit) else Ok ([], at)
 while_at word read (suc n) at =
-  if begins_at word at then (read at >>= λ x. while_at word read n x.1 >>= λ xs. Ok (x.0 ∷ xs.0, xs.1)) else Ok ([], at)
+    if begins_at word at then (read at >>= λ x. while_at word read n x.1 >>= λ xs. Ok (x.0 ∷ xs.0, xs.1)) else Ok ([], at)
 
 -- ---- what calls promise
 

@@ -67,7 +67,11 @@ fn value_of(digits: &[u8]) -> Option<u128>
 fn number_of(field: &[u8]) -> Option<u128>
     ensures { result ≡ u128_of field.now }
 {
-    if is_canonical(field) { value_of(field) } else { None }
+    if is_canonical(field) {
+        value_of(field)
+    } else {
+        None
+    }
 }
 
 /// The number of which the field is the canonical decimal. Looks at each byte at most three times.

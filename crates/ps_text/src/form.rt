@@ -23,7 +23,11 @@ pub trait Form {
 
 /// This many, one after the other.
 #[tactic(auto, using(crate::proofs::Loop::times_none, crate::proofs::Loop::times_more, crate::proofs::Loop::times_all, crate::proofs::Loop::times_fails))]
-pub fn times<'a, F: Form>(alloc: Global, count: u32, reader: &mut Reader<'a>) -> Result<Vec<F::Value>, FormEnd>
+pub fn times<'a, F: Form>(
+    alloc: Global,
+    count: u32,
+    reader: &mut Reader<'a>,
+) -> Result<Vec<F::Value>, FormEnd>
     ensures { Gives (λ v. v.items) result reader.new (times_at F.reading count reader.old) }
 {
     let mut list = Vec::new(alloc);

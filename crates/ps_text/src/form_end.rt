@@ -1,3 +1,4 @@
+//! Why a text was not read.
 ghost use Rattle.std.specs.Prelude.{◌≡◌};
 ghost use Rattle.ps_text.specs.declared.form_end.FormEnd.TheVariants.{Fault, Memory};
 

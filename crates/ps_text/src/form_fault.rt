@@ -1,3 +1,4 @@
+//! The first fault of a text and its place.
 ghost use Rattle.std.specs.Prelude.{◌≡◌};
 
 use crate::form_name::FormName;

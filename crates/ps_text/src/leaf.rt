@@ -27,7 +27,10 @@ pub trait Leaf {
 
 /// Takes the next field, as a value.
 #[tactic(auto, unfolding(crate::specs::Reading::leaf_at, crate::specs::Reading::and_then))]
-pub fn take_leaf<'a, L: Leaf>(before: Option<L::Value>, reader: &mut Reader<'a>) -> Result<L::Value, FormFault>
+pub fn take_leaf<'a, L: Leaf>(
+    before: Option<L::Value>,
+    reader: &mut Reader<'a>,
+) -> Result<L::Value, FormFault>
     ensures { Reads (λ x. x) result reader.new (leaf_at (L.reading before) reader.old) }
 {
     let fault = reader.fault(FormName::Field);
@@ -49,7 +52,11 @@ fn goes_on<'a>(until: &Until<'_>, reader: &Reader<'a>) -> bool
 
 // The next member of a list, or none where the list ends.
 #[tactic(auto, unfolding(crate::specs::Reading::and_then))]
-fn member<'a, L: Leaf>(until: &Until<'_>, before: Option<L::Value>, reader: &mut Reader<'a>) -> Result<Option<L::Value>, FormFault>
+fn member<'a, L: Leaf>(
+    until: &Until<'_>,
+    before: Option<L::Value>,
+    reader: &mut Reader<'a>,
+) -> Result<Option<L::Value>, FormFault>
     ensures { Reads (λ x. x) result reader.new (member_at (goes until.now) (L.reading before) reader.old) }
 {
     if !goes_on(until, reader) {
@@ -61,7 +68,11 @@ fn member<'a, L: Leaf>(until: &Until<'_>, before: Option<L::Value>, reader: &mut
 
 /// The members of a list in a line, each read with the one before it.
 #[tactic(auto, using(crate::proofs::Loop::many_none, crate::proofs::Loop::many_more, crate::proofs::Loop::many_all, crate::proofs::Loop::many_fails))]
-pub fn list<'a, L: Leaf>(alloc: Global, until: &Until<'_>, reader: &mut Reader<'a>) -> Result<Vec<L::Value>, FormEnd>
+pub fn list<'a, L: Leaf>(
+    alloc: Global,
+    until: &Until<'_>,
+    reader: &mut Reader<'a>,
+) -> Result<Vec<L::Value>, FormEnd>
     ensures { Gives (λ v. v.items) result reader.new (list_at (goes until.now) L.reading (λ _ x. Some x) None reader.old) }
 {
     let mut list = Vec::new(alloc);

@@ -33,8 +33,9 @@ impl<'a> Model for Reader<'a> {
 }
 
 // How many bytes stand before the first blank or line feed.
-fn field_len(bytes: &[u8]) -> usize
-    ensures { result ≡ field_len bytes.now }
+pub(crate) fn field_len(bytes: &[u8]) -> usize
+    ensures value { result ≡ field_len bytes.now }
+    ensures within { result ≤ length bytes.now }
 {
     for (i, byte) in bytes.iter().enumerate() {
         if *byte == b' ' || *byte == b'\n' {

@@ -1,3 +1,4 @@
+//! Where a list of fields ends.
 ghost use Rattle.std.specs.Prelude.{◌≡◌};
 
 /// Up to where a list of fields goes.

@@ -7,5 +7,5 @@ use Rattle.ps_farkas.proofs.visit.visit.Given as goal
 abbrev pub invariant-loop-i : goal.invariant-loop-i
 invariant-loop-i l = record {
   sum : Weighed (λ t. coefficient l.variable t.pairs) l.rows l.lambda l.sum (drop l.i l.rows) (drop l.i l.lambda);
-  next : IsNext (Some l.variable) (take l.i l.rows) l.next
+  next : IsNext (Some l.variable) (take l.i l.rows) l.next;
 }

@@ -1,4 +1,4 @@
-use Rattle.std.proofs.Common.{◌≡◌, ◌++◌, ◌∷◌, [], ◌∙◌, ap, ℕ, List, All}
+use Rattle.std.proofs.Common.{◌++◌, ◌∷◌, [], ◌∙◌, ap, ℕ, List, All}
 use Rattle.ps_hit.specs.Hitting.{numbers_of}
 use Rattle.ps_hit.specs.Covers.{covers_with, HasOwn}
 use Rattle.ps_hit.proofs.Nodes.{covers_length, adds_none, adds_one}

@@ -1,6 +1,5 @@
-use Rattle.std.proofs.Common.{◌≡◌, ℕ, eqb}
+use Rattle.std.proofs.Common.{ℕ, eqb}
 use Rattle.std.specs.Cmp.{nat_eq_equiv}
-use Rattle.std.specs.List.{IsDistinct}
 use Rattle.std.specs.List.Sorted.{IsPermutation}
 use Rattle.std.proofs.lemmas.List.Sorted.{IsNonDecreasingBy-from_sort, Contains-permutation, IsPermutation-sym}
 use Rattle.std.proofs.lemmas.Map.Keys.{IsDistinct-IsPermutation, IsStrictlyIncreasing-from_distinct}
@@ -15,6 +14,7 @@ returns-clause-ascends c =
 
 pub returns-clause-same : goal.returns-clause-same
 returns-clause-same c = λ n.
-    let perm : IsPermutation c.args.numbers.now c.sort.new.self.items = rw (← c.in_ok-list.ensures.items) c.in_ok-sort.ensures.permutation in
-    (λ h. Contains-permutation c.sort.new.self.items c.args.numbers.now n (IsPermutation-sym c.args.numbers.now c.sort.new.self.items perm) h,
-     λ h. Contains-permutation c.args.numbers.now c.sort.new.self.items n perm h)
+    let perm : IsPermutation c.args.numbers.now c.sort.new.self.items = rw (← c.in_ok-list.ensures.items) c.in_ok-sort.ensures.permutation in (
+      λ h. Contains-permutation c.sort.new.self.items c.args.numbers.now n (IsPermutation-sym c.args.numbers.now c.sort.new.self.items perm) h,
+      λ h. Contains-permutation c.args.numbers.now c.sort.new.self.items n perm h,
+    )

@@ -1,4 +1,4 @@
-use Rattle.std.proofs.Common.{◌≡◌, ◌∙◌, ℕ, List, ap, sym, get_or, []}
+use Rattle.std.proofs.Common.{◌∙◌, ℕ, List, ap, sym, get_or}
 use Rattle.std.specs.Prelude.{◌==◌}
 use Rattle.std.specs.List.{list_any}
 use Rattle.ps_hit.specs.declared.cover.Cover.TheVariants.{Unmet}

@@ -1,4 +1,3 @@
-use Rattle.std.proofs.Common.{List}
 use Rattle.ps_hit.specs.Hitting.{numbers_of}
 use Rattle.ps_hit.proofs.Branching.{Branching}
 use Rattle.ps_hit.proofs.search.branch.Given as goal

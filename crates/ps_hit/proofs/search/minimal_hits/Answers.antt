@@ -1,5 +1,4 @@
-use Rattle.std.proofs.Common.{◌≡◌, ◌≢◌, ◌∙◌, ◌++◌, ◌∷◌, [], ◌-◌, ◌<◌, ℕ, List, ap, sym, subst, refl, take, length, arith, rules, All}
-use Rattle.ps_hit.specs.declared.cover.Cover.{Cover}
+use Rattle.std.proofs.Common.{◌≡◌, ◌∙◌, ◌++◌, ◌∷◌, [], ◌-◌, ℕ, List, ap, subst, refl, take, length, arith, rules}
 use Rattle.ps_hit.specs.declared.cover.Cover.TheVariants.{Unmet}
 use Rattle.ps_hit.specs.declared.node.Node.{Node}
 use Rattle.ps_hit.specs.Hitting.{numbers_of}
@@ -12,12 +11,12 @@ use Rattle.ps_hit.proofs.search.minimal_hits.Goals as goal
 -- the root waits
 pub loop-node-init : goal.loop-node-init
 loop-node-init c = record {
-    searching = searching_first (numbers_of c.args.sets.now) c.in_ok-root.field-0 (numbers_of c.new-found.result.keys) c.push.new.self.items
+  searching = searching_first (numbers_of c.args.sets.now) c.in_ok-root.field-0 (numbers_of c.new-found.result.keys) c.push.new.self.items
       (rw c.new-found.ensures.empty refl) (numbers_ordered c.new-found.result.keys c.new-found.ensures.ordered)
       (c.in_ok-push.ensures.items ∙ ap (λ (nodes : List Node). nodes ++ c.in_ok-root.field-0 ∷ []) c.new-waiting.ensures.items)
       c.in_ok-root.ensures.node c.in_ok-root.ensures.chosen c.in_ok-root.ensures.barred;
-    few = rw c.new-found.ensures.empty (search rules);
-  }
+  few = rw c.new-found.ensures.empty (search rules);
+}
 
 pub shortest_unmet-requires : goal.shortest_unmet-requires
 shortest_unmet-requires c =
@@ -40,19 +39,19 @@ loop-node-smaller-in-Some-shortest_unmet c =
 -- the node went, and its children wait
 pub loop-node-preserved-in-Some-shortest_unmet : goal.loop-node-preserved-in-Some-shortest_unmet
 loop-node-preserved-in-Some-shortest_unmet c = record {
-    searching = searching_branch (numbers_of c.args.sets.now) (numbers_of c.loop-node.found.keys) c.loop-node.waiting.items c.pop.new.self.items c.branch-alloc.new.waiting.items c.in-Some.node c.in-Some-shortest_unmet.place
+  searching = searching_branch (numbers_of c.args.sets.now) (numbers_of c.loop-node.found.keys) c.loop-node.waiting.items c.pop.new.self.items c.branch-alloc.new.waiting.items c.in-Some.node c.in-Some-shortest_unmet.place
       c.loop-node.invariant.searching c.in-Some.ensures.items (rw length-numbers_of c.in-Some-shortest_unmet.ensures.within) c.in_ok-branch.ensures;
-    few = c.loop-node.invariant.few;
-  }
+  few = c.loop-node.invariant.few;
+}
 
 -- one more was found, and they are too many
 pub returns-then-len-most-clause-too_many : goal.returns-then-len-most-clause-too_many
 returns-then-len-most-clause-too_many c =
     let after : Searching (numbers_of c.args.sets.now) (numbers_of c.insert.new.self.keys) c.pop.new.self.items =
-      searching_leaf (numbers_of c.args.sets.now) (numbers_of c.loop-node.found.keys) (numbers_of c.insert.new.self.keys) c.loop-node.waiting.items c.pop.new.self.items c.in-Some.node c.in_ok-ascending.field-0.items
-      c.loop-node.invariant.searching c.in-Some.ensures.items (rw (← c.as_slice.ensures.value) c.in_default-shortest_unmet.ensures.none) c.in_ok-ascending.ensures.ascends
-      (rw (← c.as_slice-in-Some.ensures.value) c.in_ok-ascending.ensures.same)
-      (rw c.in_ok-insert.ensures.keys (numbers_put c.loop-node.found.keys c.in_ok-ascending.field-0)) (numbers_ordered c.insert.new.self.keys c.len.ensures.ordered) in
+    searching_leaf (numbers_of c.args.sets.now) (numbers_of c.loop-node.found.keys) (numbers_of c.insert.new.self.keys) c.loop-node.waiting.items c.pop.new.self.items c.in-Some.node c.in_ok-ascending.field-0.items
+    c.loop-node.invariant.searching c.in-Some.ensures.items (rw (← c.as_slice.ensures.value) c.in_default-shortest_unmet.ensures.none) c.in_ok-ascending.ensures.ascends
+    (rw (← c.as_slice-in-Some.ensures.value) c.in_ok-ascending.ensures.same)
+    (rw c.in_ok-insert.ensures.keys (numbers_put c.loop-node.found.keys c.in_ok-ascending.field-0)) (numbers_ordered c.insert.new.self.keys c.len.ensures.ordered) in
     record {
       hits = numbers_of c.insert.new.self.keys;
       are_minimal = after.minimal;
@@ -67,12 +66,12 @@ loop-node-smaller c = leaf_less (numbers_of c.args.sets.now) c.loop-node.waiting
 -- one more was found
 pub loop-node-preserved : goal.loop-node-preserved
 loop-node-preserved c = record {
-    searching = searching_leaf (numbers_of c.args.sets.now) (numbers_of c.loop-node.found.keys) (numbers_of c.insert.new.self.keys) c.loop-node.waiting.items c.pop.new.self.items c.in-Some.node c.in_ok-ascending.field-0.items
+  searching = searching_leaf (numbers_of c.args.sets.now) (numbers_of c.loop-node.found.keys) (numbers_of c.insert.new.self.keys) c.loop-node.waiting.items c.pop.new.self.items c.in-Some.node c.in_ok-ascending.field-0.items
       c.loop-node.invariant.searching c.in-Some.ensures.items (rw (← c.as_slice.ensures.value) c.in_default-shortest_unmet.ensures.none) c.in_ok-ascending.ensures.ascends
       (rw (← c.as_slice-in-Some.ensures.value) c.in_ok-ascending.ensures.same)
       (rw c.in_ok-insert.ensures.keys (numbers_put c.loop-node.found.keys c.in_ok-ascending.field-0)) (numbers_ordered c.insert.new.self.keys c.len.ensures.ordered);
-    few = omega (arith, c.len.ensures.len, c.if-len-most.false);
-  }
+  few = omega (arith, c.len.ensures.len, c.if-len-most.false);
+}
 
 pub returns-clause-minimal : goal.returns-clause-minimal
 returns-clause-minimal c = rw c.in_ok-listed.ensures c.loop-node.invariant.searching.minimal

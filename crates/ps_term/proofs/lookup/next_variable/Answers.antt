@@ -1,8 +1,5 @@
 use Rattle.std.proofs.Common.{◌≢◌, pos, Option, IfSome, subst, sym, ap, ◌∙◌}
 use Rattle.ps_term.specs.declared.var.Var.{Var}
-use Rattle.ps_term.specs.declared.bound.Bound.{Bound}
-use Rattle.std.specs.List.Sorted.{IsPartitionPoint}
-use Rattle.ps_term.specs.Bound.{is_within}
 use Rattle.ps_term.specs.Front.{first_variable}
 use Rattle.ps_term.specs.Lookup.{IsAfter, IsBefore}
 use Rattle.ps_term.specs.Pairs.{coefficient}

@@ -1,4 +1,4 @@
-use Rattle.std.proofs.Common.{◌≡◌, ℤ, pos, negsuc, ◌+ℤ◌, ◌*ℤ◌, Result, Err, subst, ap}
+use Rattle.std.proofs.Common.{◌≡◌, negsuc, ◌+ℤ◌, ◌*ℤ◌, Result, Err, subst, ap}
 use Rattle.ps_term.specs.declared.term.Term.{Term}
 use Rattle.ps_term.specs.declared.term.TermEnd.TheVariants.{Past128}
 use Rattle.ps_term.specs.Term.{value}

@@ -7,12 +7,12 @@ use Rattle.ps_term.proofs.place.place_of.Goals as goal
 pub returns-then-parts_at-clause-parts : goal.returns-then-parts_at-clause-parts
 returns-then-parts_at-clause-parts c =
     parts-here (λ p. is_within c.args.bound p.0) c.args.pairs.now c.args.near (parted-within c.args.bound c.args.pairs.now c.requires)
-        (c.if-parts_at.ensures.within refl) (c.if-parts_at.ensures.front refl) (c.if-parts_at.ensures.back refl)
+    (c.if-parts_at.ensures.within refl) (c.if-parts_at.ensures.front refl) (c.if-parts_at.ensures.back refl)
 
 pub returns-then-parts_at-2-clause-parts : goal.returns-then-parts_at-2-clause-parts
 returns-then-parts_at-2-clause-parts c =
     parts-here (λ p. is_within c.args.bound p.0) c.args.pairs.now c.saturating_add-next.result (parted-within c.args.bound c.args.pairs.now c.requires)
-        (c.if-parts_at-2.ensures.within refl) (c.if-parts_at-2.ensures.front refl) (c.if-parts_at-2.ensures.back refl)
+    (c.if-parts_at-2.ensures.within refl) (c.if-parts_at-2.ensures.front refl) (c.if-parts_at-2.ensures.back refl)
 
 pub returns-clause-parts : goal.returns-clause-parts
 returns-clause-parts c =

@@ -4,7 +4,6 @@ use Rattle.std.proofs.lemmas.Int.{to_z-of_z}
 use Rattle.std.proofs.lemmas.List.{drop_all}
 use Rattle.std.proofs.lemmas.Result.{on_ok_weaker}
 use Rattle.ps_term.specs.declared.term.Term.{Term}
-use Rattle.ps_term.specs.declared.var.Var.{Var}
 use Rattle.ps_term.specs.Substitution.{replacement}
 use Rattle.ps_term.specs.Sums.{TermFits}
 use Rattle.ps_term.specs.Term.{variable_term}

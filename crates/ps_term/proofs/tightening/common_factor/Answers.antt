@@ -1,4 +1,4 @@
-use Rattle.std.proofs.Common.{◌≡◌, ℕ, ℤ, pos, get_or, unsigned_abs, FitsSigned, rules, subst}
+use Rattle.std.proofs.Common.{ℕ, ℤ, pos, get_or, unsigned_abs, FitsSigned, rules, subst}
 use Rattle.std.specs.Int.{w128, IsGcd}
 use Rattle.std.proofs.lemmas.Int.{to_z-of_z}
 use Rattle.ps_term.specs.declared.var.Var.{Var}

@@ -1,4 +1,4 @@
-use Rattle.std.proofs.Common.{◌≡◌, ℤ, pos, FitsSigned, List, rules, arith, subst, ap}
+use Rattle.std.proofs.Common.{ℤ, pos, FitsSigned, List, rules, subst}
 use Rattle.std.specs.Int.{w128}
 use Rattle.std.proofs.lemmas.Int.{to_z-of_z}
 use Rattle.ps_term.specs.declared.var.Var.{Var}

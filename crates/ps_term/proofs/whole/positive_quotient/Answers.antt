@@ -1,4 +1,4 @@
-use Rattle.std.proofs.Common.{◌≡◌, ℤ, pos, ◌<◌, ◌^◌, unsigned_abs, FitsSigned, arith, rules, sym, subst}
+use Rattle.std.proofs.Common.{◌≡◌, ℤ, pos, ◌<◌, ◌^◌, unsigned_abs, FitsSigned, rules, sym, subst}
 use Rattle.std.specs.Int.{w128, div_ceil}
 use Rattle.std.proofs.lemmas.Int.{to_z_pos, to_z-of_z}
 use Rattle.ps_term.specs.Whole.{IsCeiling}

@@ -1,0 +1,6 @@
+/// A part of a text, from the byte at `start` up to the one before `end`.
+#[derive(Clone, Copy, Debug, PartialEq, Eq, PartialOrd, Ord, Hash)]
+pub struct Span {
+    pub start: u32,
+    pub end: u32,
+}
