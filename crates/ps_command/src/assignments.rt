@@ -3,8 +3,7 @@ ghost use Rattle.std.specs.Prelude.{◌≡◌, IfOk};
 ghost use Rattle.ps_command.specs.Assignments.{AreDistinct};
 
 use crate::sequence::{Duplicate, copies};
-use ps_term::term::Term;
-use ps_term::var::Var;
+use ps_term::{Term, Var};
 use std::alloc::{AllocError, Global};
 use std::marker::Model;
 

@@ -2,9 +2,7 @@
 ghost use Rattle.std.specs.Prelude.{◌≡◌, IfOk};
 
 use crate::sequence::Duplicate;
-use ps_term::row::Row;
-use ps_term::term::Term;
-use ps_term::var::Var;
+use ps_term::{Row, Term, Var};
 use std::alloc::{AllocError, Global};
 
 /// One op of a command. `Local(0, n)` is local n of the thread that runs it.

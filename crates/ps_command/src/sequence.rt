@@ -1,7 +1,7 @@
 //! Lists as fields of plain data.
 ghost use Rattle.std.specs.Prelude.{◌≡◌, IfOk, length};
 
-use ps_term::row::Row;
+use ps_term::Row;
 use std::alloc::{AllocError, Global};
 use std::marker::Model;
 

@@ -7,7 +7,7 @@ ghost use Rattle.ps_command.specs.Symbolic.{AreForms};
 use crate::command::Command;
 use crate::sequence::Sequence;
 use crate::symbolic_form::SymbolicForm;
-use ps_term::row::Row;
+use ps_term::Row;
 use std::alloc::{AllocError, Global};
 
 /// How many globals and locals there are, the rows that hold of initial states, and the commands with

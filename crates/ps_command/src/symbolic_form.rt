@@ -3,7 +3,7 @@ ghost use Rattle.std.specs.Prelude.{◌≡◌, IfOk};
 
 use crate::assignments::Assignments;
 use crate::sequence::{Duplicate, Sequence};
-use ps_term::row::Row;
+use ps_term::Row;
 use std::alloc::{AllocError, Global};
 
 /// What a command does, over the values before it and `Havoc(i)` for its i-th havoc: it runs where the

@@ -6,10 +6,7 @@ use crate::sequence::{Duplicate, Sequence};
 use crate::setting::Setting;
 use crate::state::State;
 use crate::symbolic_form::SymbolicForm;
-use ps_term::pairs::Pairs;
-use ps_term::row::Row;
-use ps_term::term::Term;
-use ps_term::var::Var;
+use ps_term::{Pairs, Row, Term, Var};
 use std::alloc::{AllocError, Global};
 use std::test::Fail;
 

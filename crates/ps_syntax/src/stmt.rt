@@ -3,7 +3,7 @@ ghost use Rattle.std.specs.Prelude.{◌≡◌, IfOk};
 
 use crate::cond::{Cond, Test};
 use crate::sum::Sum;
-use ps_term::var::Var;
+use ps_term::Var;
 use ps_text::Place;
 use sqlite_items::Items;
 use std::alloc::{AllocError, Global};

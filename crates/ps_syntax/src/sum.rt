@@ -1,7 +1,7 @@
 //! Sums.
 ghost use Rattle.std.specs.Prelude.{◌≡◌, IfOk};
 
-use ps_term::var::Var;
+use ps_term::Var;
 use sqlite_items::Items;
 use std::alloc::{AllocError, Global};
 

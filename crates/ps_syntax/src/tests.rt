@@ -6,7 +6,7 @@ use crate::program::Program;
 use crate::relation::{Relation, Sign};
 use crate::stmt::{Stmt, StmtKind};
 use crate::sum::Sum;
-use ps_term::var::Var;
+use ps_term::Var;
 use ps_text::Place;
 use sqlite_items::{Boxed, Items};
 use std::alloc::{AllocError, Global};
