@@ -1,5 +1,5 @@
 -- Lists of pairs of a variable and a term.
-use Rattle.std.specs.Prelude.{Bool, not, List, [], ◌∷◌, IsTrue}
+use Rattle.std.specs.Prelude.{not, List, [], ◌∷◌, IsTrue}
 use Rattle.std.specs.List.{list_all}
 use Rattle.ps_term.specs.declared.term.Term.{Term}
 use Rattle.ps_term.specs.declared.var.Var.{Var}

@@ -1,5 +1,5 @@
 -- What the symbolic form of a command is.
-use Rattle.std.specs.Prelude.{◌≡◌, ℕ, ℤ, pos, List, [], ◌∷◌, slice_index_or, Option, Some, None, if◌then◌else◌}
+use Rattle.std.specs.Prelude.{◌≡◌, ℤ, pos, List, [], ◌∷◌, slice_index_or, Some, None, if◌then◌else◌}
 use Rattle.std.specs.List.{list_all}
 use Rattle.ps_command.specs.Run.{holds, run_on, havocs_in}
 use Rattle.ps_command.specs.declared.command.Command.{Command}
@@ -7,7 +7,7 @@ use Rattle.ps_command.specs.declared.op.Op.{Op}
 use Rattle.ps_command.specs.declared.symbolic_form.SymbolicForm.{SymbolicForm}
 use Rattle.ps_term.specs.declared.term.Term.{Term}
 use Rattle.ps_term.specs.declared.var.Var.{Var}
-use Rattle.ps_term.specs.declared.var.Var.TheVariants.{Global, Local, Havoc}
+use Rattle.ps_term.specs.declared.var.Var.TheVariants.{Havoc}
 use Rattle.ps_term.specs.Term.{value}
 use Rattle.ps_term.specs.Var.{var_eq}
 

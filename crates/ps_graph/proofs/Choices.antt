@@ -1,5 +1,5 @@
 -- An edge that is drawn of a path gives what the path gives.
-use Rattle.std.proofs.Common.{◌≡◌, Bool, true, false, refl, sym, ◌∙◌, ap, ap₂, subst, ℕ, ℤ, pos, List, [], ◌∷◌, if◌then◌else◌}
+use Rattle.std.proofs.Common.{◌≡◌, Bool, true, false, refl, ◌∙◌, ap, ap₂, ℕ, ℤ, pos, List, [], ◌∷◌, if◌then◌else◌}
 use Rattle.std.specs.Prelude.{Option, Some, None, option_map, int_le}
 use Rattle.std.specs.Ordering.{int_eq}
 use Rattle.std.specs.Option.{option_and_then}
@@ -8,16 +8,15 @@ use Rattle.ps_command.specs.Values.{Values, value_at, with_value}
 use Rattle.ps_command.specs.declared.command.Command.{Command}
 use Rattle.ps_command.specs.declared.op.Op.{Op}
 use Rattle.ps_command.specs.declared.op.Op.TheVariants.{Assume, Assign, Havoc}
-use Rattle.ps_graph.specs.Alternatives.{Bound, bound_holds, bound_value}
+use Rattle.ps_graph.specs.Alternatives.{bound_holds}
 use Rattle.ps_graph.specs.Facts.{ops_of, after_edge}
 use Rattle.ps_graph.specs.Follows.{Says, Draws}
 use Rattle.ps_graph.specs.Paths.{Act, Needs, Sets, Takes, Chooses, Breaks, gives, picks_of}
-use Rattle.ps_graph.specs.Picks.{choice_of, fit, if_all_used, havocs_of, run_with}
+use Rattle.ps_graph.specs.Picks.{choice_of, fit, if_all_used, run_with}
 use Rattle.ps_graph.specs.Step.{Outcome, Goes, Fails, Stops}
 use Rattle.ps_graph.specs.declared.edge.Edge.{Edge}
 use Rattle.ps_graph.specs.declared.edge.Pick.{Pick}
 use Rattle.ps_syntax.specs.Sum.{sum_value}
-use Rattle.ps_term.specs.Term.{value}
 
 -- the values after the ops, with the choices that are left
 abbrev run_left : List Op → Values → List ℤ × List ℤ → Option (Values × List ℤ)

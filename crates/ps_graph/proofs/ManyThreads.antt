@@ -1,5 +1,5 @@
 -- Executions of any number of threads are walks over the locations at which they stand.
-use Rattle.std.proofs.Common.{◌≡◌, refl, sym, ◌∙◌, ap, ap₂, subst, ℕ, zero, suc, ℤ, List, [], ◌∷◌, map}
+use Rattle.std.proofs.Common.{◌≡◌, refl, sym, ◌∙◌, ap, subst, ℕ, zero, suc, ℤ, List, [], ◌∷◌}
 use Rattle.std.specs.Prelude.{Option, Some, None, option_map}
 use Rattle.std.specs.Option.{option_and_then}
 use Rattle.ps_command.specs.Values.{Values}
@@ -7,8 +7,8 @@ use Rattle.ps_command.specs.declared.command.Command.{Command}
 use Rattle.ps_graph.specs.Facts.{IsIn}
 use Rattle.ps_graph.specs.Follows.{ThreadStands, along, StepsAreEdges}
 use Rattle.ps_graph.specs.Step.{Thread, step}
-use Rattle.ps_graph.specs.Threads.{Seat, World, step_at, moved, all_moved}
-use Rattle.ps_graph.specs.Walks.{Stride, steps_of, Takes, walked, SeatsStand, WorldStands, ExecutionsAreWalks}
+use Rattle.ps_graph.specs.Threads.{Seat, World, step_at, all_moved}
+use Rattle.ps_graph.specs.Walks.{Stride, steps_of, AlongEdges, walked, SeatsStand, WorldStands, ExecutionsAreWalks}
 use Rattle.ps_graph.specs.declared.edge.Edge.{Edge}
 
 module _ (commands : List Command) (edges : List Edge) (z : ℕ) (one : StepsAreEdges commands edges z) where
@@ -85,7 +85,7 @@ module _ (commands : List Command) (edges : List Edge) (z : ℕ) (one : StepsAre
   abbrev Led : World ℕ → List (ℕ × List ℤ) → Option (World Thread) → Type 0
   Led l steps None = Unit {0}
   Led l steps (Some x) =
-      (ms : List Stride) × (m : World ℕ) × (steps_of ms ≡ steps) × Takes edges ms × (walked commands ms l ≡ Some m) × WorldStands commands edges z x m
+      (ms : List Stride) × (m : World ℕ) × (steps_of ms ≡ steps) × AlongEdges edges ms × (walked commands ms l ≡ Some m) × WorldStands commands edges z x m
 
   -- the steps of a walk
   abbrev Come : World Thread → List Stride → Option (World ℕ) → Type 0
@@ -115,7 +115,7 @@ module _ (commands : List Command) (edges : List Edge) (z : ℕ) (one : StepsAre
             j,
           )
 
-  comes_all : (ms : List Stride) (w : World Thread) (l : World ℕ) → WorldStands commands edges z w l → Takes edges ms → Come w ms (walked commands ms l)
+  comes_all : (ms : List Stride) (w : World Thread) (l : World ℕ) → WorldStands commands edges z w l → AlongEdges edges ms → Come w ms (walked commands ms l)
   comes_all [] w l h t = (w, refl, h)
   comes_all (s ∷ ms) w l h t =
       on (step_at (along commands s.edge) s.thread l.globals l.seats s.choices)

@@ -1,11 +1,11 @@
 -- The steps of a thread are the edges that leave the location at which it stands.
-use Rattle.std.proofs.Common.{◌≡◌, ◌≢◌, Bool, true, false, ◌==◌, refl, sym, ◌∙◌, ap, subst, ℕ, ℤ, List, [], ◌∷◌, ◌++◌, map, ◌⊎◌, inl, inr, if◌then◌else◌, eq-eqb}
+use Rattle.std.proofs.Common.{◌≡◌, ◌≢◌, Bool, true, false, ◌==◌, refl, sym, ◌∙◌, ap, subst, ℕ, ℤ, List, [], ◌∷◌, ◌++◌, ◌⊎◌, inl, inr, if◌then◌else◌, eq-eqb}
 use Rattle.std.specs.Prelude.{Option, Some, None, option_map}
 use Rattle.std.proofs.lemmas.Bool.{eqb-true}
 use Rattle.std.proofs.lemmas.Option.{some_pair_parts}
 use Rattle.ps_command.specs.Values.{Values}
 use Rattle.ps_command.specs.declared.command.Command.{Command}
-use Rattle.ps_graph.proofs.Agreement.{Agree, Found, came, agrees, ways_agree, NotFails, never_fails, NotGoes, never_goes}
+use Rattle.ps_graph.proofs.Agreement.{Agree, came, agrees, ways_agree, NotFails, never_fails, NotGoes, never_goes}
 use Rattle.ps_graph.proofs.Choices.{used, after_drawn}
 use Rattle.ps_graph.proofs.Members.{in_left, in_right, in_either, in_leaving, of_leaving, in_going, of_going, edge_of, path_of, found_path, sound_path}
 use Rattle.ps_graph.specs.Facts.{IsIn, after_edge}
@@ -299,3 +299,10 @@ module _ (commands : List Command) (edges : List Edge) where
     forth = λ t a h v cs w u e. subst (λ (o : Option (Values × Thread)). Leads commands edges z a v cs o) e (thread_leads z t a h v cs);
     back = λ t a h v cs e w b i l. thread_comes z no_end no_error t a h v cs e w b i l;
   }
+
+-- a thread is at the error exactly where it is Failed
+pub failed_at_error : (commands : List Command) (edges : List Edge) (z : ℕ) → z ≢ 1 → (t : Thread) (a : ℕ) → ThreadStands commands edges z t a →
+    (a ≡ 1 → t ≡ Failed) × (t ≡ Failed → a ≡ 1)
+failed_at_error commands edges z end Failed a h = (λ e. refl, λ e. h)
+failed_at_error commands edges z end (Runs []) a h = (λ e. absurd (end (sym h ∙ e)), λ e. (let no_such : Runs [] ≡ Failed = e in cc))
+failed_at_error commands edges z end (Runs (s ∷ rest)) a (b, ne, d, r) = (λ e. absurd (ne e), λ e. (let no_such : Runs (s ∷ rest) ≡ Failed = e in cc))

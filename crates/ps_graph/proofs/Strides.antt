@@ -1,5 +1,5 @@
 -- Walks over locations are letters whose commands run one after another.
-use Rattle.std.proofs.Common.{◌≡◌, ◌≢◌, Bool, true, false, ◌&&◌, ◌==◌, refl, sym, ◌∙◌, ap, ap₂, subst, ℕ, zero, suc, ◌<◌, ◌≤◌, ℤ, List, [], ◌∷◌, length, map, get_or, ◌⊎◌, inl, inr, if◌then◌else◌, eq-eqb, arith}
+use Rattle.std.proofs.Common.{◌≡◌, Bool, true, false, ◌&&◌, ◌==◌, refl, sym, ◌∙◌, ap, subst, ℕ, zero, suc, ◌<◌, ℤ, List, [], ◌∷◌, length, map, get_or, ◌⊎◌, inl, inr, if◌then◌else◌, eq-eqb, arith}
 use Rattle.std.specs.Prelude.{Option, Some, None, option_map, slice_get, slice_set, unwrap_or, IsTrue}
 use Rattle.std.specs.List.{list_all}
 use Rattle.std.specs.Option.{option_and_then}
@@ -17,8 +17,8 @@ use Rattle.ps_graph.specs.Follows.{along}
 use Rattle.ps_graph.specs.Letters.{moved_to, Located, woven}
 use Rattle.ps_graph.specs.Picks.{havocs_of, values_in}
 use Rattle.ps_graph.specs.Strides.{state_of, places, place_of, Matches, AreThreads, WalksAreLetters}
-use Rattle.ps_graph.specs.Threads.{Seat, World, Stepping, step_at, moved}
-use Rattle.ps_graph.specs.Walks.{Stride, Takes, walked}
+use Rattle.ps_graph.specs.Threads.{Seat, World, Stepping, step_at}
+use Rattle.ps_graph.specs.Walks.{Stride, AlongEdges, walked}
 use Rattle.ps_graph.specs.declared.edge.Edge.{Edge}
 use Rattle.ps_graph.proofs.Letters.{havocs_of-woven}
 
@@ -215,7 +215,7 @@ pub record Spelled (commands : List Command) (edges : List Edge) (ms : List Stri
   pub located : Located edges (place_of w) letters
   pub runs : after_letters commands edges letters havocs (state_of w) ≡ Some (state_of x)
 
-spelled : (commands : List Command) (edges : List Edge) (ms : List Stride) (w x : World ℕ) → Takes edges ms → walked commands ms w ≡ Some x → Spelled commands edges ms w x
+spelled : (commands : List Command) (edges : List Edge) (ms : List Stride) (w x : World ℕ) → AlongEdges edges ms → walked commands ms w ≡ Some x → Spelled commands edges ms w x
 spelled commands edges [] w x t h =
     record { letters = []; havocs = []; matches = tt; threads = tt; located = tt; runs = ap (λ (o : Option (World ℕ)). option_map state_of o) h }
 spelled commands edges (m ∷ ms) w x (i, t) h =
@@ -243,7 +243,7 @@ spelled commands edges (m ∷ ms) w x (i, t) h =
 pub record Walks (commands : List Command) (edges : List Edge) (ls : List (ℕ × ℕ)) (hss : List (List ℤ)) (w : World ℕ) (s : State) : Type 0 where
   pub strides : List Stride
   pub after : World ℕ
-  pub takes : Takes edges strides
+  pub takes : AlongEdges edges strides
   pub matches : Matches edges strides ls hss
   pub walks : walked commands strides w ≡ Some after
   pub state : state_of after ≡ s

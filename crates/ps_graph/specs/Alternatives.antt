@@ -1,9 +1,8 @@
 -- The alternatives of a condition: lists of bounds, of which all hold in one list exactly where the condition is true.
-use Rattle.std.specs.Prelude.{ℤ, pos, ◌+ℤ◌, ◌-ℤ◌, Bool, true, false, not, List, [], ◌∷◌, ◌++◌, map, int_le, if◌then◌else◌}
+use Rattle.std.specs.Prelude.{ℤ, pos, ◌+ℤ◌, ◌-ℤ◌, Bool, true, false, not, List, [], ◌∷◌, ◌++◌, map, int_le}
 use Rattle.std.specs.List.{list_all, list_any}
 use Rattle.ps_syntax.specs.Sum.{sum_value}
 use Rattle.ps_syntax.specs.declared.cond.Cond.{Cond, Rel, Not', And', Or', Row_of-Cond, end_of-Cond, more_of-Cond}
-use Rattle.ps_syntax.specs.declared.relation.Relation.{Relation}
 use Rattle.ps_syntax.specs.declared.relation.Sign.{Sign}
 use Rattle.ps_syntax.specs.declared.relation.Sign.TheVariants.{Less, LessEq, Greater, GreaterEq, Equal, NotEqual}
 use Rattle.ps_syntax.specs.declared.sum.Sum.{Sum}

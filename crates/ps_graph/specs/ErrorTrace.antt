@@ -31,18 +31,18 @@ error_at_last edges (l ∷ []) = enters_error edges l.1
 error_at_last edges (l ∷ ls) = not (enters_error edges l.1) && error_at_last edges ls
 
 -- the edges of a thread are a path from the entry of this body
-pub record Takes (graph : Graph) (letters : List (ℕ × ℕ)) (k body : ℕ) : Type 0 where
+pub record RunsBody (graph : Graph) (letters : List (ℕ × ℕ)) (k body : ℕ) : Type 0 where
   pub exists : body < length graph.entries
   pub path : IsTrue (is_path graph.edges (slice_index_or graph.entries body 0) (edges_of k letters))
 
 -- a thread that occurs begins at the entry of the body that at most one thread runs
 abbrev pub BeginsOnce : Graph → List (ℕ × ℕ) → ℕ → Type 0
-BeginsOnce graph letters k = (body : ℕ) × (graph.once ≡ Some body) × (0 < length (edges_of k letters)) × Takes graph letters k body
+BeginsOnce graph letters k = (body : ℕ) × (graph.once ≡ Some body) × (0 < length (edges_of k letters)) × RunsBody graph letters k body
 
 -- Each thread's edges are a path from the entry of one body, at most one thread's path begins at the entry of the
 -- `once` body, the last edge enters the error, and no earlier one does.
 pub record IsErrorTrace (graph : Graph) (letters : List (ℕ × ℕ)) : Type 0 where
-  pub paths : (k : ℕ) → (body : ℕ) × Takes graph letters k body
+  pub paths : (k : ℕ) → (body : ℕ) × RunsBody graph letters k body
   pub once : (j k : ℕ) → BeginsOnce graph letters j → BeginsOnce graph letters k → j ≡ k
   pub error : IsTrue (error_at_last graph.edges letters)
 

@@ -1,18 +1,15 @@
 -- Worked examples: what the definitions come to on small programs.
-use Rattle.std.specs.Prelude.{◌≡◌, ℕ, ℤ, pos, negsuc, Bool, true, false, List, [], ◌∷◌, Option, Some, None}
+use Rattle.std.specs.Prelude.{◌≡◌, ℕ, ℤ, pos, negsuc, true, false, List, [], ◌∷◌, Some, None}
 use Rattle.ps_command.specs.Values.{Values}
 use Rattle.ps_command.specs.declared.state.State.{State}
 use Rattle.ps_graph.specs.Execution.{executed, reaches}
 use Rattle.ps_graph.specs.Initial.{is_initial}
 use Rattle.ps_graph.specs.Step.{Thread, Runs, Failed, step}
-use Rattle.ps_graph.specs.Threads.{Seat, World}
+use Rattle.ps_graph.specs.Threads.{Seat}
 use Rattle.ps_syntax.specs.declared.cond.Cond.{Cond}
 use Rattle.ps_syntax.specs.declared.cond.Cond.TheVariants.{Rel}
-use Rattle.ps_syntax.specs.declared.cond.Test.{Test}
 use Rattle.ps_syntax.specs.declared.cond.Test.TheVariants.{Star, Cond as Where}
-use Rattle.ps_syntax.specs.declared.global_decl.GlobalDecl.{GlobalDecl}
 use Rattle.ps_syntax.specs.declared.program.Program.{Program}
-use Rattle.ps_syntax.specs.declared.relation.Relation.{Relation}
 use Rattle.ps_syntax.specs.declared.relation.Sign.{Sign}
 use Rattle.ps_syntax.specs.declared.relation.Sign.TheVariants.{Less, GreaterEq, Equal, NotEqual}
 use Rattle.ps_syntax.specs.declared.stmt.Stmt.{Stmt}

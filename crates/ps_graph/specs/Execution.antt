@@ -1,5 +1,5 @@
 -- Executions of a program with any number of threads.
-use Rattle.std.specs.Prelude.{◌≡◌, ℕ, ℤ, Bool, true, false, not, ◌&&◌, List, [], ◌∷◌, map, Option, Some, None, option_map, unwrap_or, IsTrue, IsFalse}
+use Rattle.std.specs.Prelude.{◌≡◌, ℕ, ℤ, Bool, true, false, not, ◌&&◌, List, [], ◌∷◌, map, Option, Some, option_map, unwrap_or, IsTrue, IsFalse}
 use Rattle.std.specs.List.{list_any}
 use Rattle.ps_command.specs.declared.state.State.{State}
 use Rattle.ps_graph.specs.Initial.{is_initial}

@@ -1,5 +1,5 @@
 -- How the edges of a graph follow the text.
-use Rattle.std.specs.Prelude.{◌≡◌, ◌≢◌, ℕ, ℤ, Bool, true, false, ◌==◌, List, [], ◌∷◌, ◌++◌, map, filter, Option, Some, None, option_map, if◌then◌else◌}
+use Rattle.std.specs.Prelude.{◌≡◌, ◌≢◌, ℕ, ℤ, true, false, ◌==◌, List, [], ◌∷◌, ◌++◌, map, filter, Option, Some, None, option_map, if◌then◌else◌}
 use Rattle.ps_command.specs.declared.command.Command.{Command}
 use Rattle.ps_command.specs.declared.op.Op.{Op}
 use Rattle.ps_command.specs.declared.op.Op.TheVariants.{Assume, Assign, Havoc}
@@ -11,7 +11,7 @@ use Rattle.ps_graph.specs.Step.{Thread, Runs, Failed, step}
 use Rattle.ps_graph.specs.declared.edge.Edge.{Edge}
 use Rattle.ps_syntax.specs.Sum.{sum_value}
 use Rattle.ps_syntax.specs.declared.stmt.Stmt.{Stmt}
-use Rattle.ps_syntax.specs.declared.stmt.StmtKind.{StmtKind, Assign as AssignStmt, Havoc as HavocStmt, Assume as AssumeStmt, Assert, Skip, Atomic', If', While', Row_of-Stmt, end_of-Stmt, more_of-Stmt}
+use Rattle.ps_syntax.specs.declared.stmt.StmtKind.{StmtKind, If', While', Row_of-Stmt, end_of-Stmt, more_of-Stmt}
 use Rattle.ps_term.specs.declared.var.Var.{Var}
 use Rattle.ps_term.specs.Term.{value}
 

@@ -1,5 +1,5 @@
 -- Letters, which are pairs of a thread and the number of an edge, with the locations at which threads are.
-use Rattle.std.specs.Prelude.{◌≡◌, ℕ, ℤ, ◌==◌, Bool, true, false, List, [], ◌∷◌, slice_get, slice_index_or, Option, Some, None, if◌then◌else◌}
+use Rattle.std.specs.Prelude.{◌≡◌, ℕ, ℤ, ◌==◌, List, [], ◌∷◌, slice_get, Some, if◌then◌else◌}
 use Rattle.ps_graph.specs.Picks.{choice_of}
 use Rattle.ps_graph.specs.declared.edge.Edge.{Edge}
 use Rattle.ps_graph.specs.declared.edge.Pick.{Pick}

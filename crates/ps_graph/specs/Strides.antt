@@ -1,13 +1,12 @@
 -- What one stride, and a whole walk, does to a state and to the locations of threads.
-use Rattle.std.specs.Prelude.{◌≡◌, ℕ, ℤ, List, [], ◌∷◌, ◌<◌, length, map, slice_get, slice_index_or, Option, Some, None}
-use Rattle.std.specs.Option.{option_and_then}
+use Rattle.std.specs.Prelude.{◌≡◌, ℕ, ℤ, List, [], ◌∷◌, ◌<◌, length, map, slice_get, slice_index_or, Some}
 use Rattle.ps_command.specs.declared.command.Command.{Command}
 use Rattle.ps_command.specs.declared.state.State.{State}
 use Rattle.ps_graph.specs.ErrorTrace.{after_letters, HavocsFit}
 use Rattle.ps_graph.specs.Letters.{Located}
 use Rattle.ps_graph.specs.Picks.{havocs_of}
 use Rattle.ps_graph.specs.Threads.{Seat, World}
-use Rattle.ps_graph.specs.Walks.{Stride, Takes, walked}
+use Rattle.ps_graph.specs.Walks.{Stride, AlongEdges, walked}
 use Rattle.ps_graph.specs.declared.edge.Edge.{Edge}
 
 -- the values of a world of threads at locations
@@ -37,9 +36,9 @@ AreThreads n (l ∷ ls) = (l.0 < n) × AreThreads n ls
 -- A walk is letters, each of which leaves the location at which its thread then is, and whose commands run one after
 -- another with some havoc values; and such letters are a walk. Both end with the same values.
 pub record WalksAreLetters (commands : List Command) (edges : List Edge) : Type 0 where
-  pub forth : (ms : List Stride) (w x : World ℕ) → Takes edges ms → walked commands ms w ≡ Some x →
+  pub forth : (ms : List Stride) (w x : World ℕ) → AlongEdges edges ms → walked commands ms w ≡ Some x →
       (ls : List (ℕ × ℕ)) × (hss : List (List ℤ)) × Matches edges ms ls hss × AreThreads (length w.seats) ls
       × Located edges (place_of w) ls × (after_letters commands edges ls hss (state_of w) ≡ Some (state_of x))
   pub back : (ls : List (ℕ × ℕ)) (hss : List (List ℤ)) (w : World ℕ) (s : State) → AreThreads (length w.seats) ls →
       Located edges (place_of w) ls → HavocsFit commands edges ls hss → after_letters commands edges ls hss (state_of w) ≡ Some s →
-      (ms : List Stride) × (x : World ℕ) × Takes edges ms × Matches edges ms ls hss × (walked commands ms w ≡ Some x) × (state_of x ≡ s)
+      (ms : List Stride) × (x : World ℕ) × AlongEdges edges ms × Matches edges ms ls hss × (walked commands ms w ≡ Some x) × (state_of x ≡ s)

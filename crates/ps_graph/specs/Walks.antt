@@ -1,5 +1,5 @@
 -- Walks of many threads over the locations of a graph.
-use Rattle.std.specs.Prelude.{◌≡◌, ℕ, ℤ, List, [], ◌∷◌, map, Option, Some, None}
+use Rattle.std.specs.Prelude.{◌≡◌, ℕ, ℤ, List, [], ◌∷◌, map, Option, Some}
 use Rattle.std.specs.Option.{option_and_then}
 use Rattle.ps_command.specs.declared.command.Command.{Command}
 use Rattle.ps_graph.specs.Facts.{IsIn}
@@ -18,10 +18,10 @@ pub record Stride : Type 0 where
 abbrev pub steps_of : List Stride → List (ℕ × List ℤ)
 steps_of ms = map (λ (m : Stride). let s : ℕ × List ℤ = (m.thread, m.choices) in s) ms
 
--- every stride takes one of the edges
-abbrev pub Takes : List Edge → List Stride → Type 0
-Takes edges [] = Unit {0}
-Takes edges (m ∷ ms) = IsIn m.edge edges × Takes edges ms
+-- every stride is along one of the edges
+abbrev pub AlongEdges : List Edge → List Stride → Type 0
+AlongEdges edges [] = Unit {0}
+AlongEdges edges (m ∷ ms) = IsIn m.edge edges × AlongEdges edges ms
 
 -- the strides one after another, from threads at locations
 abbrev pub walked : List Command → List Stride → World ℕ → Option (World ℕ)
@@ -45,7 +45,7 @@ pub record WorldStands (commands : List Command) (edges : List Edge) (z : ℕ) (
 pub record ExecutionsAreWalks (commands : List Command) (edges : List Edge) (z : ℕ) : Type 0 where
   pub forth : (w : World Thread) (l : World ℕ) → WorldStands commands edges z w l →
       (steps : List (ℕ × List ℤ)) (x : World Thread) → all_moved step steps w ≡ Some x →
-      (ms : List Stride) × (m : World ℕ) × (steps_of ms ≡ steps) × Takes edges ms × (walked commands ms l ≡ Some m) × WorldStands commands edges z x m
+      (ms : List Stride) × (m : World ℕ) × (steps_of ms ≡ steps) × AlongEdges edges ms × (walked commands ms l ≡ Some m) × WorldStands commands edges z x m
   pub back : (w : World Thread) (l : World ℕ) → WorldStands commands edges z w l →
-      (ms : List Stride) (m : World ℕ) → Takes edges ms → walked commands ms l ≡ Some m →
+      (ms : List Stride) (m : World ℕ) → AlongEdges edges ms → walked commands ms l ≡ Some m →
       (x : World Thread) × (all_moved step (steps_of ms) w ≡ Some x) × WorldStands commands edges z x m

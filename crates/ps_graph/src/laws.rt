@@ -1,10 +1,11 @@
 //! How edges follow the text: each function does no work, and its clause is the fact.
-ghost use Rattle.std.specs.Prelude.{◌↔◌, IsTrue, ◌≡◌, [], List, not, true, false, ℕ, ℤ};
+ghost use Rattle.std.specs.Prelude.{◌≢◌, ◌↔◌, IsTrue, ◌≡◌, [], List, not, true, false, ℕ, ℤ};
 ghost use Rattle.ps_command.specs.declared.command.Command.{Command};
 ghost use Rattle.ps_graph.specs.Alternatives.{alternatives, any_hold};
 ghost use Rattle.ps_graph.specs.ErrorTrace.{edges_of, is_path};
 ghost use Rattle.ps_graph.specs.Facts.{picks_fit};
-ghost use Rattle.ps_graph.specs.Follows.{StepsAreEdges, leaving};
+ghost use Rattle.ps_graph.specs.Follows.{StepsAreEdges, ThreadStands, leaving};
+ghost use Rattle.ps_graph.specs.Step.{Failed, Thread};
 ghost use Rattle.ps_graph.specs.Letters.{Located};
 ghost use Rattle.ps_graph.specs.Strides.{WalksAreLetters};
 ghost use Rattle.ps_graph.specs.Walks.{ExecutionsAreWalks};
@@ -45,4 +46,10 @@ pub fn walks_are_letters()
 pub fn paths_are_located()
     ensures { (edges : List Edge) (at : ℕ → ℕ) (letters : List (ℕ × ℕ))
         → (((k : ℕ) → IsTrue (is_path edges (at k) (edges_of k letters))) ↔ Located edges at letters) }
+{}
+
+/// A thread stands at the error exactly where it is Failed; the text ends at another location `z`.
+pub fn failed_at_error()
+    ensures { (commands : List Command) (edges : List Edge) (z : ℕ) → z ≢ 1 → (thread : Thread) (a : ℕ)
+        → ThreadStands commands edges z thread a → ((a ≡ 1) ↔ (thread ≡ Failed)) }
 {}

@@ -1,5 +1,5 @@
 -- The truth of a condition.
-use Rattle.std.specs.Prelude.{ℤ, ℕ, Bool, true, false, not, ◌&&◌, ◌||◌, int_lt, int_le, List}
+use Rattle.std.specs.Prelude.{ℤ, Bool, true, false, not, ◌&&◌, ◌||◌, int_lt, int_le}
 use Rattle.std.specs.Ordering.{int_eq}
 use Rattle.ps_syntax.specs.Sum.{sum_value}
 use Rattle.ps_syntax.specs.declared.cond.Cond.{Cond, Rel, Not', And', Or', Row_of-Cond, end_of-Cond, more_of-Cond}

@@ -1,5 +1,5 @@
 -- Witnesses that lead to a failure of a program.
-use Rattle.std.specs.Prelude.{ℕ, ℤ, Bool, List, map, IsTrue}
+use Rattle.std.specs.Prelude.{ℕ, ℤ, List, map, IsTrue}
 use Rattle.ps_command.specs.declared.state.State.{State}
 use Rattle.ps_graph.specs.Execution.{reaches}
 use Rattle.ps_syntax.specs.declared.program.Program.{Program}
