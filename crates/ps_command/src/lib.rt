@@ -1,0 +1,21 @@
+//! Commands: what the edge of a graph does to the values of one thread, and the states that it runs on.
+#![tactic(auto)]
+
+mod assignments;
+mod command;
+mod op;
+mod sequence;
+mod setting;
+mod state;
+mod symbolic_form;
+
+pub use assignments::Assignments;
+pub use command::Command;
+pub use op::Op;
+pub use sequence::{Duplicate, Sequence, copies};
+pub use setting::Setting;
+pub use state::State;
+pub use symbolic_form::SymbolicForm;
+
+#[cfg(test)]
+mod tests;

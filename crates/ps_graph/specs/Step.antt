@@ -1,0 +1,83 @@
+-- One step of a thread, read on the syntax tree.
+use Rattle.std.specs.Prelude.{ℤ, pos, Bool, true, false, List, [], ◌∷◌, ◌++◌, Option, Some, None, if◌then◌else◌}
+use Rattle.std.specs.Ordering.{int_eq}
+use Rattle.ps_command.specs.Values.{Values, value_at, with_value}
+use Rattle.ps_syntax.specs.Cond.{truth}
+use Rattle.ps_syntax.specs.Sum.{sum_value}
+use Rattle.ps_syntax.specs.declared.cond.Test.{Test}
+use Rattle.ps_syntax.specs.declared.cond.Test.TheVariants.{Star, Cond}
+use Rattle.ps_syntax.specs.declared.stmt.Stmt.{Stmt}
+use Rattle.ps_syntax.specs.declared.stmt.StmtKind.{StmtKind, Assign, Havoc, Assume, Assert, Skip, Atomic', If', While', Row_of-Stmt, end_of-Stmt, more_of-Stmt, items-the_row-Stmt}
+
+-- What comes of statements that are run in one go: they end with values and the choices that are left, an assertion
+-- fails at values with the choices that are left, or there is no such run.
+pub data Outcome : Type 0 where
+  Goes : Values → List ℤ → Outcome
+  Fails : Values → List ℤ → Outcome
+  Stops : Outcome
+
+-- Whether a test holds, and the choices that are left: a condition by its truth, `*` by its choice, 1 or 0.
+abbrev pub decided : Test → Values → List ℤ → Option (Bool × List ℤ)
+decided (Cond c) v cs = Some (truth (value_at v) c, cs)
+decided Star v [] = None
+decided Star v (c ∷ cs) = if int_eq c (pos 1) then Some (true, cs) else if int_eq c (pos 0) then Some (false, cs) else None
+
+-- one run after another
+abbrev pub then_do : Outcome → (Values → List ℤ → Outcome) → Outcome
+then_do (Goes v cs) next = next v cs
+then_do (Fails v cs) next = Fails v cs
+then_do Stops next = Stops
+
+-- the one run where the test holds, the other where it doesn't
+abbrev pub branch : Option (Bool × List ℤ) → (List ℤ → Outcome) → (List ℤ → Outcome) → Outcome
+branch None held failed = Stops
+branch (Some (true, cs)) held failed = held cs
+branch (Some (false, cs)) held failed = failed cs
+
+-- A statement, and a block, run in one go from values with choices. A loop has no such run.
+abbrev mutual
+  pub within : StmtKind → Values → List ℤ → Outcome
+  within (Assign x s) v cs = Goes (with_value v x (sum_value (value_at v) s)) cs
+  within (Havoc x) v [] = Stops
+  within (Havoc x) v (c ∷ cs) = Goes (with_value v x c) cs
+  within (Assume c) v cs = if truth (value_at v) c then Goes v cs else Stops
+  within (Assert c) v cs = if truth (value_at v) c then Goes v cs else Fails v cs
+  within Skip v cs = Goes v cs
+  within (Atomic' _ block) v cs = within_all block v cs
+  within (If' t _ held _ failed) v cs = branch (decided t v cs) (within_all held v) (within_all failed v)
+  within (While' _ _ _) v cs = Stops
+
+  pub within_all : {n : _} → Row_of-Stmt n → Values → List ℤ → Outcome
+  within_all end_of-Stmt v cs = Goes v cs
+  within_all (more_of-Stmt _ k rest) v cs = then_do (within k v cs) (within_all rest)
+
+-- a thread: the statements that it still has to run, or Failed
+pub data Thread : Type 0 where
+  Runs : List Stmt → Thread
+  Failed : Thread
+
+-- what a run in one go makes of the thread, where no choice is left; the rest is what comes after it
+abbrev pub settled : List Stmt → Outcome → Option (Values × Thread)
+settled rest (Goes v []) = Some (v, Runs rest)
+settled rest (Fails v []) = Some (v, Failed)
+settled rest _ = None
+
+-- the one list of statements where the test holds, the other where it doesn't, where no choice is left
+abbrev pub chosen : Option (Bool × List ℤ) → List Stmt → List Stmt → Values → Option (Values × Thread)
+chosen (Some (true, [])) held failed v = Some (v, Runs held)
+chosen (Some (false, [])) held failed v = Some (v, Runs failed)
+chosen _ held failed v = None
+
+-- The step of a statement of this kind, before a rest: `if` puts the chosen block before the rest, `while` puts its
+-- block and itself before it or goes on, and any other statement is run in one go.
+abbrev pub step_of : Stmt → StmtKind → List Stmt → Values → List ℤ → Option (Values × Thread)
+step_of s (If' t _ held _ failed) rest v cs =
+    chosen (decided t v cs) (items-the_row-Stmt _ held ++ rest) (items-the_row-Stmt _ failed ++ rest) v
+step_of s (While' t _ block) rest v cs = chosen (decided t v cs) (items-the_row-Stmt _ block ++ s ∷ rest) rest v
+step_of s k rest v cs = settled rest (within k v cs)
+
+-- One step of a thread from values, with a list of choices that it uses up exactly: its first statement is run. A
+-- thread that is Failed or has nothing left to run has no step.
+abbrev pub step : Thread → Values → List ℤ → Option (Values × Thread)
+step (Runs (s ∷ rest)) v cs = step_of s s.kind rest v cs
+step _ v cs = None

@@ -1,0 +1,20 @@
+-- Witnesses that lead to a failure of a program.
+use Rattle.std.specs.Prelude.{ℕ, ℤ, List, map, IsTrue}
+use Rattle.ps_command.specs.declared.state.State.{State}
+use Rattle.ps_graph.specs.Execution.{reaches}
+use Rattle.ps_syntax.specs.declared.program.Program.{Program}
+use Rattle.ps_trace.specs.declared.step.Step.{Step}
+use Rattle.ps_trace.specs.declared.witness.Witness.{Witness}
+
+-- the state that a witness starts from
+abbrev pub start_of : Witness → State
+start_of w = record { globals = w.globals; locals = w.locals }
+
+-- its steps, as pairs of a thread and its choices
+abbrev pub steps_of : Witness → List (ℕ × List ℤ)
+steps_of w = map (λ (s : Step). let m : ℕ × List ℤ = (s.thread, s.choices) in m) w.steps
+
+-- The execution from these values with these threads and choices exists, a thread becomes Failed at its last step, and
+-- none at an earlier one.
+abbrev pub Reaches : Program → Witness → Type 0
+Reaches p w = IsTrue (reaches p (start_of w) (steps_of w))
