@@ -1,11 +1,11 @@
 -- The two laws of rows with their multipliers: what is read is spelled so, and what is spelled so is read.
-use Rattle.std.proofs.Common.{◌≡◌, ℕ, ◌^◌, ◌<◌, ◌≤◌, List, [], ◌∷◌, ◌++◌, map, length, Result, Ok, Err, refl, sym, ap, subst, ◌∙◌, arith, append_assoc}
-use Rattle.std.specs.Prelude.{IfOk, decimal, codes}
+use Rattle.std.proofs.Common.{◌≡◌, ℕ, ◌^◌, ◌<◌, List, [], ◌∷◌, ◌++◌, map, length, refl, sym, ap, subst, ◌∙◌, arith, append_assoc}
+use Rattle.std.specs.Prelude.{decimal, codes}
 use Rattle.std.specs.List.{flat_map, AllByRecursion}
 use Rattle.std.proofs.lemmas.List.{append-nil}
 use Rattle.ps_term.specs.declared.row.Row.{Row}
 use Rattle.ps_text.specs.Tokens.{Token, Field, Newline, after_blank, line_bytes, text_bytes, line_tokens, text_tokens}
-use Rattle.ps_text.specs.Reading.{At, and_then, ◌>>=◌, leaf_at, natural, times_at}
+use Rattle.ps_text.specs.Reading.{At, leaf_at, natural, times_at}
 use Rattle.ps_text.proofs.Bytes.{IsPlain, IsClean, AreClean, IsClean-append, plain_word, spread_mapped, flat_map-map}
 use Rattle.ps_text.proofs.Decimals.{natural_is_leaf}
 use Rattle.ps_text.proofs.Exact.{Finds, Gets, found_bind, found_end, gets_bind, gets_end, Exact, Always, leaf_exact, line_exact, end_exact, ended-append}

@@ -1,17 +1,16 @@
 -- The laws of variables, pairs and terms as fields.
-use Rattle.std.proofs.Common.{◌≡◌, ◌≢◌, ℕ, ◌+◌, ◌^◌, ◌<◌, ◌≤◌, Bool, true, false, ◌&&◌, List, [], ◌∷◌, ◌++◌, map, length, drop, get_or, Option, Some, None, Result, Ok, Err, refl, sym, ap, subst, ◌∙◌, arith, append_assoc, eqb, inl, inr}
-use Rattle.std.specs.Prelude.{ℤ, pos, IfOk, FitsSigned, IsTrue, decimal, option_and_then, option_map, if◌then◌else◌}
+use Rattle.std.proofs.Common.{◌≡◌, ◌≢◌, ℕ, ◌≤◌, Bool, true, false, ◌&&◌, List, [], ◌∷◌, ◌++◌, map, Option, Some, None, Result, Ok, Err, refl, sym, ap, subst, ◌∙◌, arith, append_assoc, eqb}
+use Rattle.std.specs.Prelude.{ℤ, pos, IfOk, FitsSigned, decimal, option_map, if◌then◌else◌}
 use Rattle.std.specs.Fmt.{signed_decimal}
 use Rattle.std.specs.Int.{w128}
-use Rattle.std.specs.List.{AllByRecursion, flat_map, list_any}
+use Rattle.std.specs.List.{AllByRecursion, flat_map}
 use Rattle.std.specs.Ordering.{int_eq}
-use Rattle.std.proofs.lemmas.Bool.{and_parts, and_from, cond-true, cond-false, eqb-true, eq-eqb, leb-true, le-leb, false_from_ne_true}
+use Rattle.std.proofs.lemmas.Bool.{and_parts, and_from, cond-true, cond-false, eqb-true, leb-true, le-leb, false_from_ne_true}
 use Rattle.std.proofs.lemmas.Bool.Decides.{Decides-int_eq}
 use Rattle.std.proofs.lemmas.Option.{none-some, same_Some, cond_some, option_and_then_some}
 use Rattle.ps_term.specs.declared.var.Var.{Var}
 use Rattle.ps_term.specs.declared.var.Var.TheVariants.{Global, Local, Havoc}
 use Rattle.ps_term.specs.declared.term.Term.{Term}
-use Rattle.ps_term.specs.Var.{var_lt}
 use Rattle.ps_term.specs.Pairs.{IsCanonical, IsBelow}
 use Rattle.ps_text.specs.declared.form_name.FormName.{FormName}
 use Rattle.ps_text.specs.declared.form_name.FormName.TheVariants as name
@@ -19,13 +18,13 @@ use Rattle.ps_text.specs.declared.form_fault.FormFault.{FormFault}
 use Rattle.ps_text.specs.declared.form_end.FormEnd.{FormEnd}
 use Rattle.ps_text.specs.declared.form_end.FormEnd.TheVariants.{Fault, Memory}
 use Rattle.ps_text.proofs.Loop.{read_of, read_is}
-use Rattle.ps_text.specs.Tokens.{Token, Field, Newline, after_blank}
+use Rattle.ps_text.specs.Tokens.{Token, Field, after_blank}
 use Rattle.std.proofs.lemmas.List.{append-nil}
 use Rattle.ps_text.specs.Decimal.{counts_as_decimal, u32_of, i128_of}
 use Rattle.ps_text.specs.Parts.{cut_at}
-use Rattle.ps_text.specs.Reading.{At, ◌>>=◌, Gives, Tells, leaf_at, list_at, integer}
-use Rattle.ps_text.proofs.Bytes.{IsPlain, IsClean, IsClean-append}
-use Rattle.ps_text.proofs.Cutting.{IsFree, cut_found, cut_again, decimal_free, signed_decimal_free, free_has_none, has_middle}
+use Rattle.ps_text.specs.Reading.{At, Gives, Tells, leaf_at, list_at, integer}
+use Rattle.ps_text.proofs.Bytes.{IsPlain, IsClean}
+use Rattle.ps_text.proofs.Cutting.{cut_found, cut_again, decimal_free, signed_decimal_free, free_has_none, has_middle}
 use Rattle.ps_text.proofs.Digits.{u32_is, u32_from, i128_is, i128_from}
 use Rattle.ps_text.proofs.Decimals.{decimal-of, decimal-is, signed_decimal-of, signed_decimal-is, decimal_plain, signed_decimal_plain, decimal_counts, signed_counts, integer_is_leaf}
 use Rattle.ps_text.proofs.Exact.{Finds, Gets, found_bind, found_end, gets_bind, gets_end, Exact, Always, leaf_exact}

@@ -1,11 +1,10 @@
 -- The tokens ahead, from the bytes.
-use Rattle.std.proofs.Common.{◌≡◌, ℕ, zero, suc, ◌+◌, ◌-◌, ◌<◌, ◌≤◌, Bool, true, false, ◌||◌, List, [], ◌∷◌, ◌++◌, length, get_or, take, drop, Option, Some, None, Result, Ok, Err, refl, sym, ap, subst, ◌∙◌, arith, add-one, eqb, inl, inr}
-use Rattle.std.specs.Prelude.{if◌then◌else◌}
-use Rattle.std.proofs.lemmas.Bool.{eqb-true, eqb-false, eq-eqb, ne_eqb, or_left, or_right, or_parts, or_cases, cond-true, cond-false, cond_both}
+use Rattle.std.proofs.Common.{◌≡◌, ℕ, suc, ◌+◌, ◌<◌, Bool, true, false, ◌||◌, List, [], ◌∷◌, length, get_or, take, drop, Some, Ok, Err, refl, sym, ap, subst, ◌∙◌, arith, add-one, eqb}
+use Rattle.std.proofs.lemmas.Bool.{eqb-true, ne_eqb, or_left, or_right, cond-true, cond-false}
 use Rattle.std.proofs.lemmas.List.{nil_from_length}
 use Rattle.ps_text.specs.declared.form_name.FormName.TheVariants as name
 use Rattle.ps_text.specs.Reading.{At, end_from, done_from, field_from, end_at, done_at, field_at, fault_at, line_fault}
-use Rattle.ps_text.specs.Tokens.{Token, Field, Newline, onto, token_onto, tokens, has_newline, next_field, field_len, ahead}
+use Rattle.ps_text.specs.Tokens.{Token, Field, Newline, onto, token_onto, tokens, next_field, field_len, ahead}
 
 -- a byte is a blank, a line feed, or one of a field
 pub data Byte (b : ℕ) : Type 0 where

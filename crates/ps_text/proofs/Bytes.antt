@@ -1,9 +1,9 @@
 -- Between the bytes of a text that is a list of lines and its tokens.
-use Rattle.std.proofs.Common.{◌≡◌, ℕ, zero, suc, ◌+◌, ◌<◌, ◌≤◌, Bool, true, false, not, ◌&&◌, List, [], ◌∷◌, ◌++◌, map, length, refl, sym, ap, subst, ◌∙◌, arith, append_assoc, eqb}
+use Rattle.std.proofs.Common.{◌≡◌, ℕ, Bool, true, false, not, ◌&&◌, List, [], ◌∷◌, ◌++◌, map, refl, sym, ap, subst, ◌∙◌, append_assoc, eqb}
 use Rattle.std.specs.List.{flat_map, AllByRecursion}
 use Rattle.std.proofs.lemmas.Bool.{eqb-true, and_parts, not-true}
 use Rattle.ps_text.specs.Tokens.{Token, Field, Newline, onto, token_onto, tokens, after_blank, line_bytes, text_bytes, line_tokens, text_tokens}
-use Rattle.ps_text.proofs.Ahead.{Byte, blank, feed, inside, byte_is, onto_begins, token_onto-blank, token_onto-feed, token_onto-inside}
+use Rattle.ps_text.proofs.Ahead.{blank, feed, inside, byte_is, onto_begins, token_onto-blank, token_onto-feed, token_onto-inside}
 
 -- neither a blank nor a line feed
 pub record IsInside (b : ℕ) : Type 0 where

@@ -1,21 +1,20 @@
 -- The canonical decimal of a number is what the number is printed as.
-use Rattle.std.proofs.Common.{◌≡◌, ℕ, zero, suc, ◌+◌, ◌-◌, ◌*◌, ◌/◌, ◌%◌, ◌^◌, ◌<◌, ◌≤◌, Bool, true, false, ◌||◌, List, [], ◌∷◌, ◌++◌, length, get_or, drop, Option, Some, None, Result, Ok, Err, refl, sym, ap, subst, ◌∙◌, arith, append_assoc, eqb, inl, inr, rules}
+use Rattle.std.proofs.Common.{◌≡◌, ℕ, suc, ◌+◌, ◌*◌, ◌/◌, ◌%◌, ◌^◌, ◌<◌, ◌≤◌, Bool, true, false, List, [], ◌∷◌, ◌++◌, length, get_or, drop, Option, Some, None, Result, Ok, Err, refl, sym, ap, subst, ◌∙◌, arith, append_assoc, eqb, inl, inr, rules}
 use Rattle.std.specs.Prelude.{decimal, ℤ, pos, negsuc, FitsSigned, IfOk, ok_or, nat_le, if◌then◌else◌}
 use Rattle.std.specs.Fmt.{signed_decimal}
 use Rattle.std.specs.Int.{w128}
 use Rattle.std.specs.Char.{digit_value}
-use Rattle.std.specs.List.{AllByRecursion}
-use Rattle.std.specs.Str.Parse.{digits_value, digits_value_after, AllDigits, IsNumeral}
-use Rattle.std.proofs.lemmas.Bool.{cases_eq, eqb-true, eqb-false, eq-eqb, ne_eqb, cond-true, cond-false, and_from, le-leb, leb-true}
+use Rattle.std.specs.Str.Parse.{digits_value, digits_value_after, AllDigits}
+use Rattle.std.proofs.lemmas.Bool.{cases_eq, eq-eqb, ne_eqb, cond-true, cond-false, le-leb, leb-true}
 use Rattle.std.proofs.lemmas.List.{append-nil, nil_from_length}
 use Rattle.std.proofs.lemmas.Fmt.{decimal_digit, decimal_step_wide, decimal_by_steps_wide, decimal_is_IsNumeral_wide}
 use Rattle.ps_text.specs.declared.form_name.FormName.{FormName}
 use Rattle.ps_text.specs.declared.form_name.FormName.TheVariants as name
 use Rattle.ps_text.specs.Decimal.{IsDecimal, IsSignedDecimal, counts_as_decimal, is_run, u32_of, u128_of, i128_of}
 use Rattle.ps_text.specs.Reading.{natural32, natural, integer, within, count, decimal_leaf}
-use Rattle.ps_text.proofs.Digits.{digit_is, digits_value_after_ge, AllDigits-from, are_digits-from, run_from, u32_is, u32_from, u128_is, u128_from, i128_is, i128_from, first_is_digit}
-use Rattle.ps_text.proofs.Bytes.{IsInside, IsPlain}
-use Rattle.ps_text.proofs.Exact.{IsLeaf, Always}
+use Rattle.ps_text.proofs.Digits.{digit_is, digits_value_after_ge, are_digits-from, run_from, u32_is, u32_from, u128_is, u128_from, i128_is, i128_from, first_is_digit}
+use Rattle.ps_text.proofs.Bytes.{IsPlain}
+use Rattle.ps_text.proofs.Exact.{IsLeaf}
 
 -- further digits stand after the front
 grow : (n : ℕ) (front cs : List ℕ) → 0 < n → decimal n ≡ front → AllDigits 10 cs → digits_value_after 10 n cs < 10 ^ 64 → decimal (digits_value_after 10 n cs) ≡ front ++ cs

@@ -1,20 +1,16 @@
 -- The laws of reading functions, in steps: what is read is spelled so, and what is spelled so is read.
 -- Neither speaks of places: an answer that is no fault depends on the tokens alone.
-use Rattle.std.proofs.Common.{◌≡◌, ℕ, zero, suc, ◌+◌, ◌<◌, ◌≤◌, Bool, true, false, ◌&&◌, List, [], ◌∷◌, ◌++◌, map, length, Result, Ok, Err, refl, sym, ap, subst, ◌∙◌, arith, append_assoc}
+use Rattle.std.proofs.Common.{◌≡◌, ℕ, ◌+◌, Bool, true, false, List, [], ◌∷◌, ◌++◌, Result, Ok, Err, refl, ap, ◌∙◌}
 use Rattle.std.specs.Prelude.{IfOk, if◌then◌else◌}
-use Rattle.std.specs.List.{flat_map, AllByRecursion}
 use Rattle.std.specs.Str.{bytes_eq}
-use Rattle.std.proofs.lemmas.Bool.{cond-true, cond-false}
-use Rattle.std.proofs.lemmas.List.{append-nil}
+use Rattle.std.proofs.lemmas.Bool.{cond-true}
 use Rattle.std.proofs.lemmas.Slice.Eq.{bytes_eq-Decides}
 use Rattle.ps_text.specs.declared.form_name.FormName.{FormName}
 use Rattle.ps_text.specs.declared.form_name.FormName.TheVariants as name
 use Rattle.ps_text.specs.declared.form_fault.FormFault.{FormFault}
-use Rattle.ps_text.specs.declared.form_end.FormEnd.{FormEnd}
-use Rattle.ps_text.specs.declared.form_end.FormEnd.TheVariants.{Fault, Memory}
-use Rattle.ps_text.specs.Tokens.{Token, Field, Newline, tokens, has_newline, text_bytes, text_tokens}
-use Rattle.ps_text.specs.Reading.{At, Read, start, and_then, ◌>>=◌, Tells, placed, field_from, field_at, leaf_at, word_leaf, word_at, line_at, end_from, end_at, only_at, done_from, done_at, count, header_at, times_at, list_from, list_at}
-use Rattle.ps_text.proofs.Bytes.{IsPlain, IsClean, AreClean, IsClean-append, text_read, text_back}
+use Rattle.ps_text.specs.Tokens.{Token, Field, Newline, has_newline}
+use Rattle.ps_text.specs.Reading.{At, Read, and_then, ◌>>=◌, placed, field_from, leaf_at, word_leaf, word_at, line_at, end_from, end_at}
+use Rattle.ps_text.proofs.Bytes.{IsPlain, IsClean}
 
 -- what a step that didn't fail found
 pub record Finds {A : Type 0} (r : Result A FormFault) (Q : A → Type 0) : Type 0 where

@@ -1,18 +1,16 @@
 -- The laws of lines of a word and a count, of repetitions, and of whole texts.
-use Rattle.std.proofs.Common.{◌≡◌, ℕ, zero, suc, ◌+◌, ◌^◌, ◌<◌, ◌≤◌, Bool, true, false, ◌&&◌, List, [], ◌∷◌, ◌++◌, map, length, Result, Ok, Err, refl, sym, ap, subst, ◌∙◌, arith, append_assoc}
+use Rattle.std.proofs.Common.{◌≡◌, ℕ, zero, suc, ◌+◌, ◌^◌, ◌<◌, ◌≤◌, Bool, true, false, List, [], ◌∷◌, ◌++◌, map, length, Result, Ok, Err, refl, sym, ap, subst, ◌∙◌, arith, append_assoc}
 use Rattle.std.specs.Prelude.{IfOk, decimal, if◌then◌else◌}
 use Rattle.std.specs.List.{flat_map, AllByRecursion}
 use Rattle.std.proofs.lemmas.Bool.{cond-true, cond-false}
-use Rattle.std.proofs.lemmas.List.{append-nil}
 use Rattle.ps_text.specs.declared.form_name.FormName.{FormName}
 use Rattle.ps_text.specs.declared.form_name.FormName.TheVariants as name
 use Rattle.ps_text.specs.declared.form_fault.FormFault.{FormFault}
 use Rattle.ps_text.specs.declared.form_end.FormEnd.{FormEnd}
-use Rattle.ps_text.specs.declared.form_end.FormEnd.TheVariants.{Fault, Memory}
-use Rattle.ps_text.specs.Tokens.{Token, Field, Newline, tokens, has_newline, text_bytes, text_tokens}
-use Rattle.ps_text.specs.Reading.{At, Read, start, and_then, ◌>>=◌, Tells, placed, leaf_at, line_at, end_at, only_at, done_from, done_at, count, header_at, times_at, list_from, list_at, begins_from, begins_at, while_at}
+use Rattle.ps_text.specs.Tokens.{Token, Field, Newline, tokens, text_bytes, text_tokens}
+use Rattle.ps_text.specs.Reading.{At, Read, start, and_then, ◌>>=◌, Tells, placed, leaf_at, end_at, only_at, done_from, done_at, count, header_at, times_at, list_from, list_at, begins_from, begins_at, while_at}
 use Rattle.ps_text.proofs.Bytes.{IsPlain, IsClean, AreClean, IsClean-append, text_read, text_back}
-use Rattle.ps_text.proofs.Exact.{Finds, Gets, found_bind, found_end, gets_bind, gets_end, Exact, Always, IsLeaf, leaf_exact, placed_found, line_exact, end_exact}
+use Rattle.ps_text.proofs.Exact.{Finds, Gets, found_bind, found_end, gets_bind, gets_end, Exact, Always, leaf_exact, placed_found, line_exact, end_exact}
 use Rattle.ps_text.proofs.Decimals.{count_is_leaf}
 
 -- ---- a line that is a word alone

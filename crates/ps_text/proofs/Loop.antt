@@ -1,7 +1,5 @@
 -- Reading one after the other, as loops do: what was read, with what is still read, is all.
-use Rattle.std.proofs.Common.{◌≡◌, ℕ, zero, suc, ◌-◌, ◌+◌, ◌≤◌, ◌<◌, Bool, true, false, List, [], ◌∷◌, ◌++◌, length, Option, Some, None, Result, Ok, Err, refl, sym, ap, subst, ◌∙◌, append_assoc, arith}
-use Rattle.std.specs.Prelude.{if◌then◌else◌}
-use Rattle.std.proofs.lemmas.Bool.{cond-true, cond-false}
+use Rattle.std.proofs.Common.{◌≡◌, ℕ, zero, suc, ◌-◌, ◌+◌, ◌≤◌, ◌<◌, Bool, true, false, List, [], ◌∷◌, ◌++◌, length, Option, Some, None, Result, Ok, Err, refl, sym, ap, ◌∙◌, append_assoc, arith}
 use Rattle.std.proofs.lemmas.List.{append-nil}
 use Rattle.std.proofs.lemmas.Option.{none-some}
 use Rattle.ps_text.specs.declared.form_name.FormName.{FormName}
@@ -9,8 +7,8 @@ use Rattle.ps_text.specs.declared.form_name.FormName.TheVariants as name
 use Rattle.ps_text.specs.declared.form_fault.FormFault.{FormFault}
 use Rattle.ps_text.specs.declared.form_end.FormEnd.{FormEnd}
 use Rattle.ps_text.specs.declared.form_end.FormEnd.TheVariants.{Fault, Memory}
-use Rattle.ps_text.specs.Reading.{At, Read, and_then, ◌>>=◌, Gives, placed, leaf_at, times_at, list_from, list_at, goes_on, member_at, begins_at, line_fault, while_at}
-use Rattle.ps_text.specs.Tokens.{Token, Field, Newline, next_field}
+use Rattle.ps_text.specs.Reading.{At, Read, and_then, ◌>>=◌, Gives, placed, leaf_at, times_at, list_from, list_at, member_at, begins_at, line_fault, while_at}
+use Rattle.ps_text.specs.Tokens.{Token, Field, Newline}
 
 -- what was read before, and what is still read
 abbrev pub with_front : {A : Type 0} → List A → Result (List A × At) FormFault → Result (List A × At) FormFault

@@ -1,7 +1,4 @@
-use Rattle.std.proofs.Common.{◌≡◌, ◌++◌, ◌+◌, ◌-◌, ◌≤◌, length, map, drop}
-use Rattle.std.specs.Prelude.{All}
-use Rattle.ps_text.specs.Tokens.{tokens}
-use Rattle.ps_text.specs.Lines.{lines_of, numbered, numbered_fields, IsLineWithin}
+use Rattle.std.proofs.Common.{◌-◌, length}
 use Rattle.ps_text.proofs.LineList.{Going}
 use Rattle.ps_text.proofs.splitting.lines.Given as goal
 

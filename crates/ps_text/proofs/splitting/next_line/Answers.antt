@@ -1,4 +1,4 @@
-use Rattle.std.proofs.Common.{arith, ◌<◌, ◌+◌, ◌∙◌, sym, length, eq-eqb, ne_eqb}
+use Rattle.std.proofs.Common.{arith, ◌<◌, ◌∙◌, sym, length, eq-eqb, ne_eqb}
 use Rattle.ps_text.proofs.LineList.{spanning_more, spanning_all, spanning_ends}
 use Rattle.ps_text.proofs.splitting.next_line.Goals as goal
 
