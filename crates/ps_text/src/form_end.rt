@@ -1,3 +1,5 @@
+//! How the reading of a text of lines can end without a value.
+
 ghost use Rattle.std.specs.Prelude.{◌≡◌};
 ghost use Rattle.ps_text.specs.declared.form_end.FormEnd.TheVariants.{Fault, Memory};
 

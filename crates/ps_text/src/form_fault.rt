@@ -1,3 +1,5 @@
+//! Faults of texts of lines, and where they stand.
+
 ghost use Rattle.std.specs.Prelude.{◌≡◌};
 
 use crate::form_name::FormName;

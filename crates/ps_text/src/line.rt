@@ -1,3 +1,5 @@
+//! Lines of a text.
+
 ghost use Rattle.std.specs.Prelude.{◌≡◌, IfOk};
 
 use crate::spans::Spans;

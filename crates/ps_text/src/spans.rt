@@ -1,3 +1,5 @@
+//! Lists of parts of a text.
+
 ghost use Rattle.std.specs.Prelude.{◌≡◌, IfOk};
 
 use crate::span::Span;

@@ -1,3 +1,5 @@
+//! Ends of lists of fields.
+
 ghost use Rattle.std.specs.Prelude.{◌≡◌};
 
 /// Up to where a list of fields goes.
