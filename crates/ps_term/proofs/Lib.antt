@@ -1,6 +1,11 @@
 pub mod Canonical
+pub mod Ceilings
+pub mod Divisions
+mod Examples
 pub mod Lookups
 pub mod Merging
+pub mod Negations
 pub mod Ring
+pub mod Substitutions
 pub mod Uniqueness
 pub mod Variables

@@ -1,7 +1,12 @@
+pub mod Factors
 pub mod Front
 pub mod Lookup
+pub mod Negation
 pub mod Pairs
 pub mod Row
+pub mod Substitution
 pub mod Sums
 pub mod Term
+pub mod Tightened
 pub mod Var
+pub mod Whole

@@ -1,5 +1,5 @@
 -- Places between variables, as a walk over them in ascending order has them.
-use Rattle.std.specs.Prelude.{◌≡◌, Bool, true, false, not, Option, Some, None, IsTrue, IsFalse}
+use Rattle.std.specs.Prelude.{Bool, false, not, Option, Some, None, IsTrue, IsFalse}
 use Rattle.ps_term.specs.declared.var.Var.{Var}
 use Rattle.ps_term.specs.Var.{var_lt}
 

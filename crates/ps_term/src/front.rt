@@ -40,4 +40,3 @@ pub(crate) fn past_front(variable: Var, pairs: &[(Var, i128)]) -> &[(Var, i128)]
         _ => pairs,
     }
 }
-

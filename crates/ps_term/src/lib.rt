@@ -4,8 +4,14 @@
 mod front;
 pub mod laws;
 mod lookup;
+pub mod negation;
 pub mod pairs;
 pub mod row;
+pub mod substitution;
 pub mod sums;
 pub mod term;
+#[cfg(test)]
+mod tests;
+pub mod tightening;
 pub mod var;
+pub mod whole;

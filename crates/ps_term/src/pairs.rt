@@ -45,6 +45,7 @@ impl Pairs {
         self.list
     }
 
+    /// The pairs in the order of the variables.
     pub fn as_slice(&self) -> &[(Var, i128)]
         ensures list { result.now ≡ self.now }
         ensures canonical { IsCanonical result.now }

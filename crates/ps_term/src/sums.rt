@@ -104,32 +104,3 @@ fn keep(list: &mut Vec<(Var, i128)>, variable: Var, coefficient: i128) -> Result
     list.push((variable, coefficient)).map_err(|_| AllocError)?;
     Ok(())
 }
-
-#[cfg(test)]
-mod tests {
-    use super::*;
-    use std::test::Fail;
-
-    fn term(alloc: Global, pairs: &[(Var, i128)], constant: i128) -> Result<Term, AllocError>
-        requires { IsCanonical pairs.now }
-    {
-        Ok(Term {
-            pairs: Pairs::from_list(pairs.to_vec(alloc)?),
-            constant,
-        })
-    }
-
-    #[test]
-    fn adds_scaled_terms(rt: HostRuntime) -> Result<(), Fail> {
-        let (g, l, h) = (Var::Global(7), Var::Local(0, 3), Var::Havoc(0));
-        let a = term(rt.alloc(), &[(g, 5), (l, -6)], 1)?;
-        let b = term(rt.alloc(), &[(l, 3), (h, 1)], i128::MAX)?;
-        let sum = add_scaled(rt.alloc(), &a, 2, &b);
-        assert!(rt; matches!(sum, Err(TermEnd::Past128)));
-        let b = term(rt.alloc(), &[(l, 3), (h, 1)], 4)?;
-        let sum = add_scaled(rt.alloc(), &a, 2, &b)?.copy(rt.alloc())?;
-        assert_eq!(rt; sum.pairs.as_slice(), [(g, 5), (h, 2)].as_slice());
-        assert_eq!(rt; sum.constant, 9);
-        Ok(())
-    }
-}

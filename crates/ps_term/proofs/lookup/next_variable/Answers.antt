@@ -1,4 +1,4 @@
-use Rattle.std.proofs.Common.{◌≢◌, ℤ, pos, Option, IfSome, rules, of_calls, subst, sym, ap, ◌∙◌}
+use Rattle.std.proofs.Common.{◌≢◌, pos, Option, IfSome, rules, of_calls, subst, sym, ap, ◌∙◌}
 use Rattle.std.proofs.lemmas.Fn.{always_returns_same}
 use Rattle.ps_term.specs.declared.var.Var.{Var}
 use Rattle.ps_term.specs.Front.{first_variable}

@@ -1,0 +1,6 @@
+use Rattle.std.proofs.Common.{drop}
+use Rattle.ps_term.proofs.Substitutions.{Substituted}
+use Rattle.ps_term.proofs.substitution.substitute.Given as goal
+
+abbrev pub invariant-loop-pair : goal.invariant-loop-pair
+invariant-loop-pair l = Substituted l.after l.a.pairs l.a.constant l.sum (drop l.pair-index l.pair-items)
