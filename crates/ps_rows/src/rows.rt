@@ -1,7 +1,8 @@
 //! Lists of rows.
+
 ghost use Rattle.std.specs.Prelude.{◌≡◌, IfOk};
 
-use ps_term::Row;
+use ps_term::row::Row;
 use std::alloc::{AllocError, Global};
 use std::marker::Model;
 
