@@ -2,7 +2,7 @@
 
 ghost use Rattle.std.specs.Prelude.{◌≡◌, IfOk};
 
-use ps_term::row::Row;
+use ps_term::Row;
 use std::alloc::{AllocError, Global};
 use std::marker::Model;
 
