@@ -1,12 +1,12 @@
 -- Worked examples of the definitions. Each holds by computing.
-use Rattle.std.proofs.Common.{◌≡◌, ℕ, List, [], ◌∷◌, Some, None, Ok, Err, refl}
-use Rattle.std.specs.Prelude.{codes, pos, negsuc}
+use Rattle.std.proofs.Common.{◌≡◌, [], ◌∷◌, Some, None, Err, refl}
+use Rattle.std.specs.Prelude.{codes, negsuc}
 use Rattle.ps_text.specs.declared.form_name.FormName.TheVariants as name
-use Rattle.ps_text.specs.Tokens.{Token, Field, Newline, tokens, text_bytes, text_tokens}
+use Rattle.ps_text.specs.Tokens.{Field, Newline, tokens, text_bytes}
 use Rattle.ps_text.specs.Decimal.{u128_of, i128_of, u32_of}
 use Rattle.ps_text.specs.Lines.{lines_of}
 use Rattle.ps_text.specs.Parts.{cut_at}
-use Rattle.ps_text.specs.Reading.{At, start, and_then, leaf_at, header_at, line_at, only_at, value_of, natural32}
+use Rattle.ps_text.specs.Reading.{start, and_then, leaf_at, header_at, line_at, only_at, value_of}
 
 -- `a`, a blank, `b`, a line feed, a line feed, `c`: two ended lines, and a field that no line feed ends
 pub tokens_of_lines : tokens (97 ∷ 32 ∷ 98 ∷ 10 ∷ 10 ∷ 99 ∷ []) ≡ Field (97 ∷ []) ∷ (Field (98 ∷ []) ∷ (Newline ∷ (Field [] ∷ (Newline ∷ (Field (99 ∷ []) ∷ [])))))
