@@ -7,7 +7,7 @@ use Rattle.ps_rows.specs.Reading.{claim_at}
 use Rattle.ps_rows.specs.Spelling.{claim_lines, ClaimFits}
 use Rattle.ps_text.specs.Reading.{start}
 use Rattle.ps_text.specs.Tokens.{text_bytes}
-use Rattle.proofspace.specs.Refute.{most_bytes, Says, SaysYes, SaysNo, FirstFault, Refusal, TooLong, NotOfForm, PastRange, Owed, Yes, No, Refused, IsAnswer, Judged, Refuting, NotRefuting, PastSums}
+use Rattle.proofspace.specs.Refute.{most_bytes, Says, FirstFault, TooLong, NotOfForm, PastRange, Owed, Yes, No, Refused, IsAnswer, Judged, Refuting, NotRefuting, PastSums}
 use Rattle.proofspace.specs.Texts.{fault_line, too_long_line, past_line, yes_line, no_line}
 use Rattle.proofspace.specs.declared.status.Status.{Status}
 use Rattle.proofspace.specs.declared.status.Status.TheVariants.{Holds, Fails, BadInput}

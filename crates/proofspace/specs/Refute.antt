@@ -8,7 +8,7 @@ use Rattle.ps_rows.specs.declared.claim.Claim.{Claim}
 use Rattle.ps_rows.specs.Reading.{claim_at}
 use Rattle.ps_rows.specs.Spelling.{claim_lines, ClaimFits}
 use Rattle.proofspace.specs.declared.status.Status.{Status}
-use Rattle.proofspace.specs.declared.status.Status.TheVariants.{Holds, Fails, Unknown, BadInput, BadWords, ReadFault, WriteFault, NoMemory}
+use Rattle.proofspace.specs.declared.status.Status.TheVariants.{Holds, Fails, BadInput}
 use Rattle.proofspace.specs.Texts.{fault_line, too_long_line, past_line, yes_line, no_line}
 
 -- how many bytes an input may have

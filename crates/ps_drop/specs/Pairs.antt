@@ -1,3 +1,4 @@
+-- Paths of pairs of nodes, and links to dropped ones.
 use Rattle.std.specs.Prelude.{◌≡◌, ℕ, List, [], ◌∷◌, Contains}
 use Rattle.ps_drop.specs.declared.pair.Pair.{Pair}
 

@@ -1,3 +1,4 @@
+-- What a list of minimal hitting sets says.
 use Rattle.std.specs.Prelude.{ℕ, ◌<◌, List, length, All as Each}
 use Rattle.std.specs.Ordering.{nat_cmp}
 use Rattle.std.specs.Cmp.Lexicographic.{slice_cmp}

@@ -1,3 +1,4 @@
+-- Which sets the chosen numbers meet, and how often.
 use Rattle.std.specs.Prelude.{◌≡◌, ◌≢◌, ℕ, ◌+◌, Bool, true, false, ◌==◌, List, [], ◌∷◌, Contains, Any}
 use Rattle.std.specs.List.{list_any}
 use Rattle.ps_hit.specs.declared.cover.Cover.{Cover}

@@ -1,3 +1,4 @@
+-- Hitting sets of a list of sets, and the minimal ones.
 use Rattle.std.specs.Prelude.{ℕ, List, map, All, Contains}
 use Rattle.std.specs.declared.vec.Vec.{Vec}
 use Rattle.std.specs.List.Sorted.{IsStrictlyIncreasing}

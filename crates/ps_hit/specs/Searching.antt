@@ -1,3 +1,4 @@
+-- The nodes of the search, and what becomes of one.
 use Rattle.std.specs.Prelude.{◌≡◌, ℕ, zero, suc, ◌-◌, ◌+◌, ◌*◌, ◌≤◌, ◌⊎◌, List, [], ◌∷◌, ◌++◌, length, All, Contains, nat_eq}
 use Rattle.std.specs.List.{AllZip, IsDistinct}
 use Rattle.ps_hit.specs.declared.node.Node.{Node}

@@ -1,3 +1,4 @@
+//! Sources and sinks over memory, reading, writing, and the adapters of the host.
 use super::*;
 use std::test::Fail;
 

@@ -18,6 +18,7 @@ abbrev pub claim_lines : Claim → List (List ℕ × List (List ℕ))
 claim_lines claim =
     (codes "rows", decimal (length claim.rows) ∷ []) ∷ (map row_line claim.rows ++ (multipliers_line claim.multipliers ∷ ((codes "end", []) ∷ [])))
 
+-- Which rows have a spelling.
 abbrev pub RowFits : Row → Type 0
 RowFits row = TermFits row.term
 

@@ -1,4 +1,5 @@
 //! Rows with their multipliers.
+
 ghost use Rattle.std.specs.Prelude.{◌≡◌, IfOk};
 
 use crate::multipliers::Multipliers;

@@ -1,4 +1,5 @@
 //! Lists of multipliers.
+
 ghost use Rattle.std.specs.Prelude.{◌≡◌, IfOk};
 
 use std::alloc::{AllocError, Global};

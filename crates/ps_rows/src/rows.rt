@@ -1,4 +1,5 @@
 //! Lists of rows.
+
 ghost use Rattle.std.specs.Prelude.{◌≡◌, IfOk};
 
 use ps_term::Row;

@@ -29,9 +29,11 @@ looks_variable field =
 abbrev pub at_most_65535 : ℕ → Option ℕ
 at_most_65535 n = if nat_le n 65535 then Some n else None
 
+-- The number of a variable that a field is.
 abbrev pub number_of : List ℕ → Option ℕ
 number_of field = option_and_then at_most_65535 (u32_of field)
 
+-- The local of its number and its slot.
 abbrev pub local_of : Option (List ℕ × List ℕ) → Option Var
 local_of None = None
 local_of (Some parts) = option_and_then (λ n. option_map (λ s. Local s n) (number_of parts.1)) (number_of parts.0)
@@ -42,6 +44,7 @@ variable_of field = if slice_index field 0 == 103 then option_map Global (number
 
 -- ---- pairs
 
+-- The pair of a coefficient and a variable, where both are in range.
 abbrev pub pair_of : List ℕ × List ℕ → Option (Var × ℤ)
 pair_of parts = option_and_then (λ c. option_map (λ x. (x, c)) (variable_of parts.1)) (i128_of parts.0)
 
@@ -55,6 +58,7 @@ abbrev pub ordered : Option (Var × ℤ) → Option (Var × ℤ) → Result (Var
 ordered before None = Err Number
 ordered before (Some p) = if int_eq p.1 (pos 0) then Err Order else (if ascends before p.0 then Ok p else Err Order)
 
+-- The pair of the parts round a `*`, after the one before it.
 abbrev pub pair_from : Option (Var × ℤ) → Option (List ℕ × List ℕ) → Result (Var × ℤ) FormName
 pair_from before None = Err Field
 pair_from before (Some parts) = if counts_as_decimal parts.0 && looks_variable parts.1 then ordered before (pair_of parts) else Err Field

@@ -24,6 +24,7 @@ VariableFits (Havoc n) = ⊥
 abbrev pub pair_text : Var × ℤ → List ℕ
 pair_text p = signed_decimal p.1 ++ 42 ∷ variable_text p.0
 
+-- Which pairs have a spelling.
 pub record PairFits (p : Var × ℤ) : Type 0 where
   pub coefficient : FitsSigned w128 p.1
   pub variable : VariableFits p.0

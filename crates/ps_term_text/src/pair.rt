@@ -66,8 +66,8 @@ fn pair_from(
     }
 }
 
-/// A field that is a pair of a term, after the one before it.
-pub struct PairLeaf;
+// A form: a field that is a pair of a term, after the one before it.
+pub(crate) struct PairLeaf;
 
 impl Leaf for PairLeaf {
     type Value = (Var, i128);

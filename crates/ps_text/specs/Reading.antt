@@ -29,6 +29,7 @@ unfoldable pub and_then : {A B : Type 0} → Result A FormFault → (A → Resul
 and_then (Ok x) f = f x
 and_then (Err e) f = Err e
 
+-- The same, between the lines of a `do`.
 abbrev pub ◌>>=◌ : {A B : Type 0} → Result A FormFault → (A → Result B FormFault) → Result B FormFault
 r >>= f = and_then r f
 
@@ -42,6 +43,7 @@ line_fault at what = record { line = at.line; field = 0; what = what }
 
 -- ---- steps
 
+-- The next field, from a line's number, the field's, and the tokens ahead.
 abbrev pub field_from : ℕ → ℕ → List Token → Result (List ℕ × At) FormFault
 field_from line field (Field f ∷ ts) = Ok (f, record { line = line; field = field + 1; tokens = ts })
 field_from line field ts = Err (record { line = line; field = field; what = name.Count })
@@ -74,6 +76,7 @@ word_at word = leaf_at (word_leaf word)
 unfoldable pub line_at : List ℕ → Read (Unit {0})
 line_at word at = if has_newline at.tokens then word_at word at else Err (line_fault at name.Cut)
 
+-- The end of a line, from the line's number, the next field's, and the tokens ahead.
 abbrev pub end_from : ℕ → ℕ → List Token → Result (Unit {0} × At) FormFault
 end_from line field (Newline ∷ ts) = Ok (tt, record { line = line + 1; field = 1; tokens = ts })
 end_from line field ts = Err (record { line = line; field = field; what = name.Count })
@@ -88,6 +91,7 @@ only_at word at = do
   w ← line_at word at
   end_at w.1
 
+-- The end of the text, from the line's number and the tokens ahead.
 abbrev pub done_from : ℕ → List Token → Result (Unit {0}) FormFault
 done_from line [] = Ok tt
 done_from line (t ∷ ts) = Err (record { line = line; field = 0; what = name.Word })
@@ -102,12 +106,15 @@ done_at at = done_from at.line at.tokens
 abbrev pub decimal_leaf : {A : Type 0} → (List ℕ → Option A) → List ℕ → Result A FormName
 decimal_leaf of field = if counts_as_decimal field then ok_or (of field) name.Number else Err name.Field
 
+-- A decimal of 32 bits.
 abbrev pub natural32 : List ℕ → Result ℕ FormName
 natural32 = decimal_leaf u32_of
 
+-- A decimal of 128 bits.
 abbrev pub natural : List ℕ → Result ℕ FormName
 natural = decimal_leaf u128_of
 
+-- A signed decimal of 128 bits.
 abbrev pub integer : List ℕ → Result ℤ FormName
 integer = decimal_leaf i128_of
 
@@ -146,6 +153,7 @@ list_from goes leaf step state line field (Field f ∷ ts) =
     if goes f then (placed line field (leaf state f) >>= λ x. list_from goes leaf step (step state x) line (field + 1) ts >>= λ xs. Ok (x ∷ xs.0, xs.1))
     else Ok ([], record { line = line; field = field; tokens = Field f ∷ ts })
 
+-- The same, from a place.
 abbrev pub list_at : {A S : Type 0} → (List ℕ → Bool) → (S → List ℕ → Result A FormName) → (S → A → S) → S → Read (List A)
 list_at goes leaf step state at = list_from goes leaf step state at.line at.field at.tokens
 
@@ -158,11 +166,12 @@ goes_on goes (Some f) = goes f
 abbrev pub member_at : {A : Type 0} → (List ℕ → Bool) → (List ℕ → Result A FormName) → Read (Option A)
 member_at goes leaf at = if goes_on goes (next_field at.tokens) then (leaf_at leaf at >>= λ x. Ok (Some x.0, x.1)) else Ok (None, at)
 
--- Whether an ended line begins with this word.
+-- Whether the tokens begin with this word, in a line that is ended.
 abbrev pub begins_from : List ℕ → List Token → Bool
 begins_from word (Field f ∷ ts) = bytes_eq f word && has_newline ts
 begins_from word ts = false
 
+-- Whether an ended line begins at a place with this word.
 abbrev pub begins_at : List ℕ → At → Bool
 begins_at word at = begins_from word at.tokens
 

@@ -2,6 +2,7 @@
 use Rattle.std.specs.Prelude.{ℕ, ◌+◌, Bool, true, false, ◌||◌, Option, Some, None, List, [], ◌∷◌, ◌++◌, map, ◌==◌, if◌then◌else◌}
 use Rattle.std.specs.List.{flat_map}
 
+-- A field with its bytes, or the end of a line.
 pub data Token : Type 0 where
   Field : List ℕ → Token
   Newline : Token
@@ -55,6 +56,7 @@ line_bytes line = line.0 ++ (flat_map after_blank line.1 ++ 10 ∷ [])
 abbrev pub text_bytes : List (List ℕ × List (List ℕ)) → List ℕ
 text_bytes lines = flat_map line_bytes lines
 
+-- The tokens of a line: its fields, and its end.
 abbrev pub line_tokens : List ℕ × List (List ℕ) → List Token
 line_tokens line = Field line.0 ∷ (map Field line.1 ++ Newline ∷ [])
 

@@ -1,4 +1,5 @@
-//! Why a text was not read.
+//! How the reading of a text of lines can end without a value.
+
 ghost use Rattle.std.specs.Prelude.{◌≡◌};
 ghost use Rattle.ps_text.specs.declared.form_end.FormEnd.TheVariants.{Fault, Memory};
 

@@ -1,4 +1,5 @@
-//! The first fault of a text and its place.
+//! Faults of texts of lines, and where they stand.
+
 ghost use Rattle.std.specs.Prelude.{◌≡◌};
 
 use crate::form_name::FormName;

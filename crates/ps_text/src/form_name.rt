@@ -1,3 +1,5 @@
+//! What a text of lines can lack.
+
 /// What is wrong with a text that isn't of its form.
 #[derive(Clone, Copy, Debug, PartialEq, Eq, PartialOrd, Ord, Hash)]
 pub enum FormName {

@@ -1,4 +1,5 @@
-//! Lines as the places of their fields.
+//! Lines of a text.
+
 ghost use Rattle.std.specs.Prelude.{◌≡◌, IfOk};
 
 use crate::spans::Spans;

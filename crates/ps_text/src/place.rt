@@ -1,3 +1,5 @@
+//! Places in a text of a grammar.
+
 /// A place in a text, both numbers from 1, the column in bytes.
 #[derive(Clone, Copy, Debug, PartialEq, Eq, PartialOrd, Ord, Hash)]
 pub struct Place {

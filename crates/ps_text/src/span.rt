@@ -1,3 +1,5 @@
+//! Parts of a text.
+
 /// A part of a text, from the byte at `start` up to the one before `end`.
 #[derive(Clone, Copy, Debug, PartialEq, Eq, PartialOrd, Ord, Hash)]
 pub struct Span {

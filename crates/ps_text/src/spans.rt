@@ -1,4 +1,5 @@
-//! Lists of places of fields.
+//! Lists of parts of a text.
+
 ghost use Rattle.std.specs.Prelude.{◌≡◌, IfOk};
 
 use crate::span::Span;

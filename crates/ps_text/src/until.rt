@@ -1,4 +1,5 @@
-//! Where a list of fields ends.
+//! Ends of lists of fields.
+
 ghost use Rattle.std.specs.Prelude.{◌≡◌};
 
 /// Up to where a list of fields goes.
