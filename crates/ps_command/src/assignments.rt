@@ -2,7 +2,7 @@
 ghost use Rattle.std.specs.Prelude.{◌≡◌, IfOk};
 ghost use Rattle.ps_command.specs.Assignments.{AreDistinct};
 
-use crate::sequence::{Duplicate, copies};
+use ps_list::copies;
 use ps_term::{Term, Var};
 use std::alloc::{AllocError, Global};
 use std::marker::Model;
@@ -57,11 +57,5 @@ impl Assignments {
         Ok(Assignments {
             list: copies(alloc, self.list.as_slice())?,
         })
-    }
-}
-
-impl Duplicate for (Var, Term) {
-    fn duplicate(&self, alloc: Global) -> Result<(Var, Term), AllocError> {
-        Ok((self.0, self.1.copy(alloc)?))
     }
 }

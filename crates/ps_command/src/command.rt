@@ -2,7 +2,7 @@
 ghost use Rattle.std.specs.Prelude.{◌≡◌, IfOk};
 
 use crate::op::Op;
-use crate::sequence::{Duplicate, Sequence};
+use ps_list::{Duplicate, Sequence};
 use std::alloc::{AllocError, Global};
 
 /// Ops that one thread runs one after another, in one step.

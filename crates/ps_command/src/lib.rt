@@ -4,7 +4,6 @@
 mod assignments;
 mod command;
 mod op;
-mod sequence;
 mod setting;
 mod state;
 mod symbolic_form;
@@ -12,7 +11,6 @@ mod symbolic_form;
 pub use assignments::Assignments;
 pub use command::Command;
 pub use op::Op;
-pub use sequence::{Duplicate, Sequence, copies};
 pub use setting::Setting;
 pub use state::State;
 pub use symbolic_form::SymbolicForm;

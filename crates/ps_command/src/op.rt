@@ -1,7 +1,7 @@
 //! The ops that commands are made of.
 ghost use Rattle.std.specs.Prelude.{◌≡◌, IfOk};
 
-use crate::sequence::Duplicate;
+use ps_list::Duplicate;
 use ps_term::{Row, Term, Var};
 use std::alloc::{AllocError, Global};
 

@@ -1,7 +1,7 @@
 //! States.
 ghost use Rattle.std.specs.Prelude.{◌≡◌, IfOk};
 
-use crate::sequence::Sequence;
+use ps_list::Sequence;
 use std::alloc::{AllocError, Global};
 
 /// The value of each global, and for each thread that of each of its locals.

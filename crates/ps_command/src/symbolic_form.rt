@@ -2,7 +2,7 @@
 ghost use Rattle.std.specs.Prelude.{◌≡◌, IfOk};
 
 use crate::assignments::Assignments;
-use crate::sequence::{Duplicate, Sequence};
+use ps_list::{Duplicate, Sequence};
 use ps_term::Row;
 use std::alloc::{AllocError, Global};
 

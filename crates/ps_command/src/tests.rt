@@ -2,7 +2,7 @@
 use crate::assignments::Assignments;
 use crate::command::Command;
 use crate::op::Op;
-use crate::sequence::{Duplicate, Sequence};
+use ps_list::{Duplicate, Sequence};
 use crate::setting::Setting;
 use crate::state::State;
 use crate::symbolic_form::SymbolicForm;

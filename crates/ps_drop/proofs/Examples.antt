@@ -2,7 +2,7 @@
 use Rattle.std.proofs.Common.{◌≡◌, ℕ, List, [], ◌∷◌, ap, sym, subst, refl, inl, inr, arith}
 use Rattle.ps_drop.specs.declared.pair.Pair.{Pair}
 use Rattle.ps_drop.specs.Pairs.{Names, IsPath, Leads, Leans}
-use Rattle.ps_drop.proofs.Members.{nothing, cons_cases, here, there}
+use Rattle.ps_list.proofs.Members.{nothing, cons_cases, here, there}
 
 abbrev pair : ℕ → ℕ → Pair
 pair node other = record { node = node; other = other }

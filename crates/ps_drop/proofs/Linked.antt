@@ -7,7 +7,7 @@ use Rattle.std.specs.Cmp.{nat_cmp_total}
 use Rattle.std.proofs.lemmas.Map.Lookups.{exact_unsigned}
 use Rattle.std.proofs.lemmas.Map.Views.{btree_set_contains_iff, btree_set_contains_from_list}
 use Rattle.std.proofs.lemmas.Bool.{both_ways}
-use Rattle.ps_drop.proofs.Members.{nothing, cons_cases, here, there}
+use Rattle.ps_list.proofs.Members.{nothing, cons_cases, here, there}
 use Rattle.ps_drop.specs.declared.pair.Pair.{Pair}
 use Rattle.ps_drop.specs.Pairs.{Leans}
 

@@ -11,7 +11,7 @@ use Rattle.std.proofs.lemmas.List.Elements.{All-more, All-contains, Contains-app
 use Rattle.std.specs.List.Sorted.{IsPermutation}
 use Rattle.std.proofs.lemmas.List.{take_more}
 use Rattle.std.proofs.lemmas.List.Sorted.{IsPermutation-sym, Contains-permutation}
-use Rattle.ps_drop.proofs.Members.{nothing, cons_cases}
+use Rattle.ps_list.proofs.Members.{nothing, cons_cases}
 use Rattle.ps_drop.specs.declared.pair.Pair.{Pair}
 use Rattle.ps_drop.specs.Pairs.{Names, IsPath, Leads}
 use Rattle.ps_drop.specs.Visit.{AreChildren, Has, unfound, Visits}

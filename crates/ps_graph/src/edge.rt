@@ -1,7 +1,7 @@
 //! Edges.
 ghost use Rattle.std.specs.Prelude.{◌≡◌, IfOk};
 
-use ps_command::{Duplicate, Sequence};
+use ps_list::{Duplicate, Sequence};
 use std::alloc::{AllocError, Global};
 
 /// What an edge does with one choice of a step.

@@ -3,7 +3,8 @@ ghost use Rattle.std.specs.Prelude.{◌≡◌, IfOk, IsTrue};
 ghost use Rattle.ps_graph.specs.Facts.{IsDeterministic, entries_owned, error_is_final, names_exist, picks_fit, stay_in_bodies};
 
 use crate::edge::Edge;
-use ps_command::{Sequence, Setting};
+use ps_command::Setting;
+use ps_list::Sequence;
 use std::alloc::{AllocError, Global};
 
 /// Locations and the edges between them. Location 1 is the error.

@@ -1,7 +1,8 @@
 // Copies, with ample memory: each is spelled as what it copies.
 use crate::edge::{Edge, Pick};
 use crate::graph::Graph;
-use ps_command::{Sequence, Setting};
+use ps_command::Setting;
+use ps_list::Sequence;
 use std::alloc::{AllocError, Global};
 use std::test::Fail;
 

@@ -13,7 +13,7 @@ use Rattle.std.proofs.lemmas.Map.Keys.{sorted_head, sorted_tail, sorted_from_str
 use Rattle.std.proofs.lemmas.Map.Lookups.{exact_bytes}
 use Rattle.std.proofs.lemmas.List.Elements.{All-from_recursion, All-contains}
 use Rattle.ps_hit.specs.Hitting.{numbers_of, IsSubset}
-use Rattle.ps_hit.proofs.Members.{nothing, cons_cases, here, there}
+use Rattle.ps_list.proofs.Members.{nothing, cons_cases, here, there}
 
 -- ---- ascending lists with the same numbers are the same
 

@@ -7,7 +7,7 @@ use Rattle.ps_hit.specs.declared.node.Node.{Node}
 use Rattle.ps_hit.specs.Hitting.{Meets, IsMinimalHit}
 use Rattle.ps_hit.specs.Covers.{unmet}
 use Rattle.ps_hit.specs.Searching.{IsNode, IsBelow, AddsChild, Branches, work, works}
-use Rattle.ps_hit.proofs.Members.{nothing}
+use Rattle.ps_list.proofs.Members.{nothing}
 use Rattle.ps_hit.proofs.CoverSteps.{is_in, unmet_falls}
 use Rattle.ps_hit.proofs.Nodes.{child_node, below_child, no_child, not_chosen, zip_length, work_more, works-append}
 

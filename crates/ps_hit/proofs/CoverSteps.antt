@@ -10,7 +10,7 @@ use Rattle.ps_hit.specs.declared.cover.Cover.{Cover}
 use Rattle.ps_hit.specs.declared.cover.Cover.TheVariants.{Unmet, Once, Again}
 use Rattle.ps_hit.specs.Hitting.{numbers_of}
 use Rattle.ps_hit.specs.Covers.{IsCover, cover_with, covers_with, unmet}
-use Rattle.ps_hit.proofs.Members.{nothing, cons_cases, here, there}
+use Rattle.ps_list.proofs.Members.{nothing, cons_cases, here, there}
 
 -- one more set is done
 pub covers_more : {A : Type 0} (n : ℕ) (sets : List (Vec ℕ A)) (covers : List Cover) (i : ℕ) (set : Vec ℕ A) (d : Cover) (done all : List Cover) (cover : Cover) (has : Bool)

@@ -2,7 +2,7 @@
 use Rattle.std.proofs.Common.{◌≡◌, ℕ, List, [], ◌∷◌, sym, ◌∙◌, subst, inl, inr, Contains, arith}
 use Rattle.std.proofs.lemmas.List.Elements.{All-nil, All-cons, All-head}
 use Rattle.ps_hit.specs.Hitting.{Meets, IsHit, IsMinimalHit}
-use Rattle.ps_hit.proofs.Members.{nothing, cons_cases, here, there}
+use Rattle.ps_list.proofs.Members.{nothing, cons_cases, here, there}
 
 abbrev sets : List (List ℕ)
 sets = (1 ∷ 2 ∷ []) ∷ (2 ∷ 3 ∷ []) ∷ []

@@ -1,5 +1,4 @@
 mod Examples
-pub mod Members
 pub mod CoverSteps
 pub mod Critical
 pub mod Ascending

@@ -2,6 +2,7 @@
 ghost use Rattle.std.specs.Prelude.{◌≡◌, IfOk};
 
 use crate::term::Term;
+use ps_list::Duplicate;
 use std::alloc::{AllocError, Global};
 
 /// Reads `term <= 0`.
@@ -18,5 +19,11 @@ impl Row {
         Ok(Row {
             term: self.term.copy(alloc)?,
         })
+    }
+}
+
+impl Duplicate for Row {
+    fn duplicate(&self, alloc: Global) -> Result<Row, AllocError> {
+        self.copy(alloc)
     }
 }

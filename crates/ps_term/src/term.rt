@@ -4,6 +4,7 @@ ghost use Rattle.ps_term.specs.Term.{variable_term};
 
 use crate::pairs::Pairs;
 use crate::var::Var;
+use ps_list::Duplicate;
 use std::alloc::{AllocError, Global};
 use thiserror::Error;
 
@@ -54,5 +55,11 @@ impl Term {
             pairs: self.pairs.copy(alloc)?,
             constant: self.constant,
         })
+    }
+}
+
+impl Duplicate for Term {
+    fn duplicate(&self, alloc: Global) -> Result<Term, AllocError> {
+        self.copy(alloc)
     }
 }

@@ -2,6 +2,9 @@
 ghost use Rattle.std.specs.Prelude.{◌≡◌};
 ghost use Rattle.ps_term.specs.Var.{var_eq, var_lt};
 
+use ps_list::Duplicate;
+use std::alloc::{AllocError, Global};
+
 /// A variable. Globals come before locals and those before havocs; within a kind the numbers decide,
 /// of two locals first that of the thread.
 #[derive(Clone, Copy, Debug, PartialEq, Eq, PartialOrd, Ord, Hash)]
@@ -26,4 +29,10 @@ pub fn is_before(a: Var, b: Var) -> bool
     ensures { result ≡ var_lt a b }
 {
     a < b
+}
+
+impl Duplicate for Var {
+    fn duplicate(&self, _alloc: Global) -> Result<Var, AllocError> {
+        Ok(*self)
+    }
 }

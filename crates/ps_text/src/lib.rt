@@ -18,6 +18,9 @@ mod reader;
 mod span;
 mod spans;
 mod splitting;
+mod token;
+mod token_end;
+mod token_kind;
 mod until;
 
 pub use decimal::{counts_as_decimal, read_i128, read_u32, read_u128};
@@ -40,6 +43,9 @@ pub use reader::Reader;
 pub use span::Span;
 pub use spans::Spans;
 pub use splitting::lines;
+pub use token::Token;
+pub use token_end::TokenEnd;
+pub use token_kind::TokenKind;
 pub use until::Until;
 
 #[cfg(test)]

@@ -1,7 +1,7 @@
 //! Steps of a witness.
 ghost use Rattle.std.specs.Prelude.{◌≡◌, IfOk};
 
-use ps_command::{Duplicate, Sequence};
+use ps_list::{Duplicate, Sequence};
 use std::alloc::{AllocError, Global};
 
 /// A thread makes a step with these choices, in the order met: 1 or 0 for each `*`, and the value for

@@ -2,7 +2,7 @@
 use crate::step::Step;
 use crate::trace::{IndexedTrace, Letter};
 use crate::witness::Witness;
-use ps_command::Sequence;
+use ps_list::Sequence;
 use std::test::Fail;
 
 #[test]

@@ -1,7 +1,7 @@
 //! Traces.
 ghost use Rattle.std.specs.Prelude.{◌≡◌, IfOk};
 
-use ps_command::Sequence;
+use ps_list::Sequence;
 use std::alloc::{AllocError, Global};
 
 /// A thread that takes an edge, both by number.

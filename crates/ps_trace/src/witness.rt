@@ -2,7 +2,7 @@
 ghost use Rattle.std.specs.Prelude.{◌≡◌, IfOk};
 
 use crate::step::Step;
-use ps_command::Sequence;
+use ps_list::Sequence;
 use std::alloc::{AllocError, Global};
 
 /// Values to start from, of each global and for each thread of each of its locals, and steps.

@@ -1,5 +1,5 @@
 use Rattle.std.proofs.Common.{◌≡◌, take}
-use Rattle.ps_command.proofs.sequence.copies.Given as goal
+use Rattle.ps_list.proofs.sequence.copies.Given as goal
 
 abbrev pub invariant-loop-member : goal.invariant-loop-member
 invariant-loop-member g l = l.copies.items ≡ take l.member-index l.list

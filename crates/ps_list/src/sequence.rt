@@ -1,7 +1,6 @@
 //! Lists as fields of plain data.
 ghost use Rattle.std.specs.Prelude.{◌≡◌, IfOk, length};
 
-use ps_term::Row;
 use std::alloc::{AllocError, Global};
 use std::marker::Model;
 
@@ -91,14 +90,26 @@ impl Duplicate for i128 {
     }
 }
 
-impl Duplicate for Row {
-    fn duplicate(&self, alloc: Global) -> Result<Row, AllocError> {
-        self.copy(alloc)
+impl Duplicate for u128 {
+    fn duplicate(&self, _alloc: Global) -> Result<u128, AllocError> {
+        Ok(*self)
+    }
+}
+
+impl Duplicate for u32 {
+    fn duplicate(&self, _alloc: Global) -> Result<u32, AllocError> {
+        Ok(*self)
     }
 }
 
 impl<T: Duplicate> Duplicate for Sequence<T> {
     fn duplicate(&self, alloc: Global) -> Result<Sequence<T>, AllocError> {
         self.copy(alloc)
+    }
+}
+
+impl<A: Duplicate, B: Duplicate> Duplicate for (A, B) {
+    fn duplicate(&self, alloc: Global) -> Result<(A, B), AllocError> {
+        Ok((self.0.duplicate(alloc)?, self.1.duplicate(alloc)?))
     }
 }
