@@ -5,8 +5,8 @@ ghost use Rattle.ps_command.specs.Named.{is_declared_command, is_declared_row, n
 ghost use Rattle.ps_command.specs.Symbolic.{AreForms};
 
 use crate::command::Command;
-use ps_list::Sequence;
 use crate::symbolic_form::SymbolicForm;
+use ps_list::Sequence;
 use ps_term::Row;
 use std::alloc::{AllocError, Global};
 

@@ -2,10 +2,10 @@
 use crate::assignments::Assignments;
 use crate::command::Command;
 use crate::op::Op;
-use ps_list::{Duplicate, Sequence};
 use crate::setting::Setting;
 use crate::state::State;
 use crate::symbolic_form::SymbolicForm;
+use ps_list::{Duplicate, Sequence};
 use ps_term::{Pairs, Row, Term, Var};
 use std::alloc::{AllocError, Global};
 use std::test::Fail;

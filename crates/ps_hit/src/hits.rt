@@ -1,13 +1,13 @@
 //! The answer to a search for minimal hitting sets.
 ghost use Rattle.std.specs.Prelude.{◌≡◌, IfOk};
 
-use crate::lists::NumberLists;
+use ps_list::Sequence;
 use std::alloc::{AllocError, Global};
 
 /// The minimal hitting sets of some sets, or that there are more than were asked for.
 #[derive(Debug, Drop)]
 pub enum Hits {
-    All(NumberLists),
+    All(Sequence<Sequence<u32>>),
     TooMany,
 }
 

@@ -3,12 +3,10 @@
 
 mod cover;
 mod hits;
-mod lists;
 mod node;
 mod search;
 
 pub use hits::Hits;
-pub use lists::{NumberLists, Numbers};
 pub use search::minimal_hits;
 
 #[cfg(test)]
@@ -78,7 +76,7 @@ mod tests {
 
     fn count_of(hits: Hits) -> Option<usize> {
         match hits {
-            Hits::All(lists) => Some(lists.into_vec().len()),
+            Hits::All(lists) => Some(lists.into_list().len()),
             Hits::TooMany => None,
         }
     }

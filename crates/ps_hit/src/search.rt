@@ -8,8 +8,8 @@ ghost use Rattle.ps_hit.specs.Searching.{IsNode, Branches};
 
 use crate::cover::{Cover, shortest_unmet};
 use crate::hits::Hits;
-use crate::lists::{NumberLists, Numbers};
 use crate::node::{Node, add_child, root};
+use ps_list::Sequence;
 use std::alloc::{AllocError, Global};
 use std::collections::BTreeSet;
 
@@ -83,12 +83,12 @@ fn ascending(alloc: Global, numbers: &[u32]) -> Result<Vec<u32>, AllocError>
 }
 
 /// The lists of a set in its order.
-fn listed(alloc: Global, found: BTreeSet<Vec<u32>>) -> Result<NumberLists, AllocError>
+fn listed(alloc: Global, found: BTreeSet<Vec<u32>>) -> Result<Sequence<Sequence<u32>>, AllocError>
     ensures { IfOk result (λ lists. lists ≡ numbers_of found.keys) }
 {
     let mut lists = Vec::with_capacity(alloc, found.len())?;
     for list in found {
-        lists.push(Numbers::from_vec(list))?;
+        lists.push(Sequence::from_list(list))?;
     }
-    Ok(NumberLists::from_vec(lists))
+    Ok(Sequence::from_list(lists))
 }

@@ -2,15 +2,15 @@
 
 ghost use Rattle.std.specs.Prelude.{◌≡◌, IfOk};
 
-use crate::multipliers::Multipliers;
-use crate::rows::Rows;
+use ps_list::Sequence;
+use ps_term::Row;
 use std::alloc::{AllocError, Global};
 
 /// Rows, and the multipliers under which their sum is to be a positive constant.
 #[derive(Debug, Drop)]
 pub struct Claim {
-    pub rows: Rows,
-    pub multipliers: Multipliers,
+    pub rows: Sequence<Row>,
+    pub multipliers: Sequence<u128>,
 }
 
 impl Claim {

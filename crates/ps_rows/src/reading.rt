@@ -8,8 +8,7 @@ ghost use Rattle.ps_rows.specs.Spelling.{claim_lines, ClaimFits};
 ghost use Rattle.ps_rows.specs.Reading.{row_at, multipliers_at, claim_at};
 
 use crate::claim::Claim;
-use crate::multipliers::Multipliers;
-use crate::rows::Rows;
+use ps_list::Sequence;
 use ps_term::Row;
 use ps_term_text::take_term;
 use ps_text::{Form, FormEnd, Natural, Reader, times};
@@ -41,13 +40,13 @@ fn take_multipliers<'a>(
     alloc: Global,
     count: u32,
     reader: &mut Reader<'a>,
-) -> Result<Multipliers, FormEnd>
+) -> Result<Sequence<u128>, FormEnd>
     ensures { Gives (λ x. x) result reader.new (multipliers_at count reader.old) }
 {
     reader.line(b"by")?;
     let list = times::<Natural>(alloc, count, reader)?;
     reader.end()?;
-    Ok(Multipliers::from_list(list))
+    Ok(Sequence::from_list(list))
 }
 
 #[tactic(auto, unfolding(crate::specs::Reading::claim_at, ps_text::specs::Reading::and_then))]
@@ -59,7 +58,7 @@ fn whole(alloc: Global, bytes: &[u8], first: u32) -> Result<Claim, FormEnd>
     let mut reader = Reader::new(bytes, first);
     let count = reader.header(b"rows", MOST_ROWS)?;
     let rows = times::<RowLine>(alloc, count, &mut reader)?;
-    let rows = Rows::from_list(rows);
+    let rows = Sequence::from_list(rows);
     let multipliers = take_multipliers(alloc, count, &mut reader)?;
     reader.only(b"end")?;
     reader.done()?;
