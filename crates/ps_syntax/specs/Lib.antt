@@ -1,2 +1,12 @@
 pub mod Sum
 pub mod Cond
+pub mod Words
+pub mod Names
+pub mod Sums
+pub mod Conds
+pub mod Blocks
+pub mod Items
+pub mod Grammar
+pub mod Spelling
+pub mod Trees
+pub mod Fits
