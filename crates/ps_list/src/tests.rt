@@ -9,12 +9,14 @@ fn copies_lists(rt: HostRuntime) -> Result<(), Fail> {
     let lists = Sequence::from_list(vec![in alloc; inner]?);
     let copied = lists.copy(alloc)?;
     for list in copied.as_slice() {
-        assert_eq!(rt; list.as_slice(), &[7, 9]);
+        assert_eq!(rt; list.as_slice(), [7u32, 9].as_slice());
     }
     assert_eq!(rt; copied.into_list().len(), 1);
     let numbers: Sequence<i128> = Sequence::from_slice(alloc, &[-1])?;
-    assert_eq!(rt; numbers.copy(alloc)?.as_slice(), &[-1]);
+    let copied = numbers.copy(alloc)?;
+    assert_eq!(rt; copied.as_slice(), [-1i128].as_slice());
     let multipliers: Sequence<u128> = Sequence::from_slice(alloc, &[1, 2])?;
-    assert_eq!(rt; multipliers.copy(alloc)?.as_slice(), &[1, 2]);
+    let copied = multipliers.copy(alloc)?;
+    assert_eq!(rt; copied.as_slice(), [1u128, 2].as_slice());
     Ok(())
 }
