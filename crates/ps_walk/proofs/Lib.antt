@@ -1,0 +1,4 @@
+pub mod Bounding
+pub mod Endings
+pub mod RowBounds
+pub mod Summing
