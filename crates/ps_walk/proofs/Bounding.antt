@@ -1,7 +1,8 @@
 -- The bound that a row gives to a variable, from a division that rounds up.
-use Rattle.std.proofs.Common.{◌≡◌, ◌↔◌, ℕ, zero, suc, ◌<◌, ◌^◌, ℤ, pos, negsuc, neg_ℤ, ◌+ℤ◌, ◌*ℤ◌, ◌≤ℤ◌, ◌<ℤ◌, FitsSigned, Option, Some, None, IfSome, IfNone, SomeIff, sym, ap, ◌∙◌, subst, arith}
+use Rattle.std.proofs.Common.{◌≡◌, ◌≢◌, ◌↔◌, ℕ, zero, suc, ◌<◌, ◌^◌, ℤ, pos, negsuc, neg_ℤ, ◌+ℤ◌, ◌*ℤ◌, ◌≤ℤ◌, ◌<ℤ◌, FitsSigned, Option, Some, None, IfSome, IfNone, SomeIff, false, refl, sym, ap, ◌∙◌, subst, arith}
 use Rattle.std.specs.Int.{w128}
 use Rattle.std.proofs.lemmas.Int.{ints}
+use lib.Signed.{lt_z}
 use Rattle.ps_term.specs.Whole.{IsCeiling}
 use Rattle.ps_term.proofs.Ceilings.{times_mono}
 use Rattle.ps_term.proofs.Ring.{distribute, distribute_right, mul-zero, zero-mul}
@@ -65,3 +66,11 @@ least_number (pos n) lt f g = absurd (omega (arith, ints))
 least_number (negsuc n) lt f g =
     let past : suc n < 2 ^ 127 → ⊥ = λ l. g (record { sfits = l }) in
     ap negsuc (omega (arith, past, f.sfits))
+
+nonzero : (a : ℤ) → a ≢ pos 0 → a ≤ℤ pos 0 → a <ℤ pos 0
+nonzero (pos zero) n h = absurd (n refl)
+nonzero (pos (suc k)) n h = absurd (omega (arith, ints))
+nonzero (negsuc k) n h = omega (arith, ints)
+
+pub below_zero : (a : ℤ) → a ≢ pos 0 → lt_z (pos 0) a ≡ false → a <ℤ pos 0
+below_zero a n h = nonzero a n (grind (arith, ints))
