@@ -60,16 +60,57 @@ known_more : (found new : BTreeMap Var ℤ) (pairs : List (Var × ℤ)) (x : Var
 known_more found new pairs x n known up =
     fun_ext (λ y. ap (λ (o : Option ℤ). unwrap_or o (pos 0)) (up.0 y) ∙ value_more (is_eq (var_cmp x y)) (var_eq y x) n (value_in pairs y) (pos 0) (cmp_is_eq x y) (tree.get var_cmp found y) (ap (λ (f : Var → ℤ). f y) known))
 
+front_at : (stages : List Stage) (left : ℕ) (s : Stage) → 0 < left → left ≤ length stages → s ≡ get_or stages (left - 1) s → drop (left - 1) stages ≡ s ∷ drop left stages
+front_at stages left s h l is =
+    let next : left - 1 + 1 ≡ left = omega arith in
+    drop_more stages (left - 1) s (omega arith) ∙ (ap (λ (z : Stage). z ∷ drop (left - 1 + 1) stages) (sym is) ∙ ap (λ (k : ℕ). s ∷ drop k stages) next)
+
 pub Walked-step : (stages : List Stage) (found new : BTreeMap Var ℤ) (pairs more : List (Var × ℤ)) (left : ℕ) (s : Stage) (n : ℤ) → Walked stages found pairs left → 0 < left → s ≡ get_or stages (left - 1) s → IsFinding (values_of found) s.variable s.rows (Value n) → tree.Updates var_cmp found new s.variable (Some n) → more ≡ pairs ++ (s.variable, n) ∷ [] → Walked stages new more (left - 1)
 Walked-step stages found new pairs more left s n w h is f up e =
     let back : reverse more ≡ (s.variable, n) ∷ reverse pairs = ap (λ (ps : List (Var × ℤ)). reverse ps) e ∙ reverse-append pairs ((s.variable, n) ∷ []) in
-    let front : drop (left - 1) stages ≡ s ∷ drop left stages = front_at (left - 1) left (omega arith) (omega (arith, w.within)) in
     let fits : IsFinding (value_in (reverse pairs)) s.variable s.rows (Value n) = subst (λ (v : Var → ℤ). IsFinding v s.variable s.rows (Value n)) w.known f in
+    let within : left - 1 ≤ length stages = omega (arith, w.within) in
     record {
-      within = omega (arith, w.within);
+      within = within;
       known = known_more found new (reverse pairs) s.variable n w.known up ∙ ap (λ (ps : List (Var × ℤ)). value_in ps) (sym back);
-      are_found = rw (front, back) (record { variable = refl; fits = fits.0; nearest = fits.1 }, w.are_found);
+      are_found = rw (front_at stages left s h w.within is, back) (record { variable = refl; fits = fits.0; nearest = fits.1 }, w.are_found);
     }
-  where
-    front_at : (i j : ℕ) → j ≡ i + 1 → i < length stages → drop i stages ≡ s ∷ drop j stages
-    front_at i j ej l = ?
+
+-- ---- a stage at which the walk stops
+stops_at : (reason : List (Var × ℤ) → Stage → Type 0) (stages : List Stage) (found : BTreeMap Var ℤ) (pairs : List (Var × ℤ)) (left : ℕ) (s : Stage) → Walked stages found pairs left → 0 < left → s ≡ get_or stages (left - 1) s → reason (reverse pairs) s → StopsAt reason stages
+stops_at reason stages found pairs left s w h is why = record {
+  before = take (left - 1) stages;
+  here = s;
+  after = drop left stages;
+  is = sym (take-append-drop (left - 1) stages) ∙ ap (λ (ss : List Stage). take (left - 1) stages ++ ss) (front_at stages left s h w.within is);
+  later = reverse pairs;
+  found = w.are_found;
+  stops = why;
+}
+
+pub stops_apart : (stages : List Stage) (found : BTreeMap Var ℤ) (pairs : List (Var × ℤ)) (left : ℕ) (s : Stage) (l u : ℤ) → Walked stages found pairs left → 0 < left → s ≡ get_or stages (left - 1) s → IsFinding (values_of found) s.variable s.rows (Nothing l u) → StopsAt (AllowsNone s.variable l u) stages
+stops_apart stages found pairs left s l u w h is f =
+    let here : IsFinding (value_in (reverse pairs)) s.variable s.rows (Nothing l u) = subst (λ (v : Var → ℤ). IsFinding v s.variable s.rows (Nothing l u)) w.known f in
+    stops_at (AllowsNone s.variable l u) stages found pairs left s w h is (record {
+      variable = refl;
+      fits = here.0;
+      is_lower = here.1;
+      is_upper = here.2;
+      apart = here.3;
+    })
+
+pub stops_past : (stages : List Stage) (found : BTreeMap Var ℤ) (pairs : List (Var × ℤ)) (left : ℕ) (s : Stage) → Walked stages found pairs left → 0 < left → s ≡ get_or stages (left - 1) s → IsFinding (values_of found) s.variable s.rows FoundPast → StopsAt StagePast stages
+stops_past stages found pairs left s w h is f =
+    stops_at StagePast stages found pairs left s w h is (subst (λ (v : Var → ℤ). IsFinding v s.variable s.rows FoundPast) w.known f)
+
+-- ---- all stages are done
+pub Walked-end : (stages : List Stage) (found : BTreeMap Var ℤ) (pairs : List (Var × ℤ)) (left : ℕ) → Walked stages found pairs left → left ≡ 0 → AreFound stages (reverse pairs)
+Walked-end stages found pairs left w e =
+    subst (λ (k : ℕ). AreFound (drop k stages) (reverse pairs)) e w.are_found
+
+pub found_variables : (stages : List Stage) (pairs : List (Var × ℤ)) → AreFound stages pairs → map (λ (p : Var × ℤ). p.0) pairs ≡ map (λ (s : Stage). s.variable) stages
+found_variables [] [] f = refl
+found_variables [] (p ∷ ps) f = absurd f
+found_variables (s ∷ ss) [] f = absurd f
+found_variables (s ∷ ss) (p ∷ ps) f =
+    ap (λ (x : Var). x ∷ map (λ (q : Var × ℤ). q.0) ps) f.0.variable ∙ ap (λ (xs : List Var). s.variable ∷ xs) (found_variables ss ps f.1)
