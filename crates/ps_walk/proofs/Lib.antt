@@ -1,5 +1,6 @@
 pub mod Bounding
 pub mod Endings
+mod Examples
 pub mod RowBounds
 pub mod Summing
 pub mod Walked

@@ -1,8 +1,7 @@
 -- The bounds of one row and of several, and what they leave.
-use Rattle.std.proofs.Common.{◌≡◌, ◌≢◌, ◌↔◌, ℕ, ◌+◌, ◌<◌, ℤ, pos, ◌+ℤ◌, ◌*ℤ◌, ◌≤ℤ◌, ◌<ℤ◌, List, [], ◌∷◌, ◌++◌, length, get_or, take, All, FitsSigned, Option, Some, None, refl, sym, ap, ◌∙◌, subst, arith, length-append}
+use Rattle.std.proofs.Common.{◌≡◌, ◌≢◌, ◌↔◌, ℕ, ◌+◌, ◌<◌, ℤ, pos, ◌+ℤ◌, ◌*ℤ◌, ◌≤ℤ◌, ◌<ℤ◌, List, [], ◌∷◌, ◌++◌, length, get_or, take, All, FitsSigned, Option, Some, None, refl, sym, ap, ◌∙◌, subst, arith, get_or-take, length-take}
 use Rattle.std.specs.Int.{w128}
 use Rattle.std.proofs.lemmas.Int.{ints}
-use Rattle.std.proofs.lemmas.List.{take_more, get_or_append_left, get_or_at}
 use Rattle.std.proofs.lemmas.List.Elements.{All-more, All-nil}
 use Rattle.ps_term.specs.declared.row.Row.{Row}
 use Rattle.ps_term.specs.declared.var.Var.{Var}
@@ -66,10 +65,6 @@ row_upper v x r (AtLeast l) is n = (λ h. tt, λ h lt. absurd (omega (arith, int
 row_upper v x r (AtMost u) is n = (λ h. (is.1 n).0 (h is.0), λ h lt. (is.1 n).1 h)
 
 -- ---- several rows
-all_but_last : {X : Type 0} (P : X → Type 0) (xs : List X) (x : X) → All P (xs ++ x ∷ []) → All P xs × P x
-all_but_last P xs x h =
-    (λ k d l. subst P (get_or_append_left xs (x ∷ []) d k l) (h k d (omega (arith, length-append xs (x ∷ [])))), subst P (get_or_at xs x [] x (length xs) refl) (h (length xs) x (omega (arith, length-append xs (x ∷ [])))))
-
 pub AreBounds-start : (v : Var → ℤ) (x : Var) (b : Bounds) → b.lower ≡ None → b.upper ≡ None → AreBounds v x [] b
 AreBounds-start v x b el eu = record {
   lower = λ n. rw el (λ h. tt, λ h. All-nil (λ r. coefficient x r.term.pairs <ℤ pos 0 → HoldsAt v x r n));
@@ -79,9 +74,8 @@ AreBounds-start v x b el eu = record {
 side_more : (Q : Row → Type 0) (old new by : Type 0) (rows : List Row) (i : ℕ) (r : Row) → i < length rows → r ≡ get_or rows i r → All Q (take i rows) ↔ old → Q r ↔ by → new ↔ (old × by) → All Q (take (i + 1) rows) ↔ new
 side_more Q old new by rows i r l is w q n =
     let here : Q r → Q (get_or rows i r) = λ h. subst Q is h in
-    let back : Q (get_or rows i r) → Q r = λ h. subst Q (sym is) h in
-    (
-      λ h. (let both : All Q (take i rows) × Q (get_or rows i r) = all_but_last Q (take i rows) (get_or rows i r) (subst (λ (rs : List Row). All Q rs) (take_more rows i r l) h) in n.1 (w.0 both.0, q.0 (back both.1))),
+    let back : Q (get_or rows i r) → Q r = λ h. subst Q (sym is) h in (
+      λ h. n.1 (w.0 (λ k d lt. (let below : k < i = omega (arith, length-take i rows) in subst Q (get_or-take (i + 1) rows k d (omega arith) ∙ sym (get_or-take i rows k d below)) (h k d (omega (arith, length-take (i + 1) rows))))), q.0 (back (subst Q (get_or-take (i + 1) rows i r (omega arith)) (h i r (omega (arith, length-take (i + 1) rows)))))),
       λ h. All-more Q rows i r l (w.1 (n.0 h).0) (here (q.1 (n.0 h).1)),
     )
 
@@ -93,11 +87,13 @@ AreBounds-step v x rows i r old new by l is w b lower upper = record {
 
 -- ---- what they leave
 pub finding_by : (v : Var → ℤ) (x : Var) (rows : List Row) (b : Bounds) (f : Finding) → StageFits v x rows → AreBounds v x rows b → IsChoice b f → IsFinding v x rows f
-finding_by v x rows b (Value n) fits w c =
-    (fits, record {
-      allows = ((w.lower n).1 c.allows.0, (w.upper n).1 c.allows.1);
-      nearest = λ m h. c.nearest m ((w.lower m).0 h.0, (w.upper m).0 h.1);
-    })
+finding_by v x rows b (Value n) fits w c = (
+  fits,
+  record {
+    allows = ((w.lower n).1 c.allows.0, (w.upper n).1 c.allows.1);
+    nearest = λ m h. c.nearest m ((w.lower m).0 h.0, (w.upper m).0 h.1);
+  },
+)
 finding_by v x rows b (Nothing l u) fits w c =
     (fits, λ n. subst (λ (o : Option ℤ). LowerRowsHold v x rows n ↔ IsAtLeast o n) c.0 (w.lower n), λ n. subst (λ (o : Option ℤ). UpperRowsHold v x rows n ↔ IsAtMost o n) c.1 (w.upper n), c.2)
 finding_by v x rows b Past128 fits w c = absurd c

@@ -19,7 +19,9 @@ pub enum Walk {
     },
     /// Each stage gave a value, but the given row of this number, counted from 0, doesn't hold of them. It is the first
     /// such row.
-    Misses { row: u32 },
+    Misses {
+        row: u32,
+    },
     /// A product, a sum or a bound lies outside `i128`.
     Past128,
 }

@@ -19,11 +19,7 @@ pub(crate) enum RowBound {
 }
 
 // The row's bound, or `None` where the sum of the rest of the row, or the bound, lies outside `i128`.
-pub(crate) fn bound_of(
-    found: &BTreeMap<Var, i128>,
-    variable: Var,
-    row: &Row,
-) -> Option<RowBound>
+pub(crate) fn bound_of(found: &BTreeMap<Var, i128>, variable: Var, row: &Row) -> Option<RowBound>
     ensures fits { OnSome result
         (coefficient variable row.now.term.pairs ≢ pos 0 → RowFits (values_of found.now) variable row.now) }
     ensures past { IfNone result

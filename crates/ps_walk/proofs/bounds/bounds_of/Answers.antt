@@ -1,10 +1,10 @@
-use Rattle.std.proofs.Common.{◌≡◌, ◌≢◌, pos, All, take, get_or, arith, subst, sym}
+use Rattle.std.proofs.Common.{◌≢◌, pos, arith, subst, sym}
 use Rattle.std.proofs.lemmas.List.{take_all}
 use Rattle.std.proofs.lemmas.List.Elements.{All-more}
 use Rattle.ps_term.specs.declared.row.Row.{Row}
 use Rattle.ps_term.specs.Pairs.{coefficient}
 use Rattle.ps_walk.specs.Bounds.{RowFits, StageFits}
-use Rattle.ps_walk.specs.Findings.{AreBounds, values_of}
+use Rattle.ps_walk.specs.Findings.{values_of}
 use Rattle.ps_walk.proofs.RowBounds.{AreBounds-step}
 use Rattle.ps_walk.proofs.bounds.bounds_of.Goals as goal
 

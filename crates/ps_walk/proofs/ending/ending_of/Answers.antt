@@ -1,8 +1,7 @@
-use Rattle.std.proofs.Common.{◌≡◌, ℤ, pos, ◌≤ℤ◌, ◌<ℤ◌, All, take, FitsSigned, arith, rules, subst}
+use Rattle.std.proofs.Common.{ℤ, pos, ◌≤ℤ◌, ◌<ℤ◌, All, FitsSigned, arith, rules, subst}
 use Rattle.std.specs.Int.{w128}
-use Rattle.std.proofs.lemmas.Int.{ints, to_z-of_z}
+use Rattle.std.proofs.lemmas.Int.{ints}
 use Rattle.std.proofs.lemmas.List.{take_all}
-use Rattle.ps_term.specs.Term.{value}
 use Rattle.ps_walk.specs.Findings.{values_of}
 use Rattle.ps_walk.specs.Rows.{Fails, IsPast, Passes}
 use Rattle.ps_walk.proofs.Endings.{first_at, passed_more}

@@ -1,7 +1,6 @@
-use Rattle.std.proofs.Common.{◌≡◌, ℤ, List, map, reverse, FitsSigned, inl, arith, rules, sym, subst, ap, ◌∙◌}
+use Rattle.std.proofs.Common.{List, reverse, FitsSigned, inl, arith, rules, sym, subst}
 use Rattle.std.specs.Int.{w128}
 use Rattle.std.proofs.lemmas.Int.{to_z-of_z}
-use Rattle.ps_elim.specs.declared.stage.Stage.{Stage}
 use Rattle.ps_term.specs.declared.var.Var.{Var}
 use Rattle.ps_walk.specs.Answer.{Ascend}
 use Rattle.ps_walk.specs.Findings.{IsFinding, values_of}

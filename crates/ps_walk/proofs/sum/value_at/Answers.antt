@@ -1,10 +1,9 @@
-use Rattle.std.proofs.Common.{◌≡◌, ℤ, pos, [], drop, get_or, length, to_z, FitsSigned, arith, rules, sym, subst, ap, ◌∙◌, List}
+use Rattle.std.proofs.Common.{◌≡◌, ℤ, pos, [], drop, get_or, to_z, FitsSigned, arith, rules, subst, List}
 use Rattle.std.specs.Int.{w128}
 use Rattle.std.proofs.lemmas.Int.{to_z-of_z}
 use Rattle.std.proofs.lemmas.List.{drop_all}
 use Rattle.ps_term.specs.declared.var.Var.{Var}
 use Rattle.ps_term.specs.declared.var.Var.TheVariants.{Global}
-use Rattle.ps_term.specs.Sums.{ScaledFits}
 use Rattle.ps_walk.specs.Findings.{values_beside, values_of}
 use Rattle.ps_walk.proofs.Summing.{Summed, Summed-step, Summed-past, Summed-end, beside_fits}
 use Rattle.ps_walk.proofs.sum.value_at.Goals as goal
