@@ -26,7 +26,7 @@ returns-in-Nothing-clause-answer c =
     let l : FitsSigned w128 c.in-Nothing.lower = search rules in
     let u : FitsSigned w128 c.in-Nothing.upper = search rules in
     let finding : IsFinding (values_of c.walking.found) s.variable s.rows (Nothing c.in-Nothing.lower c.in-Nothing.upper) = subst (λ rows. IsFinding (values_of c.walking.found) s.variable rows (Nothing c.in-Nothing.lower c.in-Nothing.upper)) c.as_slice.ensures c.in-Nothing.ensures in
-    rw (to_z-of_z, to_z-of_z) (stops_apart c.args.stages.now c.walking.found c.walking.values.items c.walking.left s c.in-Nothing.lower c.in-Nothing.upper c.walking.invariant c.walking-test.true c.index-stages-left.is finding)
+    simp to_z-of_z (stops_apart c.args.stages.now c.walking.found c.walking.values.items c.walking.left s c.in-Nothing.lower c.in-Nothing.upper c.walking.invariant c.walking-test.true c.index-stages-left.is finding)
 
 pub returns-in-Past128-clause-answer : goal.returns-in-Past128-clause-answer
 returns-in-Past128-clause-answer c =
