@@ -1,18 +1,15 @@
 -- The definitions give the worked answers.
-use Rattle.std.proofs.Common.{◌≡◌, ◌↔◌, ◌≤◌, ℕ, ℤ, pos, negsuc, ◌+ℤ◌, ◌*ℤ◌, ◌≤ℤ◌, ◌<ℤ◌, List, [], ◌∷◌, All, FitsSigned, unsigned_abs, refl, arith}
+use Rattle.std.proofs.Common.{◌≡◌, ◌↔◌, ◌≤◌, ℤ, pos, negsuc, ◌≤ℤ◌, ◌<ℤ◌, List, [], ◌∷◌, FitsSigned, unsigned_abs, refl, arith}
 use Rattle.std.specs.Int.{w128}
 use Rattle.std.proofs.lemmas.Int.{ints}
 use Rattle.std.proofs.lemmas.List.Elements.{All-nil, All-cons, All-head}
-use Rattle.ps_elim.specs.declared.stage.Stage.{Stage}
 use Rattle.ps_term.specs.declared.row.Row.{Row}
 use Rattle.ps_term.specs.declared.var.Var.{Var}
 use Rattle.ps_term.specs.declared.var.Var.TheVariants.{Global}
 use Rattle.ps_term.specs.Pairs.{coefficient}
 use Rattle.ps_walk.specs.Answer.{IsWalk}
-use Rattle.ps_walk.specs.Bounds.{Allows, HoldsAt, IsLower, IsNearest, LowerRowsHold, RowFits, StageFits}
-use Rattle.ps_walk.specs.Sums.{SumFits}
-use Rattle.ps_walk.specs.Values.{value_in, with_value, without}
-use Rattle.ps_walk.specs.Walking.{AreFound}
+use Rattle.ps_walk.specs.Bounds.{HoldsAt, IsLower, IsNearest, RowFits}
+use Rattle.ps_walk.specs.Values.{value_in, without}
 use Rattle.ps_walk.specs.declared.answer.Walk.TheVariants.{Values}
 
 abbrev row : List (Var × ℤ) → ℤ → Row

@@ -1,5 +1,5 @@
 -- The bounds of one row and of several, and what they leave.
-use Rattle.std.proofs.Common.{◌≡◌, ◌≢◌, ◌↔◌, ℕ, ◌+◌, ◌<◌, ℤ, pos, ◌+ℤ◌, ◌*ℤ◌, ◌≤ℤ◌, ◌<ℤ◌, List, [], ◌∷◌, ◌++◌, length, get_or, take, All, FitsSigned, Option, Some, None, refl, sym, ap, ◌∙◌, subst, arith, get_or-take, length-take}
+use Rattle.std.proofs.Common.{◌≡◌, ◌↔◌, ℕ, ◌+◌, ◌<◌, ℤ, pos, ◌+ℤ◌, ◌*ℤ◌, ◌≤ℤ◌, ◌<ℤ◌, List, [], length, get_or, take, All, FitsSigned, Option, None, refl, sym, ◌∙◌, subst, arith, get_or-take, length-take}
 use Rattle.std.specs.Int.{w128}
 use Rattle.std.proofs.lemmas.Int.{ints}
 use Rattle.std.proofs.lemmas.List.Elements.{All-more, All-nil}
@@ -7,8 +7,8 @@ use Rattle.ps_term.specs.declared.row.Row.{Row}
 use Rattle.ps_term.specs.declared.var.Var.{Var}
 use Rattle.ps_term.specs.Pairs.{coefficient, pairs_value}
 use Rattle.ps_term.specs.Term.{value}
-use Rattle.ps_walk.specs.Bounds.{Allows, HoldsAt, IsNearest, LowerRowsHold, RowFits, StageFits, UpperRowsHold}
-use Rattle.ps_walk.specs.Findings.{AreBounds, IsAtLeast, IsAtMost, IsBetween, IsChoice, IsFinding, IsRowBound, lower_of, upper_of}
+use Rattle.ps_walk.specs.Bounds.{HoldsAt, LowerRowsHold, RowFits, StageFits, UpperRowsHold}
+use Rattle.ps_walk.specs.Findings.{AreBounds, IsAtLeast, IsAtMost, IsChoice, IsFinding, IsRowBound, lower_of, upper_of}
 use Rattle.ps_walk.specs.Sums.{SumFits}
 use Rattle.ps_walk.specs.Values.{with_value, without}
 use Rattle.ps_walk.specs.declared.bound.RowBound.{RowBound}

@@ -1,28 +1,19 @@
 -- The stages taken so far: the values of their variables, in the map and in the list.
-use Rattle.std.proofs.Common.{◌≡◌, ℕ, ◌+◌, ◌-◌, ◌<◌, ◌≤◌, ℤ, pos, ◌<ℤ◌, Bool, true, false, cond, if◌then◌else◌, List, [], ◌∷◌, ◌++◌, length, get_or, take, drop, map, reverse, All, Option, Some, None, unwrap_or, inl, inr, ◌⊎◌, IsTrue, refl, sym, ap, ◌∙◌, subst, arith, take-append-drop}
+use Rattle.std.proofs.Common.{◌≡◌, ℕ, ◌+◌, ◌-◌, ◌<◌, ◌≤◌, ℤ, pos, Bool, true, false, cond, if◌then◌else◌, List, [], ◌∷◌, ◌++◌, length, get_or, take, drop, map, reverse, Option, Some, unwrap_or, refl, sym, ap, ◌∙◌, subst, arith, take-append-drop}
 use mathlib.Core.Path.{fun_ext}
 use Rattle.std.specs.BTreeMap.{BTreeMap}
 use Rattle.std.specs.BTreeMap as tree
 use Rattle.std.specs.Ordering.{is_eq}
 use Rattle.std.proofs.lemmas.Bool.Decides.{nat_tests}
 use Rattle.std.proofs.lemmas.List.{drop_more, drop_all, reverse-append}
-use Rattle.std.proofs.lemmas.List.Elements.{All-weaker}
 use Rattle.ps_elim.specs.declared.stage.Stage.{Stage}
-use Rattle.ps_term.specs.declared.row.Row.{Row}
 use Rattle.ps_term.specs.declared.var.Var.{Var}
 use Rattle.ps_term.specs.declared.var.Var.TheVariants.{Global, Local, Havoc}
-use Rattle.ps_term.specs.Row.{Holds}
 use Rattle.ps_term.specs.Var.{var_eq}
-use Rattle.ps_walk.specs.Answer.{AllowsNone, Ascend, IsWalk, StagePast}
-use Rattle.ps_walk.specs.Findings.{IsEnding, IsFinding, values_of, var_cmp}
-use Rattle.ps_walk.specs.Rows.{Passes}
+use Rattle.ps_walk.specs.Answer.{AllowsNone, StagePast}
+use Rattle.ps_walk.specs.Findings.{IsFinding, values_of, var_cmp}
 use Rattle.ps_walk.specs.Values.{value_in}
-use Rattle.ps_walk.specs.Walking.{AreFound, IsFound, StopsAt}
-use Rattle.ps_walk.specs.declared.answer.Walk.{Walk}
-use Rattle.ps_walk.specs.declared.answer.Walk.TheVariants.{Values, NoInteger, Misses, Past128}
-use Rattle.ps_walk.specs.declared.ending.Ending.{Ending}
-use Rattle.ps_walk.specs.declared.ending.Ending.TheVariants.{Holds as AllHold, Misses as RowMisses, Past128 as RowPast}
-use Rattle.ps_walk.specs.declared.finding.Finding.{Finding}
+use Rattle.ps_walk.specs.Walking.{AreFound, StopsAt}
 use Rattle.ps_walk.specs.declared.finding.Finding.TheVariants.{Value, Nothing, Past128 as FoundPast}
 
 -- the map's order tells variables apart as the test of equality does
