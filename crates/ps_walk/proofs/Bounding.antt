@@ -7,7 +7,7 @@ use Rattle.ps_term.specs.Whole.{IsCeiling}
 use Rattle.ps_term.proofs.Ceilings.{times_mono}
 use Rattle.ps_term.proofs.Ring.{distribute, distribute_right, mul-zero, zero-mul}
 
-times_neg : (a n : ℤ) → (a *ℤ neg_ℤ n) ≡ neg_ℤ (a *ℤ n)
+pub times_neg : (a n : ℤ) → (a *ℤ neg_ℤ n) ≡ neg_ℤ (a *ℤ n)
 times_neg a n =
     let none : (n +ℤ neg_ℤ n) ≡ pos 0 = omega (arith, ints) in
     let e : (a *ℤ (n +ℤ neg_ℤ n)) ≡ pos 0 = ap (λ (z : ℤ). a *ℤ z) none ∙ mul-zero a in

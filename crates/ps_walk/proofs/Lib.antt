@@ -1,4 +1,5 @@
 pub mod Bounding
+pub mod Determined
 pub mod Endings
 mod Examples
 pub mod RowBounds

@@ -7,6 +7,7 @@ mod bounds;
 mod ending;
 mod finding;
 mod integer;
+pub mod laws;
 mod sum;
 
 pub use answer::Walk;
