@@ -16,11 +16,11 @@ HoldsAt values x r n = Holds (with_value x n values) r
 abbrev pub LowerRowsHold : (Var → ℤ) → Var → List Row → ℤ → Type 0
 LowerRowsHold values x rows n = All (λ r. coefficient x r.term.pairs <ℤ pos 0 → HoldsAt values x r n) rows
 
--- the rows with a positive coefficient, which bound it from above, do
+-- the rows with a positive coefficient, which bound the variable from above, hold where it is n
 abbrev pub UpperRowsHold : (Var → ℤ) → Var → List Row → ℤ → Type 0
 UpperRowsHold values x rows n = All (λ r. pos 0 <ℤ coefficient x r.term.pairs → HoldsAt values x r n) rows
 
--- both do
+-- the rows of both kinds hold where the variable is n
 abbrev pub Allows : (Var → ℤ) → Var → List Row → ℤ → Type 0
 Allows values x rows n = LowerRowsHold values x rows n × UpperRowsHold values x rows n
 
@@ -42,6 +42,6 @@ pub record RowFits (values : Var → ℤ) (x : Var) (r : Row) : Type 0 where
   pub lower : (b : ℤ) → ((n : ℤ) → HoldsAt values x r n ↔ (b ≤ℤ n)) → FitsSigned w128 b
   pub upper : (b : ℤ) → ((n : ℤ) → HoldsAt values x r n ↔ (n ≤ℤ b)) → FitsSigned w128 b
 
--- each row that has the variable is
+-- so is, and so does, each row that has the variable
 abbrev pub StageFits : (Var → ℤ) → Var → List Row → Type 0
 StageFits values x rows = All (λ r. coefficient x r.term.pairs ≢ pos 0 → RowFits values x r) rows

@@ -5,13 +5,14 @@ use Rattle.ps_term.specs.declared.var.Var.{Var}
 use Rattle.ps_walk.specs.Bounds.{Allows, IsNearest, StageFits}
 use Rattle.ps_walk.specs.Values.{value_in}
 
--- after the values of the later stages' variables, the pair of the stage's variable and its value
+-- at the values of the later stages' variables the pair is that of the stage's variable and its value, the number
+-- nearest to 0 that the stage's rows allow, and the stage fits
 pub record IsFound (later : List (Var × ℤ)) (s : Stage) (p : Var × ℤ) : Type 0 where
   pub variable : p.0 ≡ s.variable
   pub fits : StageFits (value_in later) s.variable s.rows
   pub nearest : IsNearest (Allows (value_in later) s.variable s.rows) p.1
 
--- the pairs of all stages' variables and their values
+-- the pairs of all stages' variables and their values, in the order of the stages
 abbrev pub AreFound : List Stage → List (Var × ℤ) → Type 0
 AreFound [] [] = Unit {0}
 AreFound [] (p ∷ ps) = ⊥

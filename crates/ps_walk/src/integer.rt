@@ -20,9 +20,10 @@ use std::collections::BTreeMap;
 /// values found so far put in; a variable without a value counts as 0. Its value is 0 where the bounds allow that, or
 /// else the bound nearest to 0. Where they allow no number the answer is `NoInteger`. With all values found the given
 /// rows are evaluated in order, and the first that doesn't hold is `Misses`. The first product, sum or bound outside
-/// `i128` makes the answer `Past128`; a stage with such a row has no bounds.
+/// `i128` makes the answer `Past128`, in a stage also where its bounds allow no number.
 ///
-/// The time is that of the pairs of all rows, each with a search in a map of the values so far.
+/// The time is that of the pairs of all rows, each with a search in a map of the values so far; the memory is that of
+/// one value for each stage.
 pub fn integer_walk(alloc: Global, rows: &[Row], stages: &[Stage]) -> Result<Walk, AllocError>
     requires { length rows.now < 2 ^ 32 }
     ensures answer { IfOk result (IsWalk rows.now stages.now) }
