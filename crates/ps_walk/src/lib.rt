@@ -1,0 +1,17 @@
+//! The walk over the stages of an elimination, which looks for whole numbers that satisfy rows.
+#![tactic(auto)]
+
+mod answer;
+mod bound;
+mod bounds;
+mod ending;
+mod finding;
+mod integer;
+pub mod laws;
+mod sum;
+
+pub use answer::Walk;
+pub use integer::integer_walk;
+
+#[cfg(test)]
+mod tests;
