@@ -15,6 +15,7 @@ mod parts;
 mod place;
 mod printing;
 mod reader;
+mod scanning;
 mod span;
 mod spans;
 mod splitting;
