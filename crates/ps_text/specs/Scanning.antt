@@ -1,10 +1,10 @@
 -- What the pass over a program text answers at one place: how long a gap is, and which token begins.
-use Rattle.std.specs.Prelude.{◌≡◌, ℕ, ◌+◌, Bool, true, false, not, ◌&&◌, ◌==◌, nat_le, List, [], ◌∷◌, take, Option, Some, None, option_map, slice_index, if◌then◌else◌}
+use Rattle.std.specs.Prelude.{◌≡◌, ℕ, ◌+◌, ◌<◌, ◌≤◌, Bool, true, false, not, ◌&&◌, ◌==◌, nat_le, List, [], ◌∷◌, length, take, drop, slice_range, Option, Some, None, option_map, slice_index, if◌then◌else◌}
 use Rattle.std.specs.List.{prefix_len}
 use Rattle.std.specs.Str.{bytes_eq}
 use Rattle.ps_text.specs.declared.token_kind.TokenKind.{TokenKind}
 use Rattle.ps_text.specs.declared.token_kind.TokenKind.TheVariants.{Name, Number, Global, Local, Init, Thread, Havoc, Assume, Assert, Skip, Atomic, If, Else, While, Becomes, LessEq, GreaterEq, EqualEqual, NotEqual, And, Or, Less, Greater, Not, Equal, Plus, Minus, Star, OpenParen, CloseParen, OpenBrace, CloseBrace, Semicolon}
-use Rattle.ps_text.specs.Lexing.{is_blank, is_letter, is_digit, is_name_byte, spelling}
+use Rattle.ps_text.specs.Lexing.{is_blank, is_letter, is_digit, is_name_byte, spelling, IsToken}
 
 -- The byte of a gap, by whether it stands in a comment and what the next one is: whether the gap goes on in a comment, or none where it has ended.
 abbrev pub gap_step : Bool → ℕ → ℕ → Option Bool
@@ -66,3 +66,8 @@ abbrev pub token_at : List ℕ → Option (TokenKind × ℕ)
 token_at bytes =
     if is_letter (slice_index bytes 0) then word_at (prefix_len is_name_byte bytes) bytes
     else (if is_digit (slice_index bytes 0) then number_at (prefix_len is_digit bytes) else sign_at (slice_index bytes 0) (slice_index bytes 1))
+
+-- From one index on stands a token of this kind up to another index; or none does.
+abbrev pub IsFrom : List ℕ → ℕ → Option (TokenKind × ℕ) → Type 0
+IsFrom bytes start None = token_at (drop start bytes) ≡ None
+IsFrom bytes start (Some p) = (start < p.1) × (p.1 ≤ length bytes) × IsToken p.0 (slice_range bytes start p.1) (drop p.1 bytes)

@@ -22,6 +22,7 @@ mod splitting;
 mod token;
 mod token_end;
 mod token_kind;
+mod tokenizing;
 mod until;
 
 pub use decimal::{counts_as_decimal, read_i128, read_u32, read_u128};
@@ -47,6 +48,7 @@ pub use splitting::lines;
 pub use token::Token;
 pub use token_end::TokenEnd;
 pub use token_kind::TokenKind;
+pub use tokenizing::tokens;
 pub use until::Until;
 
 #[cfg(test)]
