@@ -12,6 +12,7 @@ use Rattle.std.proofs.lemmas.List.Sums.{prefix_len-le-length}
 use Rattle.std.proofs.Math.Seq.{take-append_seam}
 use Rattle.ps_text.specs.declared.token_kind.TokenKind.{TokenKind}
 use Rattle.ps_text.specs.declared.token_kind.TokenKind.TheVariants.{Name, Number, Global, Local, Init, Thread, Havoc, Assume, Assert, Skip, Atomic, If, Else, While, Becomes, LessEq, GreaterEq, EqualEqual, NotEqual, And, Or, Less, Greater, Not, Equal, Plus, Minus, Star, OpenParen, CloseParen, OpenBrace, CloseBrace, Semicolon}
+use Rattle.ps_text.specs.Decimal.{are_digits}
 use Rattle.ps_text.specs.Lexing.{is_blank, is_letter, is_digit, is_name_byte, spelling, IsWord, IsName, IsNumber, IsSpelled, carries_on, IsWhole, IsToken, StartsNoToken}
 use Rattle.ps_text.specs.Scanning.{gap_len, first_spelled, reserved, double_signs, single_signs, word_kind, double_sign, single_sign, sign_at, number_at, word_at, token_at}
 
@@ -46,6 +47,10 @@ front_stops_step p b bs false e next = e
 pub front_stops : (p : ℕ → Bool) (bs : List ℕ) → StopsBy p (drop (prefix_len p bs) bs)
 front_stops p [] = tt
 front_stops p (b ∷ bs) = front_stops_step p b bs (p b) refl (front_stops p bs)
+
+pub digits_are : (bytes : List ℕ) → are_digits bytes ≡ list_all is_digit bytes
+digits_are [] = refl
+digits_are (b ∷ bs) = ap (λ (t : Bool). is_digit b && t) (digits_are bs)
 
 -- ---- spellings
 
@@ -182,7 +187,7 @@ number_ahead bytes true h e =
     let most : prefix_len is_digit bytes ≤ 18 = grind (arith, nat_tests) in
     record {
       token = record {
-        spelled = record { digits = front_passes is_digit bytes; some = omega arith; few = omega arith };
+        spelled = record { digits = digits_are (take n bytes) ∙ front_passes is_digit bytes; some = omega arith; few = omega arith };
         whole = stops_whole Number is_digit (drop n bytes) (λ b. refl) (front_stops is_digit bytes);
       };
       some = positive;
@@ -293,8 +298,9 @@ all_first p b bs h = first (p b) (list_all p bs) h
 number_found : (text after : List ℕ) → IsNumber text → StopsBy is_digit after → token_at (text ++ after) ≡ Some (Number, length text)
 number_found [] after w s = absurd (let k = w.some in omega arith)
 number_found (b ∷ bs) after w s =
-    let n : prefix_len is_digit (b ∷ (bs ++ after)) ≡ length (b ∷ bs) = run_len is_digit (b ∷ bs) after w.digits s in
-    let d : is_digit b ≡ true = all_first is_digit b bs w.digits in
+    let digits : list_all is_digit (b ∷ bs) ≡ true = sym (digits_are (b ∷ bs)) ∙ w.digits in
+    let n : prefix_len is_digit (b ∷ (bs ++ after)) ≡ length (b ∷ bs) = run_len is_digit (b ∷ bs) after digits s in
+    let d : is_digit b ≡ true = all_first is_digit b bs digits in
     let l : is_letter b ≡ false = digit_no_letter b d in
     let few : leb (length (b ∷ bs)) 18 ≡ true = (let k = w.few in grind (arith, nat_tests)) in
     let of_letter : token_at (b ∷ (bs ++ after)) ≡ cond (is_digit b) (number_at (prefix_len is_digit (b ∷ (bs ++ after)))) (sign_at b (slice_index (bs ++ after) 0)) = ap (λ (t : Bool). cond t (word_at (prefix_len is_name_byte (b ∷ (bs ++ after))) (b ∷ (bs ++ after))) (cond (is_digit b) (number_at (prefix_len is_digit (b ∷ (bs ++ after)))) (sign_at b (slice_index (bs ++ after) 0)))) l in
