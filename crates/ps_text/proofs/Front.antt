@@ -130,7 +130,7 @@ record IsWordOf (text : List ℕ) (kind : TokenKind) : Type 0 where
   carries : (b : ℕ) → carries_on kind b ≡ is_name_byte b
 
 word_is : (text : List ℕ) → IsWord text → IsWordOf text (word_kind text)
-word_is text w = found_is (IsWordOf text) (λ (k : TokenKind). k) Name reserved text 
+word_is text w = found_is (IsWordOf text) (λ (k : TokenKind). k) Name reserved text
     (λ e. record { spelled = e; carries = λ b. refl }, λ n0. (λ e. record { spelled = e; carries = λ b. refl }, λ n1. (λ e. record { spelled = e; carries = λ b. refl }, λ n2. (λ e. record { spelled = e; carries = λ b. refl }, λ n3. (λ e. record { spelled = e; carries = λ b. refl }, λ n4. (λ e. record { spelled = e; carries = λ b. refl }, λ n5. (λ e. record { spelled = e; carries = λ b. refl }, λ n6. (λ e. record { spelled = e; carries = λ b. refl }, λ n7. (λ e. record { spelled = e; carries = λ b. refl }, λ n8. (λ e. record { spelled = e; carries = λ b. refl }, λ n9. (λ e. record { spelled = e; carries = λ b. refl }, λ n10. (λ e. record { spelled = e; carries = λ b. refl }, λ n11. record { spelled = record { word = w; free = word_free text w n0 n1 n2 n3 n4 n5 n6 n7 n8 n9 n10 n11 }; carries = λ b. refl }))))))))))))
 
 word_name : (text : List ℕ) → ((kind : TokenKind) → text ≢ spelling kind) → word_kind text ≡ Name
@@ -248,19 +248,19 @@ whole_before kind (b ∷ bs) h = h
 single_ahead : (a : ℕ) (bs : List ℕ) (o : Option TokenKind) → Single a (slice_index bs 0) o → Ahead (a ∷ bs) (option_map (λ kind. (kind, 1)) o)
 single_ahead a bs None h = tt
 single_ahead a bs (Some kind) h = record {
-    token = record { spelled = h.spelled; whole = whole_before kind bs h.carries };
-    some = lit< tt;
-    within = omega arith;
-  }
+  token = record { spelled = h.spelled; whole = whole_before kind bs h.carries };
+  some = lit< tt;
+  within = omega arith;
+}
 
 double_ahead : (a : ℕ) (bs : List ℕ) (o : Option TokenKind) → Double a (slice_index bs 0) o → Ahead (a ∷ bs) (elim o [ None ↦ option_map (λ kind. (kind, 1)) (single_sign a) | Some kind ↦ Some (kind, 2) ])
 double_ahead a bs None h = single_ahead a bs (single_sign a) (single_is a (slice_index bs 0) h)
 double_ahead a [] (Some kind) h = absurd (let h2 = h.second in omega arith)
 double_ahead a (b ∷ bs) (Some kind) h = record {
-    token = record { spelled = h.spelled; whole = whole_always kind bs h.carries };
-    some = lit< tt;
-    within = omega arith;
-  }
+  token = record { spelled = h.spelled; whole = whole_always kind bs h.carries };
+  some = lit< tt;
+  within = omega arith;
+}
 
 sign_ahead : (bytes : List ℕ) → Ahead bytes (sign_at (slice_index bytes 0) (slice_index bytes 1))
 sign_ahead [] = tt

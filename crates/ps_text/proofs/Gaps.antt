@@ -8,7 +8,6 @@ use Rattle.ps_text.specs.Scanning.{gap_step, gap_from, gap_len}
 
 -- ---- one byte
 
-
 pub gap_goes : (inside next : Bool) (b : ℕ) (bs : List ℕ) → gap_step inside b (slice_index bs 0) ≡ Some next → gap_from inside (b ∷ bs) ≡ gap_from next bs + 1
 gap_goes inside next b bs h = ap (λ (o : Option Bool). elim o as (λ _. ℕ) [ None ↦ 0 | Some d ↦ gap_from d bs + 1 ]) h
 

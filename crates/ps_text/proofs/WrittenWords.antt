@@ -118,7 +118,9 @@ no_words : (bytes left : List ℕ) (from : ℕ) → IsLeft left → from ≤ len
 no_words bytes left from is inside e =
     let end : length bytes ≡ from + length left = (let none : List ℕ = [] in omega (arith, ap length e, length-append left none, length-drop from bytes)) in
     record {
-      tokens = []; to = from; cut = refl;
+      tokens = [];
+      to = from;
+      cut = refl;
       rest = record { ordered = inside; gap = rw (range_is bytes left [] from (length bytes) e end) (left_is_gap (drop (length bytes) bytes) left is) };
       parts = refl;
     }
@@ -138,7 +140,8 @@ one_word bytes left rest from start end word words is inside e s n spelled later
       cut = (
         record { ordered = omega arith; gap = rw (range_is bytes left (word.text ++ after) from start e s) (left_is_gap (drop start bytes) left is) },
         record { inside = range_end bytes word.text after start end start_inside at_start n; text = rw (text, at_end) (record { spelled = spelled; whole = ends_token word.kind word.ends_line }); place = refl },
-        later.cut);
+        later.cut,
+      );
       rest = later.rest;
       parts = ap₂ (λ (t : List ℕ) (ps : List (TokenKind × List ℕ)). (word.kind, t) ∷ ps) text later.parts;
     }
