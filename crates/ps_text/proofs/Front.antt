@@ -137,6 +137,10 @@ word_name : (text : List ℕ) → ((kind : TokenKind) → text ≢ spelling kind
 word_name text free = found_is (λ k. k ≡ Name) (λ (k : TokenKind). k) Name reserved text
     (λ e. absurd (free Global e), λ _. (λ e. absurd (free Local e), λ _. (λ e. absurd (free Init e), λ _. (λ e. absurd (free Thread e), λ _. (λ e. absurd (free Havoc e), λ _. (λ e. absurd (free Assume e), λ _. (λ e. absurd (free Assert e), λ _. (λ e. absurd (free Skip e), λ _. (λ e. absurd (free Atomic e), λ _. (λ e. absurd (free If e), λ _. (λ e. absurd (free Else e), λ _. (λ e. absurd (free While e), λ _. refl))))))))))))
 
+-- A word of no reserved kind is a name.
+pub name_from_kind : (text : List ℕ) → IsWord text → word_kind text ≡ Name → IsName text
+name_from_kind text w e = (subst (IsWordOf text) e (word_is text w)).spelled
+
 whole_stops : (kind : TokenKind) (p : ℕ → Bool) (after : List ℕ) → ((b : ℕ) → carries_on kind b ≡ p b) → IsWhole kind after → StopsBy p after
 whole_stops kind p [] h w = tt
 whole_stops kind p (b ∷ bs) h w = sym (h b) ∙ w
