@@ -113,31 +113,36 @@ assignment =
 
 pub assignment_is_cut : AreTokens (codes "a:=7//b") assignment
 assignment_is_cut = record {
-    to = 4;
-    cut = (
+  to = 4;
+  cut = (
+    record { ordered = lit≤ tt; gap = Nothing },
+    record { inside = lit≤ tt; text = record { spelled = name_from_kind (codes "a") (refl, refl) refl; whole = refl }; place = refl },
+    (
       record { ordered = lit≤ tt; gap = Nothing },
-      record { inside = lit≤ tt; text = record { spelled = name_from_kind (codes "a") (refl, refl) refl; whole = refl }; place = refl },
-      (record { ordered = lit≤ tt; gap = Nothing },
       record { inside = lit≤ tt; text = record { spelled = refl; whole = refl }; place = refl },
-      (record { ordered = lit≤ tt; gap = Nothing },
-      record { inside = lit≤ tt; text = record { spelled = record { digits = refl; some = lit≤ tt; few = lit≤ tt }; whole = refl }; place = refl },
-      refl)));
-    rest = record { ordered = lit≤ tt; gap = Comment (codes "b") [] refl tt Nothing };
-  }
+      (
+        record { ordered = lit≤ tt; gap = Nothing },
+        record { inside = lit≤ tt; text = record { spelled = record { digits = refl; some = lit≤ tt; few = lit≤ tt }; whole = refl }; place = refl },
+        refl,
+      ),
+    ),
+  );
+  rest = record { ordered = lit≤ tt; gap = Comment (codes "b") [] refl tt Nothing };
+}
 
 -- the second byte of `;#` starts nothing
 pub hash_is_bad : IsBadAt (codes ";#") (record { line = 1; column = 2 })
 hash_is_bad = record {
-    tokens = record { kind = Semicolon; start = 0; end = 1; place = record { line = 1; column = 1 } } ∷ [];
-    to = 1;
-    at = 1;
-    cut = (record { ordered = lit≤ tt; gap = Nothing }, record { inside = lit≤ tt; text = record { spelled = refl; whole = refl }; place = refl }, refl);
-    gap = record { ordered = lit≤ tt; gap = Nothing };
-    inside = lit< tt;
-    no_token = starts_no_token (codes "#") refl;
-    no_gap = starts_no_gap (codes "#") refl;
-    is = refl;
-  }
+  tokens = record { kind = Semicolon; start = 0; end = 1; place = record { line = 1; column = 1 } } ∷ [];
+  to = 1;
+  at = 1;
+  cut = (record { ordered = lit≤ tt; gap = Nothing }, record { inside = lit≤ tt; text = record { spelled = refl; whole = refl }; place = refl }, refl);
+  gap = record { ordered = lit≤ tt; gap = Nothing };
+  inside = lit< tt;
+  no_token = starts_no_token (codes "#") refl;
+  no_gap = starts_no_gap (codes "#") refl;
+  is = refl;
+}
 
 -- `init` is no name, and `iff` is one
 pub reserved_is_no_name : ¬ IsName (codes "init")

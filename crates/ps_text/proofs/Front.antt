@@ -1,5 +1,5 @@
 -- Tokens: what is found at the front of a text is a token, and any token is found.
-use Rattle.std.proofs.Common.{◌≡◌, ◌≢◌, ℕ, zero, suc, ◌+◌, ◌<◌, ◌≤◌, Bool, true, false, not, ◌&&◌, ◌||◌, eqb, leb, ltb, cond, List, [], ◌∷◌, ◌++◌, length, take, drop, Option, Some, None, slice_index, option_map, refl, sym, ◌∙◌, ap, subst, arith, add-one, lit<}
+use Rattle.std.proofs.Common.{◌≡◌, ◌≢◌, ℕ, suc, ◌+◌, ◌<◌, ◌≤◌, Bool, true, false, ◌&&◌, eqb, leb, cond, List, [], ◌∷◌, ◌++◌, length, take, drop, Option, Some, None, slice_index, option_map, refl, sym, ◌∙◌, ap, subst, arith, lit<}
 use Rattle.std.specs.Prelude.{codes}
 use Rattle.std.specs.List.{list_all, prefix_len}
 use Rattle.std.specs.Str.{bytes_eq}
@@ -7,14 +7,14 @@ use Rattle.std.proofs.lemmas.Bool.{eqb-true}
 use Rattle.std.proofs.lemmas.Bool.Decides.{nat_tests}
 use Rattle.std.proofs.lemmas.Bool.Decides.{nat_tests}
 use Rattle.std.proofs.lemmas.Slice.Eq.{bytes_eq-Decides}
-use Rattle.std.proofs.lemmas.List.{length-append, length-take-le, take-append-drop}
+use Rattle.std.proofs.lemmas.List.{length-take-le}
 use Rattle.std.proofs.lemmas.List.Sums.{prefix_len-le-length}
 use Rattle.std.proofs.Math.Seq.{take-append_seam}
 use Rattle.ps_text.specs.declared.token_kind.TokenKind.{TokenKind}
 use Rattle.ps_text.specs.declared.token_kind.TokenKind.TheVariants.{Name, Number, Global, Local, Init, Thread, Havoc, Assume, Assert, Skip, Atomic, If, Else, While, Becomes, LessEq, GreaterEq, EqualEqual, NotEqual, And, Or, Less, Greater, Not, Equal, Plus, Minus, Star, OpenParen, CloseParen, OpenBrace, CloseBrace, Semicolon}
 use Rattle.ps_text.specs.Decimal.{are_digits}
-use Rattle.ps_text.specs.Lexing.{is_blank, is_letter, is_digit, is_name_byte, spelling, IsWord, IsName, IsNumber, IsSpelled, carries_on, IsWhole, IsToken, StartsNoToken}
-use Rattle.ps_text.specs.Scanning.{gap_len, first_spelled, reserved, double_signs, single_signs, word_kind, double_sign, single_sign, sign_at, number_at, word_at, token_at}
+use Rattle.ps_text.specs.Lexing.{is_letter, is_digit, is_name_byte, spelling, IsWord, IsName, IsNumber, IsSpelled, carries_on, IsWhole, IsToken}
+use Rattle.ps_text.specs.Scanning.{first_spelled, reserved, double_signs, single_signs, word_kind, double_sign, single_sign, sign_at, number_at, word_at, token_at}
 
 -- ---- runs of bytes that pass a test
 
