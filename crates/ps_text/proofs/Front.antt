@@ -3,7 +3,7 @@ use Rattle.std.proofs.Common.{◌≡◌, ◌≢◌, ℕ, suc, ◌+◌, ◌<◌, 
 use Rattle.std.specs.Prelude.{codes}
 use Rattle.std.specs.List.{list_all, prefix_len}
 use Rattle.std.specs.Str.{bytes_eq}
-use Rattle.std.proofs.lemmas.Bool.{eqb-true}
+use Rattle.std.proofs.lemmas.Bool.{eqb-true, and_parts}
 use Rattle.std.proofs.lemmas.Bool.Decides.{nat_tests}
 use Rattle.std.proofs.lemmas.Bool.Decides.{nat_tests}
 use Rattle.std.proofs.lemmas.Slice.Eq.{bytes_eq-Decides}
@@ -292,19 +292,12 @@ word_found kind (b ∷ bs) after w h s =
 digit_no_letter : (b : ℕ) → is_digit b ≡ true → is_letter b ≡ false
 digit_no_letter b h = grind (arith, nat_tests)
 
-all_first : (p : ℕ → Bool) (b : ℕ) (bs : List ℕ) → list_all p (b ∷ bs) ≡ true → p b ≡ true
-all_first p b bs h = first (p b) (list_all p bs) h
-  where
-    first : (x y : Bool) → (x && y) ≡ true → x ≡ true
-    first true y k = refl
-    first false y k = cc
-
 number_found : (text after : List ℕ) → IsNumber text → StopsBy is_digit after → token_at (text ++ after) ≡ Some (Number, length text)
 number_found [] after w s = absurd (let k = w.some in omega arith)
 number_found (b ∷ bs) after w s =
     let digits : list_all is_digit (b ∷ bs) ≡ true = sym (digits_are (b ∷ bs)) ∙ w.digits in
     let n : prefix_len is_digit (b ∷ (bs ++ after)) ≡ length (b ∷ bs) = run_len is_digit (b ∷ bs) after digits s in
-    let d : is_digit b ≡ true = all_first is_digit b bs digits in
+    let d : is_digit b ≡ true = (and_parts (is_digit b) (list_all is_digit bs) digits).0 in
     let l : is_letter b ≡ false = digit_no_letter b d in
     let few : leb (length (b ∷ bs)) 18 ≡ true = (let k = w.few in grind (arith, nat_tests)) in
     let of_letter : token_at (b ∷ (bs ++ after)) ≡ cond (is_digit b) (number_at (prefix_len is_digit (b ∷ (bs ++ after)))) (sign_at b (slice_index (bs ++ after) 0)) = ap (λ (t : Bool). cond t (word_at (prefix_len is_name_byte (b ∷ (bs ++ after))) (b ∷ (bs ++ after))) (cond (is_digit b) (number_at (prefix_len is_digit (b ∷ (bs ++ after)))) (sign_at b (slice_index (bs ++ after) 0)))) l in
