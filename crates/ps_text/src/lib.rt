@@ -1,4 +1,4 @@
-//! Texts as bytes: decimals, lines of fields, and a reader and printers for forms that are lists of lines.
+//! Texts as bytes: decimals, lines of fields, a reader and printers for forms that are lists of lines, and tokens of program texts.
 #![tactic(auto)]
 
 mod decimal;
@@ -7,6 +7,7 @@ mod form_end;
 mod form_fault;
 mod form_name;
 mod integer_form;
+pub mod laws;
 mod leaf;
 mod line;
 mod natural32_form;
@@ -15,15 +16,17 @@ mod parts;
 mod place;
 mod printing;
 mod reader;
+mod scanning;
 mod span;
 mod spans;
 mod splitting;
 mod token;
 mod token_end;
 mod token_kind;
+mod tokenizing;
 mod until;
 
-pub use decimal::{counts_as_decimal, read_i128, read_u32, read_u128};
+pub use decimal::{counts_as_decimal, number_value, read_i128, read_u32, read_u128};
 pub use form::{Form, times, while_lines};
 pub use form_end::FormEnd;
 pub use form_fault::FormFault;
@@ -43,9 +46,10 @@ pub use reader::Reader;
 pub use span::Span;
 pub use spans::Spans;
 pub use splitting::lines;
-pub use token::Token;
+pub use token::{Token, text_of};
 pub use token_end::TokenEnd;
 pub use token_kind::TokenKind;
+pub use tokenizing::{end_place, tokens};
 pub use until::Until;
 
 #[cfg(test)]
