@@ -1,0 +1,11 @@
+pub mod Atoms
+pub mod Canonical
+pub mod KeyLaws
+pub mod Keys
+pub mod Numbers
+pub mod Places
+pub mod Range
+pub mod Renaming
+pub mod Shares
+pub mod Slots
+pub mod Threads
