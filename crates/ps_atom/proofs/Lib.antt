@@ -1,1 +1,6 @@
-
+pub mod Chains
+pub mod Counts
+pub mod MetThreads
+pub mod Orders
+pub mod Parts
+pub mod Slotting

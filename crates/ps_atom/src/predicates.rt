@@ -58,6 +58,18 @@ impl Predicates {
         Ok(table)
     }
 
+    /// A copy, in time and memory of the predicates and the index.
+    pub fn copy(&self, alloc: Global) -> Result<Predicates, AllocError> {
+        let mut index = IndexMap::new(alloc);
+        for (number, predicate) in self.list.iter().enumerate() {
+            note(alloc, &mut index, predicate, number as u32).map_err(|_| AllocError)?;
+        }
+        Ok(Predicates {
+            list: copies(alloc, self.list.as_slice())?,
+            index,
+        })
+    }
+
     pub fn list(&self) -> &[Predicate] {
         self.list.as_slice()
     }
