@@ -1,5 +1,6 @@
 pub mod Chains
 pub mod Counts
+pub mod Indexing
 pub mod MetThreads
 pub mod Orders
 pub mod Parts

@@ -98,10 +98,10 @@ lt_or m n = by_test (Rattle.std.proofs.Common.ltb m n) refl
     by_test true e = inl (grind (arith, nat_tests))
     by_test false e = inr (grind (arith, nat_tests))
 
-pub slots_unique : (ps : List (Var × ℤ)) (ts : List ℕ) (as bs : List (Var × ℤ)) → HasSlots ps ts as → HasSlots ps ts bs → IsCanonical as → IsCanonical bs → as ≡ bs
-slots_unique ps ts as bs a b c d = same_coefficients as bs c d same
+pub slots_unique : (ps : List (Var × ℤ)) (ts : List ℕ) (ls rs : List (Var × ℤ)) → HasSlots ps ts ls → HasSlots ps ts rs → IsCanonical ls → IsCanonical rs → ls ≡ rs
+slots_unique ps ts ls rs a b c d = same_coefficients ls rs c d same
   where
-    same : (x : Var) → coefficient x as ≡ coefficient x bs
+    same : (x : Var) → coefficient x ls ≡ coefficient x rs
     same (Global n) = a.globals n ∙ sym (b.globals n)
     same (Local slot n) = elim (lt_or slot (length ts)) [ inl lt ↦ a.slots slot n lt ∙ sym (b.slots slot n lt) | inr le ↦ a.beyond slot n le ∙ sym (b.beyond slot n le) ]
     same (Havoc n) = a.havocs n ∙ sym (b.havocs n)

@@ -1,5 +1,6 @@
 pub mod Atoms
 pub mod Canonical
+pub mod Index
 pub mod KeyLaws
 pub mod Keys
 pub mod Numbers

@@ -1,8 +1,9 @@
 // The canonical predicate of a row.
-ghost use Rattle.std.specs.Prelude.{◌≡◌, ◌≤◌, ◌<◌, IfOk, length, map};
-ghost use Rattle.ps_term.specs.Pairs.{IsCanonical};
+ghost use Rattle.std.specs.Prelude.{◌≡◌, ◌≤◌, IfErr, IfOk, length, map};
+ghost use Rattle.std.specs.List.Sorted.{IsStrictlyIncreasing};
 ghost use Rattle.ps_atom.specs.Canonical.{IsInSlots};
-ghost use Rattle.ps_atom.specs.Threads.{HasThreads};
+ghost use Rattle.ps_atom.specs.Places.{IsFormEnd};
+ghost use Rattle.ps_atom.specs.Threads.{AreOccurring};
 
 use crate::place::PlaceEnd;
 use crate::predicate::Predicate;
@@ -21,33 +22,42 @@ pub(crate) struct Form {
 }
 
 // The form of a tightened row: slots put for its threads in their order.
-pub(crate) fn form_of(alloc: Global, tight: &Row) -> Result<Form, PlaceEnd> {
-    let pairs = tight.term.pairs.as_slice();
-    let threads = occurring(alloc, pairs).map_err(PlaceEnd::Memory)?;
+pub(crate) fn form_of(alloc: Global, tight: &Row) -> Result<Form, PlaceEnd>
+    ensures form { IfOk result (λ form. IsInSlots tight.now form.predicate form.threads × (length form.threads ≤ 4)) }
+    ensures end { IfErr result (IsFormEnd tight.now) }
+{
+    let threads = occurring(alloc, tight.term.pairs.as_slice()).map_err(PlaceEnd::Memory)?;
     if threads.len() > Predicate::MOST_SLOTS as usize {
         return Err(PlaceEnd::Arity {
-            count: threads.len() as u32,
+            count: u32::try_from(threads.len()).unwrap_or(u32::MAX),
         });
     }
-    form_with(alloc, tight, threads.as_slice()).map_err(PlaceEnd::Memory)
+    match form_with(alloc, tight, threads.as_slice()) {
+        Ok(form) => Ok(form),
+        Err(end) => Err(PlaceEnd::Memory(end)),
+    }
 }
 
-fn form_with(alloc: Global, tight: &Row, threads: &[u32]) -> Result<Form, AllocError> {
+fn form_with(alloc: Global, tight: &Row, threads: &[u32]) -> Result<Form, AllocError>
+    requires few { length threads.now ≤ 4 }
+    requires ascending { IsStrictlyIncreasing threads.now }
+    requires occurring { AreOccurring tight.now.term.pairs threads.now }
+    ensures { IfOk result (λ form. IsInSlots tight.now form.predicate form.threads × (length form.threads ≤ 4)) }
+{
     let pairs = tight.term.pairs.as_slice();
     let shares = shares_in_order(alloc, pairs, threads)?;
     let list = placed(alloc, pairs, shares.as_slice())?;
-    let predicate = Predicate {
-        arity: shares.len() as u32,
-        row: Row {
-            term: Term {
-                pairs: Pairs::from_list(list),
-                constant: tight.term.constant,
-            },
-        },
-    };
     let threads = threads_of(alloc, shares.as_slice())?;
     Ok(Form {
-        predicate,
+        predicate: Predicate {
+            arity: shares.len() as u32,
+            row: Row {
+                term: Term {
+                    pairs: Pairs::from_list(list),
+                    constant: tight.term.constant,
+                },
+            },
+        },
         threads: Sequence::from_list(threads),
     })
 }

@@ -1,7 +1,8 @@
 //! Tables of predicates.
-ghost use Rattle.std.specs.Prelude.{◌≡◌, ◌++◌, ◌↔◌, ◌∷◌, [], IfOk, IfErr, OnErr, IsErrOf, OnOk, length};
+ghost use Rattle.std.specs.Prelude.{◌≡◌, ◌<◌, ◌≤◌, ◌++◌, ◌∷◌, [], IfErr, IfOk, IsErrOf, OnErr, OnOk, length};
+ghost use Rattle.ps_atom.specs.Index.{IsIndex, IsNoted, IsSameIndex, key_of};
 ghost use Rattle.ps_atom.specs.Numbers.{IsTable, false_predicate};
-ghost use Rattle.ps_atom.specs.Places.{IsEndOf, IsPlaceOf};
+ghost use Rattle.ps_atom.specs.Places.{IsBarePlace, IsEndOf, IsPlaceOf};
 
 use crate::canonical::{Form, form_of};
 use crate::key::Key;
@@ -34,93 +35,153 @@ pub enum PushEnd {
     Memory(AllocError),
 }
 
+impl Model for Predicates {
+    ghost use Rattle.std.specs.Prelude.{List};
+    ghost use Rattle.ps_atom.specs.declared.predicate.Predicate.{Predicate};
+    ghost use Rattle.ps_atom.specs.Index.{IsIndexed};
+
+    ghost Value = { List Predicate };
+
+    ghost view = { λ p. p.list.items };
+
+    ghost invariant = { λ p. IsIndexed p.list.items p.index };
+}
+
 impl Predicates {
     /// The most predicates that a table holds.
     pub const MOST: u32 = 128;
 
     /// The table of `1 <= 0` alone.
-    pub fn new(alloc: Global) -> Result<Predicates, AllocError> {
-        let first = Predicate {
+    pub fn new(alloc: Global) -> Result<Predicates, AllocError>
+        ensures { IfOk result (λ table. table ≡ false_predicate ∷ []) }
+    {
+        let mut list = Vec::with_capacity(alloc, 1)?;
+        list.push(Predicate {
             arity: 0,
             row: Row {
                 term: Term::from_constant(alloc, 1),
             },
-        };
-        let mut table = Predicates {
-            list: Vec::new(alloc),
-            index: IndexMap::new(alloc),
-        };
-        let key = Key {
-            predicate: first.copy(alloc)?,
-        };
-        table.list.push(first).map_err(|_| AllocError)?;
-        table.index.insert(key, 0).map_err(|_| AllocError)?;
-        Ok(table)
-    }
-
-    /// A copy, in time and memory of the predicates and the index.
-    pub fn copy(&self, alloc: Global) -> Result<Predicates, AllocError> {
-        let mut index = IndexMap::new(alloc);
-        for (number, predicate) in self.list.iter().enumerate() {
-            note(alloc, &mut index, predicate, number as u32).map_err(|_| AllocError)?;
-        }
-        Ok(Predicates {
-            list: copies(alloc, self.list.as_slice())?,
-            index,
         })
+        .map_err(|_| AllocError)?;
+        let index = index_of(alloc, list.as_slice())?;
+        Ok(Predicates { list, index })
     }
 
-    pub fn list(&self) -> &[Predicate] {
+    /// The predicates in the order of their numbers; the call needs no memory.
+    pub fn list(&self) -> &[Predicate]
+        ensures list { result.now ≡ self.now }
+        ensures table { IsTable result.now }
+    {
+        let _index = &self.index;
         self.list.as_slice()
     }
 
-    pub fn push(&mut self, alloc: Global, predicate: Predicate) -> Result<u32, PushEnd> {
+    /// Appends a predicate and gives its number. It is `Full` where the table has 128. After an error
+    /// the table is as before. In time and memory of the predicate's pairs.
+    pub fn push(&mut self, alloc: Global, predicate: Predicate) -> Result<u32, PushEnd>
+        ensures number { IfOk result (λ number. number ≡ length self.old) }
+        ensures appended { OnOk result (self.new ≡ self.old ++ predicate ∷ []) }
+        ensures unchanged { OnErr result (self.new ≡ self.old) }
+        ensures room { OnOk result (length self.old < 128) }
+        ensures full { IsErrOf result PushEnd.Full → length self.old ≡ 128 }
+        ensures table { IsTable self.new }
+    {
         let number = self.list.len();
-        if number >= 128 {
+        if number >= Predicates::MOST as usize {
             return Err(PushEnd::Full);
         }
         self.list.reserve(1).map_err(PushEnd::Memory)?;
-        note(alloc, &mut self.index, &predicate, number as u32)?;
-        let _ = self.list.push(predicate);
+        if note(alloc, &mut self.index, &predicate, number as u32).is_err() {
+            return Err(PushEnd::Memory(AllocError));
+        }
+        self.list.push_reserved(predicate);
         Ok(number as u32)
     }
 
-    pub fn number_of(&self, alloc: Global, row: &Row) -> Result<Place128, PlaceEnd> {
+    /// Where the row stands: its canonical predicate, looked up in the table. That is the tightened row
+    /// with slots put for its threads. They are ordered by their lists of pairs (local number,
+    /// coefficient), which are compared pair by pair, by number first, a list that the other begins with
+    /// coming first; threads with one list are ordered by their numbers.
+    ///
+    /// It is `Arity` where more than 4 threads occur (`count` says how many, and stays at the greatest
+    /// number of 32 bits past it), and then `Full` where the predicate isn't in a table of 128. In time
+    /// and memory of the row's pairs, with one look-up.
+    pub fn number_of(&self, alloc: Global, row: &Row) -> Result<Place128, PlaceEnd>
+        ensures place { IfOk result (IsPlaceOf self.now row.now) }
+        ensures end { IfErr result (IsEndOf self.now row.now) }
+    {
         if row.term.pairs.as_slice().is_empty() {
-            return Ok(if row.term.constant <= 0 {
-                Place128::Trivial
-            } else {
-                Place128::False
-            });
+            return Ok(bare_place(row.term.constant));
         }
-        let tight = tighten(alloc, row).map_err(PlaceEnd::Memory)?;
-        let form = form_of(alloc, &tight)?;
-        let Form { predicate, threads } = form;
+        let tight = match tighten(alloc, row) {
+            Ok(tight) => tight,
+            Err(end) => return Err(PlaceEnd::Memory(end)),
+        };
+        let Form { predicate, threads } = form_of(alloc, &tight)?;
         let key = Key { predicate };
         let number = self.index.get(&key).copied();
         let Key { predicate } = key;
         match number {
             Some(number) => Ok(Place128::Known { number, threads }),
-            None if self.list.len() >= 128 => Err(PlaceEnd::Full),
+            None if self.list.len() >= Predicates::MOST as usize => Err(PlaceEnd::Full),
             None => Ok(Place128::New { predicate, threads }),
         }
     }
+
+    /// A copy, in time and memory of the predicates' pairs.
+    pub fn copy(&self, alloc: Global) -> Result<Predicates, AllocError>
+        ensures { IfOk result (λ table. table ≡ self.now) }
+    {
+        Ok(Predicates {
+            list: copies(alloc, self.list.as_slice())?,
+            index: index_of(alloc, self.list.as_slice())?,
+        })
+    }
 }
 
+// The place of a row without variables.
+fn bare_place(constant: i128) -> Place128
+    ensures { IsBarePlace constant result }
+{
+    if constant <= 0 {
+        Place128::Trivial
+    } else {
+        Place128::False
+    }
+}
+
+// The index of a list.
+fn index_of(alloc: Global, list: &[Predicate]) -> Result<IndexMap<Key, u32>, AllocError>
+    requires { length list.now ≤ 128 }
+    ensures { IfOk result (IsIndex list.now) }
+{
+    let mut index = IndexMap::new(alloc);
+    let mut number = 0;
+    for predicate in list {
+        note(alloc, &mut index, predicate, number)?;
+        number += 1;
+    }
+    Ok(index)
+}
+
+// Enters the number of the predicate, unless it has one.
 fn note(
     alloc: Global,
     index: &mut IndexMap<Key, u32>,
     predicate: &Predicate,
     number: u32,
-) -> Result<(), PushEnd> {
+) -> Result<(), AllocError>
+    ensures noted { OnOk result (IsNoted index.old (key_of predicate.now) number index.new) }
+    ensures unchanged { OnErr result (IsSameIndex index.old index.new) }
+{
     let key = Key {
-        predicate: predicate.copy(alloc).map_err(PushEnd::Memory)?,
+        predicate: predicate.copy(alloc)?,
     };
     if index.get(&key).is_some() {
         return Ok(());
     }
     match index.insert(key, number) {
         Ok(_) => Ok(()),
-        Err(_) => Err(PushEnd::Memory(AllocError)),
+        Err(_) => Err(AllocError),
     }
 }
