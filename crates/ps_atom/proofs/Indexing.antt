@@ -1,5 +1,5 @@
 -- The index of a table follows its list.
-use Rattle.std.proofs.Common.{◌≡◌, ◌≢◌, ◌⊎◌, ◌+◌, ◌<◌, ◌≤◌, ℕ, Bool, true, false, cond, List, [], ◌∷◌, ◌++◌, length, get_or, Option, Some, None, Contains, if◌then◌else◌, refl, sym, ap, ap₂, ◌∙◌, subst, inl, inr, suc, zero, arith}
+use Rattle.std.proofs.Common.{◌≡◌, ◌≢◌, ◌⊎◌, ◌+◌, ◌<◌, ◌≤◌, ℕ, Bool, true, false, cond, List, [], ◌∷◌, ◌++◌, length, get_or, Option, Some, None, is_some, length-append, Contains, if◌then◌else◌, refl, sym, ap, ap₂, ◌∙◌, subst, inl, inr, suc, zero, arith}
 use Rattle.std.specs.List.{position_from, slice_get}
 use Rattle.std.proofs.lemmas.Bool.{false≢true, true≢false}
 use Rattle.ps_list.proofs.Members.{nothing, cons_cases, here, there}
@@ -9,7 +9,7 @@ use Rattle.ps_atom.specs.declared.predicate.Predicate.{Predicate}
 use Rattle.ps_atom.specs.Index.{Index, key_of, or_else, least, IsIndex, IsNoted, IsSameIndex}
 use Rattle.ps_atom.specs.KeyLaws.{key_decides}
 use Rattle.ps_atom.specs.Keys.{key_eq}
-use Rattle.ps_atom.specs.Numbers.{IsNumberOf}
+use Rattle.ps_atom.specs.Numbers.{IsNumberOf, IsTable, false_predicate}
 
 -- ---- the list grows
 or_else_none : (o : Option ℕ) → or_else o None ≡ o
@@ -97,3 +97,23 @@ number-None i (x ∷ xs) predicate e m = by_test (λ f. number-None (i + 1) xs p
     by_test rest true f g c = cc
     by_test rest false f g (inl s) = true≢false (sym ((key_decides (key_of predicate) (key_of x)).1 (ap key_of (sym s))) ∙ f)
     by_test rest false f g (inr c) = rest g c
+
+-- ---- the table grows
+get-front : (xs : List Predicate) (y p : Predicate) → slice_get xs 0 ≡ Some p → slice_get (xs ++ y ∷ []) 0 ≡ Some p
+get-front [] y p e = absurd (let f : ⊥ = cc in f)
+get-front (x ∷ xs) y p e = e
+
+pub table-push : (list new : List Predicate) (predicate : Predicate) → IsTable list → length list < 128 → new ≡ list ++ predicate ∷ [] → IsTable new
+table-push list new predicate table room is =
+    subst (λ (xs : List Predicate). IsTable xs) (sym is) (record {
+      first = get-front list predicate false_predicate table.first;
+      within = omega (arith, length-append list (predicate ∷ []), room);
+    })
+
+pub noted_known : (old : Index) (key : Key) (number : ℕ) (o : Option ℕ) → is_some o ≡ true → o ≡ get key_eq old key → IsNoted old key number old
+noted_known old key number None s e = absurd (false≢true s)
+noted_known old key number (Some n) s e = noted_there old key number n (sym e)
+
+pub unknown : (o : Option ℕ) → is_some o ≡ false → o ≡ None
+unknown None s = refl
+unknown (Some n) s = absurd (true≢false s)

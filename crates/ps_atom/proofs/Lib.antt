@@ -1,7 +1,9 @@
 pub mod Chains
 pub mod Counts
+pub mod Forming
 pub mod Indexing
 pub mod MetThreads
 pub mod Orders
 pub mod Parts
+pub mod Placing
 pub mod Slotting

@@ -1,5 +1,5 @@
 // The canonical predicate of a row.
-ghost use Rattle.std.specs.Prelude.{◌≡◌, ◌≤◌, IfErr, IfOk, length, map};
+ghost use Rattle.std.specs.Prelude.{◌≡◌, ◌≤◌, ◌-◌, ◌^◌, IfErr, IfOk, length, map, min};
 ghost use Rattle.std.specs.List.Sorted.{IsStrictlyIncreasing};
 ghost use Rattle.ps_atom.specs.Canonical.{IsInSlots};
 ghost use Rattle.ps_atom.specs.Places.{IsFormEnd};
@@ -26,16 +26,26 @@ pub(crate) fn form_of(alloc: Global, tight: &Row) -> Result<Form, PlaceEnd>
     ensures form { IfOk result (λ form. IsInSlots tight.now form.predicate form.threads × (length form.threads ≤ 4)) }
     ensures end { IfErr result (IsFormEnd tight.now) }
 {
-    let threads = occurring(alloc, tight.term.pairs.as_slice()).map_err(PlaceEnd::Memory)?;
+    let threads = match occurring(alloc, tight.term.pairs.as_slice()) {
+        Ok(threads) => threads,
+        Err(end) => return Err(PlaceEnd::Memory(end)),
+    };
     if threads.len() > Predicate::MOST_SLOTS as usize {
         return Err(PlaceEnd::Arity {
-            count: u32::try_from(threads.len()).unwrap_or(u32::MAX),
+            count: in_32_bits(threads.len()),
         });
     }
     match form_with(alloc, tight, threads.as_slice()) {
         Ok(form) => Ok(form),
         Err(end) => Err(PlaceEnd::Memory(end)),
     }
+}
+
+// The count, or the greatest number of 32 bits past that.
+fn in_32_bits(count: usize) -> u32
+    ensures { result ≡ min count (2 ^ 32 - 1) }
+{
+    u32::try_from(count).unwrap_or(u32::MAX)
 }
 
 fn form_with(alloc: Global, tight: &Row, threads: &[u32]) -> Result<Form, AllocError>

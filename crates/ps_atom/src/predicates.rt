@@ -1,6 +1,8 @@
 //! Tables of predicates.
 ghost use Rattle.std.specs.Prelude.{◌≡◌, ◌<◌, ◌≤◌, ◌++◌, ◌∷◌, [], IfErr, IfOk, IsErrOf, OnErr, OnOk, length};
+ghost use Rattle.indexmap.specs.IndexMap.{get};
 ghost use Rattle.ps_atom.specs.Index.{IsIndex, IsNoted, IsSameIndex, key_of};
+ghost use Rattle.ps_atom.specs.Keys.{key_eq};
 ghost use Rattle.ps_atom.specs.Numbers.{IsTable, false_predicate};
 ghost use Rattle.ps_atom.specs.Places.{IsBarePlace, IsEndOf, IsPlaceOf};
 
@@ -91,11 +93,13 @@ impl Predicates {
             return Err(PushEnd::Full);
         }
         self.list.reserve(1).map_err(PushEnd::Memory)?;
-        if note(alloc, &mut self.index, &predicate, number as u32).is_err() {
-            return Err(PushEnd::Memory(AllocError));
+        match note(alloc, &mut self.index, &predicate, number as u32) {
+            Ok(()) => {
+                self.list.push_reserved(predicate);
+                Ok(number as u32)
+            }
+            Err(end) => Err(PushEnd::Memory(end)),
         }
-        self.list.push_reserved(predicate);
-        Ok(number as u32)
     }
 
     /// Where the row stands: its canonical predicate, looked up in the table. That is the tightened row
@@ -117,9 +121,12 @@ impl Predicates {
             Ok(tight) => tight,
             Err(end) => return Err(PlaceEnd::Memory(end)),
         };
-        let Form { predicate, threads } = form_of(alloc, &tight)?;
+        let Form { predicate, threads } = match form_of(alloc, &tight) {
+            Ok(form) => form,
+            Err(end) => return Err(end),
+        };
         let key = Key { predicate };
-        let number = self.index.get(&key).copied();
+        let number = number_in(&self.index, &key);
         let Key { predicate } = key;
         match number {
             Some(number) => Ok(Place128::Known { number, threads }),
@@ -177,11 +184,16 @@ fn note(
     let key = Key {
         predicate: predicate.copy(alloc)?,
     };
-    if index.get(&key).is_some() {
+    if number_in(index, &key).is_some() {
         return Ok(());
     }
-    match index.insert(key, number) {
-        Ok(_) => Ok(()),
-        Err(_) => Err(AllocError),
-    }
+    index.insert(key, number)?;
+    Ok(())
+}
+
+// The number of the key, if it has one.
+fn number_in(index: &IndexMap<Key, u32>, key: &Key) -> Option<u32>
+    ensures { result ≡ get key_eq index.now key.now }
+{
+    index.get(key).copied()
 }
