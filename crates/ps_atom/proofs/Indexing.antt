@@ -1,7 +1,8 @@
 -- The index of a table follows its list.
-use Rattle.std.proofs.Common.{◌≡◌, ◌≢◌, ◌⊎◌, ◌+◌, ◌<◌, ◌≤◌, ℕ, Bool, true, false, cond, List, [], ◌∷◌, ◌++◌, length, get_or, Option, Some, None, is_some, length-append, Contains, if◌then◌else◌, refl, sym, ap, ap₂, ◌∙◌, subst, inl, inr, suc, zero, arith}
+use Rattle.std.proofs.Common.{◌≡◌, ◌≢◌, ◌⊎◌, ◌+◌, ◌<◌, ◌≤◌, ℕ, Bool, true, false, cond, List, [], ◌∷◌, ◌++◌, length, get_or, Option, Some, None, is_some, length-append, length-take, take, min, Contains, if◌then◌else◌, refl, sym, ap, ap₂, ◌∙◌, subst, inl, inr, suc, zero, arith}
 use Rattle.std.specs.List.{position_from, slice_get}
 use Rattle.std.proofs.lemmas.Bool.{false≢true, true≢false}
+use Rattle.std.proofs.lemmas.List.{take_more}
 use Rattle.ps_list.proofs.Members.{nothing, cons_cases, here, there}
 use Rattle.indexmap.specs.IndexMap.{get}
 use Rattle.ps_atom.specs.declared.key.Key.{Key}
@@ -117,3 +118,9 @@ noted_known old key number (Some n) s e = noted_there old key number n (sym e)
 pub unknown : (o : Option ℕ) → is_some o ≡ false → o ≡ None
 unknown None s = refl
 unknown (Some n) s = absurd (true≢false s)
+
+pub index-step : (list : List Predicate) (i : ℕ) (predicate : Predicate) (number : ℕ) (old new : Index) → i < length list → predicate ≡ get_or list i predicate → number ≡ i → IsIndex (take i list) old → IsNoted old (key_of predicate) number new → IsIndex (take (i + 1) list) new
+index-step list i predicate number old new h at_i number_is indexed noted =
+    let long : length (take i list) ≡ i = omega (arith, length-take i list, h) in
+    let taken : take (i + 1) list ≡ take i list ++ predicate ∷ [] = take_more list i predicate h ∙ ap (λ (p : Predicate). take i list ++ p ∷ []) (sym at_i) in
+    subst (λ (xs : List Predicate). IsIndex xs new) (sym taken) (index-push (take i list) predicate old new indexed (subst (λ (n : ℕ). IsNoted old (key_of predicate) n new) (number_is ∙ sym long) noted))

@@ -1,5 +1,7 @@
 -- Rows and their tightened rows: the same threads, and so the same places.
-use Rattle.std.proofs.Common.{◌≡◌, ◌≢◌, ◌⊎◌, ◌+◌, ◌*◌, ◌<◌, ◌≤◌, ℕ, ℤ, pos, negsuc, ◌+ℤ◌, ◌*ℤ◌, List, [], ◌∷◌, length, Contains, refl, sym, ap, ◌∙◌, subst, suc, zero, arith}
+use Rattle.std.proofs.Common.{◌≡◌, ◌≢◌, ◌⊎◌, ◌+◌, ◌*◌, ◌<◌, ◌≤◌, ℕ, ℤ, pos, negsuc, Bool, true, false, ◌==◌, ◌+ℤ◌, ◌*ℤ◌, List, [], ◌∷◌, length, Contains, refl, sym, ap, ◌∙◌, subst, suc, zero, arith}
+use Rattle.std.proofs.lemmas.Bool.{true≢false}
+use Rattle.std.proofs.lemmas.Bool.Decides.{nat_tests}
 use Rattle.std.proofs.lemmas.Int.{ints}
 use Rattle.ps_term.specs.declared.row.Row.{Row}
 use Rattle.ps_term.specs.declared.var.Var.{Var}
@@ -41,9 +43,17 @@ pub has_form : (row tight : Row) (predicate : Predicate) (threads : List ℕ) �
 has_form row tight predicate threads some is c f =
     (some, f.1, record { tight = tight; tightened = is; canonical = c; in_slots = f.0 })
 
-pub not_empty : (ps qs : List (Var × ℤ)) → ps ≡ qs → (length ps ≡ 0 → ⊥) → qs ≢ []
-not_empty ps qs e n z = n (ap (λ (xs : List (Var × ℤ)). length xs) (e ∙ z))
-
-pub empty : (ps : List (Var × ℤ)) → length ps ≡ 0 → ps ≡ []
+empty : (ps : List (Var × ℤ)) → length ps ≡ 0 → ps ≡ []
 empty [] e = refl
 empty (p ∷ ps) e = absurd (omega (arith, e))
+
+pub not_empty_by : (ps qs : List (Var × ℤ)) (b : Bool) → ps ≡ qs → b ≡ (length ps == 0) → b ≡ false → qs ≢ []
+not_empty_by ps qs b e is f z =
+    let zero_long : length ps ≡ 0 = ap (λ (xs : List (Var × ℤ)). length xs) (e ∙ z) in
+    let yes : (length ps == 0) ≡ true = grind (arith, nat_tests) in
+    true≢false (sym yes ∙ (sym is ∙ f))
+
+pub empty_by : (ps qs : List (Var × ℤ)) (b : Bool) → ps ≡ qs → b ≡ (length ps == 0) → b ≡ true → qs ≡ []
+empty_by ps qs b e is f =
+    let none : length ps ≡ 0 = (let t : (length ps == 0) ≡ true = sym is ∙ f in grind (arith, nat_tests)) in
+    sym e ∙ empty ps none
