@@ -1,9 +1,12 @@
 pub mod Chains
 pub mod Counts
+pub mod Facts
 pub mod Forming
 pub mod Indexing
+pub mod Locals
 pub mod MetThreads
 pub mod Orders
 pub mod Parts
 pub mod Placing
 pub mod Slotting
+pub mod Tightness

@@ -70,7 +70,7 @@ slot_below k t m ((Local s n, c) ∷ ps) h = by_test (slot_below k t m ps h.1) (
     by_test rest true e = (local_lt k t m s n h.0 e, rest)
     by_test rest false e = rest
 
-IsCanonical-slot : (k t : ℕ) (ps : List (Var × ℤ)) → IsCanonical ps → IsCanonical (in_slot k (local_pairs t ps))
+pub IsCanonical-slot : (k t : ℕ) (ps : List (Var × ℤ)) → IsCanonical ps → IsCanonical (in_slot k (local_pairs t ps))
 IsCanonical-slot k t [] c = tt
 IsCanonical-slot k t ((Global n, d) ∷ ps) c = IsCanonical-slot k t ps c.2
 IsCanonical-slot k t ((Havoc n, d) ∷ ps) c = IsCanonical-slot k t ps c.2

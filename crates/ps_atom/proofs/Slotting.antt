@@ -65,7 +65,7 @@ pub same_worth : (u v : Var → ℤ) (ps : List (Var × ℤ)) → AllByRecursion
 same_worth u v [] h = refl
 same_worth u v (p ∷ ps) h = ap₂ (λ (a b : ℤ). (p.1 *ℤ a) +ℤ b) h.0 (same_worth u v ps h.1)
 
-from_among : (P : Var × ℤ → Type 0) (ts : List ℕ) (ps : List (Var × ℤ)) → AreAmong ts ps → ((n : ℕ) (c : ℤ) → P (Global n, c)) → ((t n : ℕ) (c : ℤ) → Contains ts t → P (Local t n, c)) → ((n : ℕ) (c : ℤ) → P (Havoc n, c)) → AllByRecursion P ps
+pub from_among : (P : Var × ℤ → Type 0) (ts : List ℕ) (ps : List (Var × ℤ)) → AreAmong ts ps → ((n : ℕ) (c : ℤ) → P (Global n, c)) → ((t n : ℕ) (c : ℤ) → Contains ts t → P (Local t n, c)) → ((n : ℕ) (c : ℤ) → P (Havoc n, c)) → AllByRecursion P ps
 from_among P ts [] a g l h = tt
 from_among P ts ((Global n, c) ∷ ps) a g l h = (g n c, from_among P ts ps a.1 g l h)
 from_among P ts ((Local t n, c) ∷ ps) a g l h = (l t n c (a.0 t n refl), from_among P ts ps a.1 g l h)
