@@ -6,7 +6,9 @@ pub mod Indexing
 pub mod Locals
 pub mod MetThreads
 pub mod Orders
+pub mod Own
 pub mod Parts
 pub mod Placing
+pub mod Sayings
 pub mod Slotting
 pub mod Tightness

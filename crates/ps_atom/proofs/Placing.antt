@@ -16,7 +16,7 @@ use Rattle.ps_atom.specs.declared.predicate.Predicate.{Predicate}
 use Rattle.ps_atom.specs.declared.place.PlaceEnd.{PlaceEnd}
 use Rattle.ps_atom.specs.declared.place.PlaceEnd.TheVariants.{Arity, Full, Memory}
 
-product_zero : (f : ℕ) (n : ℤ) → 1 ≤ f → let zero_z : ℤ = pos 0 in (pos f *ℤ n) ≡ zero_z → n ≡ zero_z
+pub product_zero : (f : ℕ) (n : ℤ) → 1 ≤ f → let zero_z : ℤ = pos 0 in (pos f *ℤ n) ≡ zero_z → n ≡ zero_z
 product_zero zero n h e = absurd (omega arith)
 product_zero (suc f) (pos zero) h e = refl
 product_zero (suc f) (pos (suc n)) h e = absurd (omega (arith, ints, e))

@@ -91,7 +91,7 @@ placed_slots ts ps o a = record {
 }
 
 -- ---- slots determine canonical pairs
-lt_or : (m n : ℕ) → (m < n) ⊎ (n ≤ m)
+pub lt_or : (m n : ℕ) → (m < n) ⊎ (n ≤ m)
 lt_or m n = by_test (Rattle.std.proofs.Common.ltb m n) refl
   where
     by_test : (b : Bool) → Rattle.std.proofs.Common.ltb m n ≡ b → (m < n) ⊎ (n ≤ m)
