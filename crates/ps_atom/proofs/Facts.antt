@@ -28,7 +28,7 @@ use Rattle.ps_atom.proofs.Slotting.{among, from_among, placed_slots, same_slots,
 use Rattle.ps_atom.proofs.Tightness.{multiple_tight, same_tight}
 
 -- ---- one form
-predicate_is : (p q : Predicate) → p.arity ≡ q.arity → p.row.term.pairs ≡ q.row.term.pairs → p.row.term.constant ≡ q.row.term.constant → p ≡ q
+pub predicate_is : (p q : Predicate) → p.arity ≡ q.arity → p.row.term.pairs ≡ q.row.term.pairs → p.row.term.constant ≡ q.row.term.constant → p ≡ q
 predicate_is p q a ps c = λ i. record { arity = a i; row = record { term = record { pairs = ps i; constant = c i } } }
 
 same_in_slots : (row : Row) (p q : Predicate) (ts us : List ℕ) → IsInSlots row p ts → IsInSlots row q us → (p ≡ q) × (ts ≡ us)

@@ -9,6 +9,8 @@ pub mod Orders
 pub mod Own
 pub mod Parts
 pub mod Placing
+pub mod Renamings
 pub mod Sayings
 pub mod Slotting
+pub mod Sorting
 pub mod Tightness

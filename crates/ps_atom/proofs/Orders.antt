@@ -34,7 +34,7 @@ share_total = then_total (on_total (λ (s : Share). s.pairs.items) pairs_total) 
 pub nat_cmp-Equal : (m n : ℕ) → nat_cmp m n ≡ Equal → m ≡ n
 nat_cmp-Equal m n e = grind (arith, nat_tests)
 
-then-Equal : (a b : Ordering) → ordering_then a b ≡ Equal → (a ≡ Equal) × (b ≡ Equal)
+pub then-Equal : (a b : Ordering) → ordering_then a b ≡ Equal → (a ≡ Equal) × (b ≡ Equal)
 then-Equal Less b e = absurd (let f : ⊥ = cc in f)
 then-Equal Equal b e = (refl, e)
 then-Equal Greater b e = absurd (let f : ⊥ = cc in f)
