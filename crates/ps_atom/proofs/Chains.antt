@@ -61,6 +61,7 @@ once_from_chain R irr (x ∷ xs) h t = by_test (once_from_chain R irr xs h.1 t) 
     apart : (ys : List ℕ) → x ≡ t → AllByRecursion (R x) ys → AllByRecursion (λ y. y ≢ t) ys
     apart [] e r = tt
     apart (y ∷ ys) e r = ((λ f. irr x (subst (λ (z : ℕ). R x z) (f ∙ sym e) r.0)), apart ys e r.1)
+
     by_test : count t xs ≤ 1 → (b : Bool) → (x == t) ≡ b → cond b 1 0 + count t xs ≤ 1
     by_test rest true e = (let is : x ≡ t = grind (arith, nat_tests) in one_at 1 (count t xs) (omega arith) (count_none t xs (apart xs is h.0)))
     by_test rest false e = omega (arith, rest)

@@ -54,11 +54,13 @@ shares_placed ps ts shares c rising occurring a =
 
 pub shares_form : (row : Row) (ps : List (Var × ℤ)) (ts : List ℕ) (shares : List Share) (arity : ℕ) (list : List (Var × ℤ)) (constant : ℤ) (threads : List ℕ) → ps ≡ row.term.pairs → IsCanonical ps → IsStrictlyIncreasing ts → AreOccurring row.term.pairs ts → AreShares ps ts shares → length ts ≤ 4 → arity ≡ length shares → list ≡ placed (share_pairs shares) ps → constant ≡ row.term.constant → threads ≡ share_threads shares → IsInSlots row (record { arity = arity; row = record { term = record { pairs = list; constant = constant } } }) threads × (length threads ≤ 4)
 shares_form row ps ts shares arity list constant threads pairs_are c rising occur a few arity_is list_is constant_is threads_are =
-    let occurring : AreOccurring ps ts = subst (λ (qs : List (Var × ℤ)). AreOccurring qs ts) (sym pairs_are) occur in
-    (record {
-      in_order = subst (λ (us : List ℕ). AreSlots row.term.pairs us) (sym threads_are) (subst (λ (qs : List (Var × ℤ)). AreSlots qs (share_threads shares)) pairs_are (shares_slots ps ts shares rising occurring a));
-      arity = arity_is ∙ sym (ap (λ (us : List ℕ). length us) threads_are ∙ threads_long shares);
-      coefficients = subst (λ (us : List ℕ). HasSlots row.term.pairs us list) (sym threads_are) (subst (λ (qs : List (Var × ℤ)). HasSlots qs (share_threads shares) list) pairs_are (subst (λ (qs : List (Var × ℤ)). HasSlots ps (share_threads shares) qs) (sym list_is) (shares_placed ps ts shares c rising occurring a)));
-      constant = constant_is;
-      canonical = subst (λ (qs : List (Var × ℤ)). IsCanonical qs) (sym list_is) (shares_canonical ps ts shares c a);
-    }, omega (arith, few_shares ps ts shares a few, ap (λ (us : List ℕ). length us) threads_are, threads_long shares))
+    let occurring : AreOccurring ps ts = subst (λ (qs : List (Var × ℤ)). AreOccurring qs ts) (sym pairs_are) occur in (
+      record {
+        in_order = subst (λ (us : List ℕ). AreSlots row.term.pairs us) (sym threads_are) (subst (λ (qs : List (Var × ℤ)). AreSlots qs (share_threads shares)) pairs_are (shares_slots ps ts shares rising occurring a));
+        arity = arity_is ∙ sym (ap (λ (us : List ℕ). length us) threads_are ∙ threads_long shares);
+        coefficients = subst (λ (us : List ℕ). HasSlots row.term.pairs us list) (sym threads_are) (subst (λ (qs : List (Var × ℤ)). HasSlots qs (share_threads shares) list) pairs_are (subst (λ (qs : List (Var × ℤ)). HasSlots ps (share_threads shares) qs) (sym list_is) (shares_placed ps ts shares c rising occurring a)));
+        constant = constant_is;
+        canonical = subst (λ (qs : List (Var × ℤ)). IsCanonical qs) (sym list_is) (shares_canonical ps ts shares c a);
+      },
+      omega (arith, few_shares ps ts shares a few, ap (λ (us : List ℕ). length us) threads_are, threads_long shares),
+    )

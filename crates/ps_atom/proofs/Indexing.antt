@@ -23,6 +23,7 @@ position-push t i (x ∷ xs) y = by_test (position-push t (i + 1) xs y) (t x)
   where
     moved : (i + 1) + length xs ≡ i + length (x ∷ xs)
     moved = omega arith
+
     by_test : position_from t (i + 1) (xs ++ y ∷ []) ≡ or_else (position_from t (i + 1) xs) (if t y then Some ((i + 1) + length xs) else None) → (b : Bool) → cond b (Some i) (position_from t (i + 1) (xs ++ y ∷ [])) ≡ or_else (cond b (Some i) (position_from t (i + 1) xs)) (if t y then Some (i + length (x ∷ xs)) else None)
     by_test rest true = refl
     by_test rest false = rest ∙ ap (λ (n : ℕ). or_else (position_from t (i + 1) xs) (if t y then Some n else None)) moved
@@ -74,6 +75,7 @@ position-Some i (x ∷ xs) predicate n e = by_test (λ f. position-Some (i + 1) 
         below : (k : ℕ) → k < suc p.offset → slice_get (x ∷ xs) k ≢ Some predicate
         below zero h g = true≢false (sym ((key_decides (key_of predicate) (key_of x)).1 (let s : x ≡ predicate = cc in ap key_of (sym s))) ∙ other)
         below (suc k) h g = p.number.least k (omega (arith, h)) g
+
     by_test : (position_from (λ p. key_eq (key_of predicate) (key_of p)) (i + 1) xs ≡ Some n → IsPlace (i + 1) xs predicate n) → (b : Bool) → key_eq (key_of predicate) (key_of x) ≡ b → cond b (Some i) (position_from (λ p. key_eq (key_of predicate) (key_of p)) (i + 1) xs) ≡ Some n → IsPlace i (x ∷ xs) predicate n
     by_test rest true f g = record {
       offset = 0;

@@ -1,5 +1,6 @@
 pub mod Chains
 pub mod Counts
+mod Examples
 pub mod Facts
 pub mod Forming
 pub mod Indexing
@@ -9,6 +10,7 @@ pub mod Orders
 pub mod Own
 pub mod Parts
 pub mod Placing
+pub mod RenamedAtoms
 pub mod Renamings
 pub mod Sayings
 pub mod Slotting

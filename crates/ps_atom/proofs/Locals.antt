@@ -25,6 +25,7 @@ coefficient-slot k t n ((Local s m, c) ∷ ps) = by_test (coefficient-slot k t n
     flip_test : (b : Bool) → (s == t) ≡ b → (t == s) ≡ b
     flip_test true e = grind (arith, nat_tests)
     flip_test false e = grind (arith, nat_tests)
+
     by_test : coefficient (Local k n) (in_slot k (local_pairs t ps)) ≡ coefficient (Local t n) ps → (b : Bool) → (s == t) ≡ b → coefficient (Local k n) (in_slot k (cons_option (if b then Some (m, c) else None) (local_pairs t ps))) ≡ coefficient (Local t n) ((Local s m, c) ∷ ps)
     by_test rest true e = (let back : (t == s) ≡ true = flip_test true e in let self : (k == k) ≡ true = grind (arith, nat_tests) in rw (back, self) (ap (λ (z : ℤ). (if n == m then c else pos 0) +ℤ z) rest))
     by_test rest false e = (let back : (t == s) ≡ false = flip_test false e in rw back (rest ∙ zero_more (coefficient (Local t n) ps)))
@@ -57,6 +58,7 @@ locals_by_coefficients ps qs s t c d h =
     same_local : (k n : ℕ) (b : Bool) → (k == 0) ≡ b → coefficient (Local k n) (in_slot 0 (local_pairs s ps)) ≡ coefficient (Local k n) (in_slot 0 (local_pairs t qs))
     same_local k n true e = (let is : 0 ≡ k = grind (arith, nat_tests) in subst (λ (j : ℕ). coefficient (Local j n) (in_slot 0 (local_pairs s ps)) ≡ coefficient (Local j n) (in_slot 0 (local_pairs t qs))) is (coefficient-slot 0 s n ps ∙ (h n ∙ sym (coefficient-slot 0 t n qs))))
     same_local k n false e = other_slot 0 k n (local_pairs s ps) e ∙ sym (other_slot 0 k n (local_pairs t qs) e)
+
     same : (x : Var) → coefficient x (in_slot 0 (local_pairs s ps)) ≡ coefficient x (in_slot 0 (local_pairs t qs))
     same (Global n) = no_global 0 n (local_pairs s ps) ∙ sym (no_global 0 n (local_pairs t qs))
     same (Havoc n) = no_havoc 0 n (local_pairs s ps) ∙ sym (no_havoc 0 n (local_pairs t qs))

@@ -117,7 +117,7 @@ met_new last p ps ts t n c is a m = record {
 met : (last : Option ℕ) (ps : List (Var × ℤ)) → IsCanonical ps → AllByRecursion (λ p. IsFrom last p.0) ps → IsMet last ps (threads_after last ps)
 met last [] c f = record { above = tt; rising = tt; only = λ t h. absurd (nothing t h); every = λ t o. absurd (o.1 refl) }
 met last (p ∷ ps) c f = elim (next_cases last p.0 f.0) [
-  inl none ↦ rw (none.0) (met_same last p ps (threads_after last ps) c none.1 (met last ps c.2 f.1))
+  | inl none ↦ rw (none.0) (met_same last p ps (threads_after last ps) c none.1 (met last ps c.2 f.1))
   | inr new ↦ rw (new.2) (met_new last p ps (threads_after (Some new.0) ps) new.0 new.1 c new.3 new.4 (met (Some new.0) ps c.2 (from_all new.0 new.1 ps (subst (λ (x : Var). IsBelowAll x ps) new.3 (IsBelowAll-canonical p.0 ps c.1 c.2)))))
 ]
 

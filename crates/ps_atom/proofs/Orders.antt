@@ -56,7 +56,7 @@ share_cmp-thread pairs a b s t = ap₂ (λ (x y : List (ℕ × ℤ)). ordering_t
 
 less_by : (pairs : List (Var × ℤ)) (a b : Share) → IsShare pairs a → IsShare pairs b → is_lt (share_cmp b a) ≡ false → a.thread ≢ b.thread → thread_cmp pairs a.thread b.thread ≡ Less
 less_by pairs a b s t h n = elim (below_by share_cmp share_total a b h (share_cmp a b) refl) [
-  inl less ↦ sym (share_cmp-thread pairs a b s t) ∙ less
+  | inl less ↦ sym (share_cmp-thread pairs a b s t) ∙ less
   | inr tie ↦ absurd (n (thread_cmp-Equal pairs a.thread b.thread (sym (share_cmp-thread pairs a b s t) ∙ tie)).1)
 ]
 

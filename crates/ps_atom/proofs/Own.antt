@@ -93,6 +93,7 @@ own_slots ps qs ts c d h a = record {
     occurs i l =
         let o = (a.occurring (slice_index ts i)).0 (Contains-get_or ts i 0 l) in
         (o.0, λ z. o.1 (sym (h.slots i o.0 l) ∙ z))
+
     within : (i : ℕ) → Occurs qs i → i < length ts
     within i o = elim (lt_or i (length ts)) [ inl l ↦ l | inr le ↦ absurd (o.1 (h.beyond i o.0 le)) ]
 

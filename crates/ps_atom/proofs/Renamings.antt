@@ -93,11 +93,11 @@ mapped_contains f (x ∷ xs) u m = by_case (mapped_contains f xs u) (cons_cases 
     by_case g (inl e) = (x, here x xs, e)
     by_case g (inr r) = (let w = g r in (w.0, there x xs w.0 w.1, w.2))
 
-all_contained : (xs : List ℕ) → (P : ℕ → Type 0) → ((t : ℕ) → Contains xs t → P t) → AllByRecursion P xs
+pub all_contained : (xs : List ℕ) → (P : ℕ → Type 0) → ((t : ℕ) → Contains xs t → P t) → AllByRecursion P xs
 all_contained [] P h = tt
 all_contained (x ∷ xs) P h = (h x (here x xs), all_contained xs P (λ t m. h t (there x xs t m)))
 
-chain_mapped : {Y : Type 0} (g : ℕ → Y) (P : ℕ → Type 0) (R : ℕ → ℕ → Type 0) (S : Y → Y → Type 0) → ((x y : ℕ) → P x → P y → R x y → S (g x) (g y)) → (xs : List ℕ) → AllByRecursion P xs → IsChain R xs → IsChain S (map g xs)
+pub chain_mapped : {Y : Type 0} (g : ℕ → Y) (P : ℕ → Type 0) (R : ℕ → ℕ → Type 0) (S : Y → Y → Type 0) → ((x y : ℕ) → P x → P y → R x y → S (g x) (g y)) → (xs : List ℕ) → AllByRecursion P xs → IsChain R xs → IsChain S (map g xs)
 chain_mapped g P R S h [] a c = tt
 chain_mapped g P R S h (x ∷ xs) a c = (each xs a.1 c.0, chain_mapped g P R S h xs a.1 c.1)
   where
@@ -149,11 +149,14 @@ renamed_in_slots f a b p q ts us r c d s t =
   where
     owns : map (λ x. local_pairs x a.term.pairs) ts ≡ map (λ u. local_pairs u b.term.pairs) us
     owns = owns_renamed f a b ts us r c d s.in_order t.in_order
+
     long : length ts ≡ length us
     long = sym (long_map (λ x. local_pairs x a.term.pairs) ts) ∙ (ap (λ (xs : List Own). length xs) owns ∙ long_map (λ u. local_pairs u b.term.pairs) us)
+
     at_slot : (i n : ℕ) → (i < length ts) ⊎ (length ts ≤ i) → coefficient (Local i n) p.row.term.pairs ≡ coefficient (Local i n) q.row.term.pairs
     at_slot i n (inl h) = s.coefficients.slots i n h ∙ (same_at a.term.pairs b.term.pairs ts us i n owns long h ∙ sym (t.coefficients.slots i n (omega (arith, long, h))))
     at_slot i n (inr h) = s.coefficients.beyond i n h ∙ sym (t.coefficients.beyond i n (omega (arith, long, h)))
+
     same : (x : Var) → coefficient x p.row.term.pairs ≡ coefficient x q.row.term.pairs
     same (Global n) = s.coefficients.globals n ∙ (sym (r.globals n) ∙ sym (t.coefficients.globals n))
     same (Local i n) = at_slot i n (lt_or i (length ts))

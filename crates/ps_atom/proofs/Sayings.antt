@@ -1,5 +1,5 @@
 -- A row and its tightened row are worth alike, so a canonical predicate says what its row says.
-use Rattle.std.proofs.Common.{◌≡◌, ◌≢◌, ◌+◌, ◌<◌, ◌≤◌, ℕ, ℤ, pos, ◌+ℤ◌, ◌*ℤ◌, ◌≤ℤ◌, List, [], ◌∷◌, refl, sym, ap, ◌∙◌, subst, arith}
+use Rattle.std.proofs.Common.{◌≡◌, ◌≢◌, ◌+◌, ◌<◌, ◌≤◌, ℕ, ℤ, pos, ◌+ℤ◌, ◌*ℤ◌, ◌≤ℤ◌, List, [], ◌∷◌, Some, refl, sym, ap, ◌∙◌, subst, arith}
 use Rattle.std.proofs.lemmas.Int.{ints}
 use Rattle.ps_term.specs.declared.row.Row.{Row}
 use Rattle.ps_term.specs.declared.var.Var.{Var}
@@ -11,6 +11,10 @@ use Rattle.ps_term.proofs.Divisions.{divided_coefficient, divided_value, same_so
 use Rattle.ps_term.proofs.Uniqueness.{same_coefficients}
 use Rattle.ps_atom.specs.Atoms.{HoldsAt}
 use Rattle.ps_atom.specs.Canonical.{IsCanonicalOf}
+use Rattle.ps_atom.specs.Places.{IsPlaceOf}
+use Rattle.ps_atom.specs.Says.{SaysAs}
+use Rattle.ps_atom.specs.declared.place.Place128.{Place128}
+use Rattle.ps_atom.specs.declared.place.Place128.TheVariants.{Trivial, False, Known, New}
 use Rattle.ps_atom.specs.declared.predicate.Predicate.{Predicate}
 use Rattle.ps_atom.proofs.Facts.{in_slots_says}
 use Rattle.ps_atom.proofs.Placing.{product_zero}
@@ -46,3 +50,20 @@ form_says values row p ts c a =
     let inner = in_slots_says values a.tight p ts a.canonical a.in_slots in
     let outer = tight_holds values row a.tight c a.canonical a.tightened in
     ((λ h. outer.0 (inner.0 h)), (λ h. inner.1 (outer.1 h)))
+
+bare_value : (c : ℤ) → (pos 0 +ℤ c) ≡ c
+bare_value c = omega (arith, ints)
+
+-- a row without variables is worth its constant
+bare_row : (values : Var → ℤ) (row : Row) → row.term.pairs ≡ [] → (pairs_value values row.term.pairs +ℤ row.term.constant) ≡ row.term.constant
+bare_row values row e = ap (λ (ps : List (Var × ℤ)). pairs_value values ps +ℤ row.term.constant) e ∙ bare_value row.term.constant
+
+same_some : (p q : Predicate) → Some p ≡ Some q → p ≡ q
+same_some p q e = cc
+
+-- where the row is one without variables or has a canonical predicate, its place says the same
+pub place_says : (list : List Predicate) (values : Var → ℤ) (row : Row) (place : Place128) → IsCanonical row.term.pairs → IsPlaceOf list row place → SaysAs list values row place
+place_says list values row Trivial c h = subst (λ (n : ℤ). n ≤ℤ pos 0) (sym (bare_row values row h.0)) h.1
+place_says list values row False c h = λ holds. (let le : row.term.constant ≤ℤ pos 0 = subst (λ (n : ℤ). n ≤ℤ pos 0) (bare_row values row h.0) holds in omega (arith, ints, le, h.1))
+place_says list values row (Known number threads) c h = λ p at. (let is : h.0 ≡ p = same_some h.0 p (sym h.2.stands ∙ at) in form_says values row p threads c (subst (λ (q : Predicate). IsCanonicalOf row q threads) is h.1.2))
+place_says list values row (New predicate threads) c h = form_says values row predicate threads c h.0.2

@@ -30,6 +30,7 @@ slot_of-found k (s ∷ ts) t h = by_test (λ m. slot_of-found (k + 1) ts t m) (s
     inner : (s == t) ≡ false → (s ≡ t) ⊎ Contains ts t → Contains ts t
     inner f (inl e) = absurd (let y : (s == t) ≡ true = grind (arith, nat_tests) in true≢false (sym y ∙ f))
     inner f (inr m) = m
+
     by_test : (Contains ts t → (i : ℕ) × (slot_of (k + 1) ts t ≡ k + 1 + i) × (i < length ts) × (get_or ts i 0 ≡ t)) → (b : Bool) → (s == t) ≡ b → (i : ℕ) × ((if b then k else slot_of (k + 1) ts t) ≡ k + i) × (i < length (s ∷ ts)) × (get_or (s ∷ ts) i 0 ≡ t)
     by_test rest true e = (0, omega arith, omega arith, grind (arith, nat_tests))
     by_test rest false e = (let r = rest (inner e (cons_cases s ts t h)) in (suc r.0, omega (arith, r.1), omega (arith, r.2), r.3))

@@ -104,6 +104,7 @@ divides_scaled f g ps c h = go ps (all_nonzero ps c) (all_members ps c)
     all_nonzero : (qs : List (Var × ℤ)) → IsCanonical qs → AllByRecursion (λ q. q.1 ≢ pos 0) qs
     all_nonzero [] d = tt
     all_nonzero (q ∷ qs) d = (d.0, all_nonzero qs d.2)
+
     go : (qs : List (Var × ℤ)) → AllByRecursion (λ q. q.1 ≢ pos 0) qs → AllByRecursion (λ q. coefficient q.0 ps ≡ q.1) qs → DividesScaled f g qs
     go [] z a = tt
     go (q ∷ qs) z a = ((let m = h q.0 (λ e. z.0 (sym a.0 ∙ e)) in scaled_by f g m.0 q.1 (m.1 ∙ ap (λ (n : ℤ). pos g *ℤ n) a.0)), go qs z.1 a.1)

@@ -1,5 +1,5 @@
 -- What atoms say of states, their order, and renamed atoms.
-use Rattle.std.specs.Prelude.{◌≡◌, ℕ, ℤ, List, Contains, map, slice_index}
+use Rattle.std.specs.Prelude.{◌≡◌, ℕ, ◌<◌, ℤ, List, Contains, map, slice_index}
 use Rattle.std.specs.Cmp.Lexicographic.{slice_cmp}
 use Rattle.std.specs.Ordering.{nat_cmp, ordering_then}
 use Rattle.std.specs.declared.cmp.Ordering.{Ordering}
@@ -30,3 +30,15 @@ renamed new atom = record { predicate = atom.predicate; threads = map new atom.t
 -- the threads of the list stay apart
 abbrev pub IsInjectiveOn : (ℕ → ℕ) → List ℕ → Type 0
 IsInjectiveOn new threads = (s t : ℕ) → Contains threads s → Contains threads t → new s ≡ new t → s ≡ t
+
+-- the variable with its thread renamed
+abbrev pub renamed_variable : (ℕ → ℕ) → Var → Var
+renamed_variable new (Global n) = Global n
+renamed_variable new (Local thread n) = Local (new thread) n
+renamed_variable new (Havoc n) = Havoc n
+
+-- the variable, if it is a local, is one of a slot below the arity
+abbrev pub IsOfSlots : ℕ → Var → Type 0
+IsOfSlots arity (Global _) = Unit {0}
+IsOfSlots arity (Local slot _) = slot < arity
+IsOfSlots arity (Havoc _) = Unit {0}

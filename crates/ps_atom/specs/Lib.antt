@@ -7,6 +7,7 @@ pub mod Numbers
 pub mod Places
 pub mod Range
 pub mod Renaming
+pub mod Says
 pub mod Shares
 pub mod Slots
 pub mod Threads

@@ -5,6 +5,7 @@
 mod atom;
 mod canonical;
 mod key;
+pub mod laws;
 mod place;
 mod predicate;
 mod predicates;

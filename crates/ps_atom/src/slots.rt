@@ -45,11 +45,7 @@ fn push_shares(list: &mut Vec<(Var, i128)>, shares: &[Share]) -> Result<(), Allo
     Ok(())
 }
 
-fn push_share(
-    list: &mut Vec<(Var, i128)>,
-    slot: u32,
-    own: &[(u32, i128)],
-) -> Result<(), AllocError>
+fn push_share(list: &mut Vec<(Var, i128)>, slot: u32, own: &[(u32, i128)]) -> Result<(), AllocError>
     ensures { OnOk result (list.new.items ≡ list.old.items ++ in_slot slot own.now) }
 {
     for pair in own {

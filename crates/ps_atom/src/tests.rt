@@ -72,7 +72,10 @@ fn gives_numbers(rt: HostRuntime) -> Result<(), Fail> {
 
     let falling = difference(alloc, 3, 7, true)?;
     let copied = table.copy(alloc)?;
-    assert_eq!(rt; told(&copied.number_of(alloc, &falling)?), (1, Some([7, 3].as_slice())));
+    assert_eq!(rt;
+        told(&copied.number_of(alloc, &falling)?),
+        (1, Some([7, 3].as_slice()))
+    );
     assert_eq!(rt; copied.list().len(), 3);
     for (constant, want) in [(0, -1), (-3, -1), (1, -2)] {
         let bare = row(alloc, &[], constant)?;
@@ -94,11 +97,24 @@ fn refuses_past_its_limits(rt: HostRuntime) -> Result<(), Fail> {
     let wide = row(alloc, &five, 0)?;
     let mut table = Predicates::new(alloc)?;
     for number in 1..128 {
-        assert!(rt; matches!(table.number_of(alloc, &wide), Err(PlaceEnd::Arity { count: 5 })));
+        assert!(rt;
+            matches!(
+                table.number_of(alloc, &wide),
+                Err(PlaceEnd::Arity { count: 5 })
+            )
+        );
         let row = global_row(alloc, i128::from(number))?;
-        assert_eq!(rt; table.push(alloc, Predicate { arity: 0, row })?, number as u32);
+        assert_eq!(rt;
+            table.push(alloc, Predicate { arity: 0, row })?,
+            number as u32
+        );
     }
-    assert!(rt; matches!(table.number_of(alloc, &wide), Err(PlaceEnd::Arity { count: 5 })));
+    assert!(rt;
+        matches!(
+            table.number_of(alloc, &wide),
+            Err(PlaceEnd::Arity { count: 5 })
+        )
+    );
     let new = global_row(alloc, 128)?;
     assert!(rt; matches!(table.number_of(alloc, &new), Err(PlaceEnd::Full)));
     let known = global_row(alloc, 127)?;
