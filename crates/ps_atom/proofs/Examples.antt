@@ -1,12 +1,12 @@
 -- Worked examples of the definitions, at `-1*l0@3 1*l0@7` and `1*l0@3 -1*l0@7`.
-use Rattle.std.proofs.Common.{◌≡◌, ℕ, ℤ, pos, negsuc, List, [], ◌∷◌, None, refl, arith}
-use Rattle.std.specs.declared.cmp.Ordering.TheVariants.{Less, Equal, Greater}
+use Rattle.std.proofs.Common.{◌≡◌, ℤ, pos, negsuc, List, [], ◌∷◌, None, refl, arith}
+use Rattle.std.specs.declared.cmp.Ordering.TheVariants.{Less, Greater}
 use Rattle.std.proofs.lemmas.List.Elements.{All-from_recursion}
 use Rattle.ps_term.specs.declared.var.Var.{Var}
 use Rattle.ps_term.specs.declared.var.Var.TheVariants.{Global, Local, Havoc}
 use Rattle.ps_atom.specs.Atoms.{at_threads, atom_cmp, renamed}
 use Rattle.ps_atom.specs.Range.{IsDeclared, IsInRange}
-use Rattle.ps_atom.specs.Slots.{in_slots, placed, threads_after}
+use Rattle.ps_atom.specs.Slots.{placed, threads_after}
 use Rattle.ps_atom.specs.Threads.{local_pairs, pairs_cmp, thread_cmp}
 use Rattle.ps_atom.specs.declared.atom.Atom.{Atom}
 use Rattle.ps_atom.specs.declared.predicate.Predicate.{Predicate}

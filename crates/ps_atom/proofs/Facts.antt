@@ -1,28 +1,16 @@
 -- What canonical predicates are: one of each row, and of each multiple of it; what they say; and that they are their own.
-use Rattle.std.proofs.Common.{◌≡◌, ◌≢◌, ◌⊎◌, ◌==◌, ◌+◌, ◌<◌, ◌≤◌, ℕ, ℤ, pos, ◌+ℤ◌, ◌*ℤ◌, ◌≤ℤ◌, Bool, true, false, List, [], ◌∷◌, ◌++◌, length, get_or, slice_index, AllPairs, Contains, map, refl, sym, ap, ap₂, ◌∙◌, subst, inl, inr, suc, zero, arith, length-append}
-use Rattle.std.specs.List.{AllByRecursion, range_with_len, slice_get}
-use Rattle.std.specs.declared.cmp.Ordering.{Ordering}
-use Rattle.std.specs.declared.cmp.Ordering.TheVariants.{Less, Equal, Greater}
-use Rattle.std.specs.Ordering.{nat_cmp, ordering_then}
-use Rattle.std.proofs.lemmas.Bool.{false≢true, true≢false}
-use Rattle.std.proofs.lemmas.Bool.Decides.{nat_tests}
+use Rattle.std.proofs.Common.{◌≡◌, ◌≤◌, ℕ, ℤ, pos, ◌+ℤ◌, ◌*ℤ◌, ◌≤ℤ◌, List, length, get_or, slice_index, Contains, map, refl, sym, ap, ◌∙◌, subst, arith}
 use Rattle.std.proofs.lemmas.Int.{ints}
-use Rattle.ps_list.proofs.Members.{nothing, cons_cases, here, there}
 use Rattle.ps_term.specs.declared.row.Row.{Row}
 use Rattle.ps_term.specs.declared.var.Var.{Var}
-use Rattle.ps_term.specs.declared.var.Var.TheVariants.{Global, Local, Havoc}
+use Rattle.ps_term.specs.declared.var.Var.TheVariants.{Local}
 use Rattle.ps_term.specs.Pairs.{IsCanonical, pairs_value, coefficient}
 use Rattle.ps_term.specs.Row.{Holds}
-use Rattle.ps_term.specs.Tightened.{IsTightened}
-use Rattle.ps_term.specs.Whole.{IsCeiling}
 use Rattle.ps_atom.specs.Atoms.{at_threads, HoldsAt}
-use Rattle.ps_atom.specs.Canonical.{HasSlots, IsInSlots, IsCanonicalOf, IsCanonicalPredicate}
-use Rattle.ps_atom.specs.Numbers.{IsNumberOf}
-use Rattle.ps_atom.specs.Places.{HasForm}
+use Rattle.ps_atom.specs.Canonical.{HasSlots, IsInSlots, IsCanonicalOf}
 use Rattle.ps_atom.specs.Slots.{placed}
-use Rattle.ps_atom.specs.Threads.{local_pairs, pairs_cmp, thread_cmp, Occurs, AreSlots}
+use Rattle.ps_atom.specs.Threads.{local_pairs}
 use Rattle.ps_atom.specs.declared.predicate.Predicate.{Predicate}
-use Rattle.ps_atom.proofs.Counts.{IsOnce}
 use Rattle.ps_atom.proofs.Parts.{slot_of, slotted, AreAmong, placed_worth, placed_canonical}
 use Rattle.ps_atom.proofs.Slotting.{among, from_among, placed_slots, same_slots, same_worth, slot_of-found, slots_once, slots_unique}
 use Rattle.ps_atom.proofs.Tightness.{multiple_tight, same_tight}

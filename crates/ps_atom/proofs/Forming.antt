@@ -1,7 +1,7 @@
 -- The form of a row that sorted shares give.
-use Rattle.std.proofs.Common.{◌≡◌, ◌≢◌, ◌+◌, ◌<◌, ◌≤◌, ℕ, ℤ, pos, List, [], ◌∷◌, length, Contains, map, refl, sym, ap, ◌∙◌, subst, suc, arith}
+use Rattle.std.proofs.Common.{◌≡◌, ◌≤◌, ℕ, ℤ, List, [], ◌∷◌, length, map, refl, sym, ap, ◌∙◌, subst, suc, arith}
 use Rattle.std.specs.List.{AllByRecursion}
-use Rattle.std.specs.List.Sorted.{IsStrictlyIncreasing, IsPermutation}
+use Rattle.std.specs.List.Sorted.{IsStrictlyIncreasing}
 use Rattle.std.proofs.lemmas.List.Elements.{recursion_from_All}
 use Rattle.std.proofs.lemmas.List.Sorted.{Contains-permutation, IsPermutation-sym, length_permutation}
 use Rattle.ps_term.specs.declared.row.Row.{Row}
@@ -10,11 +10,10 @@ use Rattle.ps_term.specs.Pairs.{IsCanonical}
 use Rattle.ps_atom.specs.Canonical.{IsInSlots, HasSlots}
 use Rattle.ps_atom.specs.Shares.{AreShares, IsShare}
 use Rattle.ps_atom.specs.Slots.{placed}
-use Rattle.ps_atom.specs.Threads.{AreOccurring, AreSlots, local_pairs, Occurs}
-use Rattle.ps_atom.specs.declared.predicate.Predicate.{Predicate}
+use Rattle.ps_atom.specs.Threads.{AreOccurring, AreSlots, local_pairs}
 use Rattle.ps_atom.specs.declared.share.Share.{Share}
 use Rattle.ps_atom.proofs.Chains.{rising_from_increasing}
-use Rattle.ps_atom.proofs.Counts.{IsOnce, once_from_rising, once_permuted}
+use Rattle.ps_atom.proofs.Counts.{once_from_rising, once_permuted}
 use Rattle.ps_atom.proofs.Orders.{shares_are, shares_ordered}
 use Rattle.ps_atom.proofs.Parts.{placed_canonical}
 use Rattle.ps_atom.proofs.Slotting.{among, placed_slots, slots_once}

@@ -1,9 +1,9 @@
 -- The index of a table follows its list.
-use Rattle.std.proofs.Common.{◌≡◌, ◌≢◌, ◌⊎◌, ◌+◌, ◌<◌, ◌≤◌, ℕ, Bool, true, false, cond, List, [], ◌∷◌, ◌++◌, length, get_or, Option, Some, None, is_some, length-append, length-take, take, min, Contains, if◌then◌else◌, refl, sym, ap, ap₂, ◌∙◌, subst, inl, inr, suc, zero, arith}
+use Rattle.std.proofs.Common.{◌≡◌, ◌≢◌, ◌⊎◌, ◌+◌, ◌<◌, ℕ, Bool, true, false, cond, List, [], ◌∷◌, ◌++◌, length, get_or, Option, Some, None, is_some, length-append, length-take, take, Contains, if◌then◌else◌, refl, sym, ap, ◌∙◌, subst, inl, inr, suc, zero, arith}
 use Rattle.std.specs.List.{position_from, slice_get}
 use Rattle.std.proofs.lemmas.Bool.{false≢true, true≢false}
 use Rattle.std.proofs.lemmas.List.{take_more}
-use Rattle.ps_list.proofs.Members.{nothing, cons_cases, here, there}
+use Rattle.ps_list.proofs.Members.{nothing, cons_cases}
 use Rattle.indexmap.specs.IndexMap.{get}
 use Rattle.ps_atom.specs.declared.key.Key.{Key}
 use Rattle.ps_atom.specs.declared.predicate.Predicate.{Predicate}

@@ -1,12 +1,11 @@
 -- The list of pairs of a thread is told by the coefficients of its locals.
-use Rattle.std.proofs.Common.{◌≡◌, ◌≢◌, ◌==◌, ℕ, ℤ, pos, ◌+ℤ◌, Bool, true, false, List, [], ◌∷◌, Some, None, map, if◌then◌else◌, refl, sym, ap, ap₂, ◌∙◌, subst, suc, zero, arith}
+use Rattle.std.proofs.Common.{◌≡◌, ◌==◌, ℕ, ℤ, pos, ◌+ℤ◌, Bool, true, false, List, [], ◌∷◌, Some, None, map, if◌then◌else◌, refl, sym, ap, ◌∙◌, subst, arith}
 use Rattle.std.specs.List.{cons_option}
 use Rattle.std.proofs.lemmas.Bool.Decides.{nat_tests}
 use Rattle.std.proofs.lemmas.Int.{ints}
 use Rattle.ps_term.specs.declared.var.Var.{Var}
 use Rattle.ps_term.specs.declared.var.Var.TheVariants.{Global, Local, Havoc}
 use Rattle.ps_term.specs.Pairs.{IsCanonical, coefficient}
-use Rattle.ps_term.specs.Var.{var_eq}
 use Rattle.ps_term.proofs.Uniqueness.{same_coefficients}
 use Rattle.ps_atom.specs.Slots.{in_slot}
 use Rattle.ps_atom.specs.Threads.{local_pairs}

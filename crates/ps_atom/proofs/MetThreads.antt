@@ -1,19 +1,17 @@
 -- The threads that are met in canonical pairs are those that occur, ascending.
-use Rattle.std.proofs.Common.{◌≡◌, ◌≢◌, ◌⊎◌, ◌==◌, ◌+◌, ◌<◌, ◌≤◌, ℕ, ℤ, pos, ◌+ℤ◌, Bool, true, false, List, [], ◌∷◌, ◌++◌, length, get_or, Option, Some, None, Contains, if◌then◌else◌, refl, sym, ap, ◌∙◌, subst, inl, inr, suc, zero, arith}
+use Rattle.std.proofs.Common.{◌≡◌, ◌≢◌, ◌⊎◌, ◌==◌, ◌+◌, ◌<◌, ◌≤◌, ℕ, ℤ, pos, Bool, true, false, List, [], ◌∷◌, Option, Some, None, Contains, if◌then◌else◌, refl, sym, ap, ◌∙◌, subst, inl, inr, suc, zero, arith}
 use Rattle.std.specs.List.{AllByRecursion}
 use Rattle.std.specs.List.Sorted.{IsStrictlyIncreasing}
-use Rattle.std.specs.Option.{option_to_list}
 use Rattle.std.proofs.lemmas.Bool.Decides.{nat_tests}
-use Rattle.std.proofs.lemmas.Int.{ints}
 use Rattle.ps_list.proofs.Members.{nothing, cons_cases, here, there}
 use Rattle.ps_term.specs.declared.var.Var.{Var}
 use Rattle.ps_term.specs.declared.var.Var.TheVariants.{Global, Local, Havoc}
 use Rattle.ps_term.specs.Var.{var_lt, var_eq}
-use Rattle.ps_term.specs.Pairs.{IsBelow, IsCanonical, coefficient}
+use Rattle.ps_term.specs.Pairs.{IsCanonical, coefficient}
 use Rattle.ps_term.proofs.Variables.{var_eq-true}
 use Rattle.ps_term.proofs.Canonical.{IsBelowAll, IsBelowAll-canonical, coefficient-other, coefficient-below}
 use Rattle.ps_term.proofs.Uniqueness.{coefficient-first}
-use Rattle.ps_atom.specs.Slots.{next_thread, latest, threads_after}
+use Rattle.ps_atom.specs.Slots.{next_thread, threads_after}
 use Rattle.ps_atom.specs.Threads.{Occurs}
 
 -- each number is below all later ones

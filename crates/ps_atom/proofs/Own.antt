@@ -1,5 +1,5 @@
 -- A canonical predicate is the canonical one of its own row; and a new one that is pushed has the last number.
-use Rattle.std.proofs.Common.{◌≡◌, ◌≢◌, ◌⊎◌, ◌==◌, ◌+◌, ◌*◌, ◌<◌, ◌≤◌, ℕ, ℤ, pos, ◌+ℤ◌, ◌*ℤ◌, ◌≤ℤ◌, Bool, true, false, List, [], ◌∷◌, ◌++◌, Some, length, get_or, slice_index, AllPairs, Contains, unsigned_abs, refl, sym, ap, ap₂, ◌∙◌, subst, inl, inr, suc, zero, arith}
+use Rattle.std.proofs.Common.{◌≡◌, ◌<◌, ℕ, ℤ, pos, Bool, true, false, List, [], ◌∷◌, ◌++◌, Some, length, get_or, slice_index, Contains, unsigned_abs, refl, sym, ap, ap₂, ◌∙◌, subst, inl, inr, suc, zero, arith}
 use Rattle.std.specs.Int.{◌∣◌}
 use Rattle.std.specs.List.{AllByRecursion, range_with_len, slice_get}
 use Rattle.std.specs.declared.cmp.Ordering.{Ordering}
@@ -13,7 +13,7 @@ use Rattle.std.proofs.lemmas.Nat.Gcd.{dvd-zero}
 use Rattle.std.proofs.lemmas.Option.{get_or_from_slice_get}
 use Rattle.ps_term.specs.declared.row.Row.{Row}
 use Rattle.ps_term.specs.declared.var.Var.{Var}
-use Rattle.ps_term.specs.declared.var.Var.TheVariants.{Global, Local, Havoc}
+use Rattle.ps_term.specs.declared.var.Var.TheVariants.{Local}
 use Rattle.ps_term.specs.Factors.{DividesAll}
 use Rattle.ps_term.specs.Pairs.{IsCanonical, coefficient}
 use Rattle.ps_term.specs.Tightened.{IsTightened}
@@ -23,7 +23,7 @@ use Rattle.ps_term.proofs.Canonical.{coefficient-other}
 use Rattle.ps_term.proofs.Ring.{one-mul}
 use Rattle.ps_term.proofs.Uniqueness.{coefficient-first}
 use Rattle.ps_term.proofs.Variables.{var_eq-true}
-use Rattle.ps_atom.specs.Canonical.{HasSlots, IsInSlots, IsCanonicalOf, IsCanonicalPredicate}
+use Rattle.ps_atom.specs.Canonical.{HasSlots, IsCanonicalOf, IsCanonicalPredicate}
 use Rattle.ps_atom.specs.Numbers.{IsNumberOf}
 use Rattle.ps_atom.specs.Threads.{local_pairs, pairs_cmp, thread_cmp, Occurs, AreSlots}
 use Rattle.ps_atom.specs.declared.predicate.Predicate.{Predicate}

@@ -1,17 +1,17 @@
 -- Canonical pairs with slots put for their threads: they are canonical, and what they are worth.
-use Rattle.std.proofs.Common.{◌≡◌, ◌≢◌, ◌⊎◌, ◌==◌, ◌+◌, ◌<◌, ◌≤◌, ℕ, ℤ, pos, ◌+ℤ◌, ◌*ℤ◌, Bool, true, false, cond, List, [], ◌∷◌, ◌++◌, length, get_or, Contains, Some, None, append_assoc, filter, map, if◌then◌else◌, refl, sym, ap, ap₂, ◌∙◌, subst, inl, inr, suc, zero, arith}
+use Rattle.std.proofs.Common.{◌≡◌, ◌≢◌, ◌⊎◌, ◌==◌, ◌+◌, ◌≤◌, ℕ, ℤ, pos, ◌+ℤ◌, ◌*ℤ◌, Bool, true, false, cond, List, [], ◌∷◌, ◌++◌, Contains, Some, None, append_assoc, filter, map, if◌then◌else◌, refl, sym, ap, ◌∙◌, subst, inl, inr, arith}
 use Rattle.std.specs.List.{AllByRecursion, cons_option}
 use Rattle.std.proofs.lemmas.Bool.{false≢true, true≢false}
 use Rattle.std.proofs.lemmas.Bool.Decides.{nat_tests}
 use Rattle.std.proofs.lemmas.Int.{ints}
-use Rattle.ps_list.proofs.Members.{nothing, cons_cases, here, there}
+use Rattle.ps_list.proofs.Members.{nothing, cons_cases}
 use Rattle.ps_term.specs.declared.var.Var.{Var}
 use Rattle.ps_term.specs.declared.var.Var.TheVariants.{Global, Local, Havoc}
-use Rattle.ps_term.specs.Var.{var_lt, var_eq}
-use Rattle.ps_term.specs.Pairs.{IsBelow, IsCanonical, pairs_value, coefficient}
+use Rattle.ps_term.specs.Var.{var_lt}
+use Rattle.ps_term.specs.Pairs.{IsBelow, IsCanonical, pairs_value}
 use Rattle.ps_term.proofs.Canonical.{IsBelowAll, IsBelowAll-canonical, pairs_value-append}
 use Rattle.ps_atom.specs.Slots.{is_global, is_havoc, in_slot, in_slots, placed}
-use Rattle.ps_atom.specs.Threads.{local_pairs, own_pair, Occurs}
+use Rattle.ps_atom.specs.Threads.{local_pairs}
 use Rattle.ps_atom.proofs.Counts.{IsOnce, once-tail, once-first}
 
 -- ---- canonical

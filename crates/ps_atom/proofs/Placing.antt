@@ -1,17 +1,17 @@
 -- Rows and their tightened rows: the same threads, and so the same places.
-use Rattle.std.proofs.Common.{◌≡◌, ◌≢◌, ◌⊎◌, ◌+◌, ◌*◌, ◌<◌, ◌≤◌, ℕ, ℤ, pos, negsuc, Bool, true, false, ◌==◌, ◌+ℤ◌, ◌*ℤ◌, List, [], ◌∷◌, length, Contains, refl, sym, ap, ◌∙◌, subst, suc, zero, arith}
+use Rattle.std.proofs.Common.{◌≡◌, ◌≢◌, ◌≤◌, ℕ, ℤ, pos, negsuc, Bool, true, false, ◌==◌, ◌*ℤ◌, List, [], ◌∷◌, length, refl, sym, ap, ◌∙◌, suc, zero, arith}
 use Rattle.std.proofs.lemmas.Bool.{true≢false}
 use Rattle.std.proofs.lemmas.Bool.Decides.{nat_tests}
 use Rattle.std.proofs.lemmas.Int.{ints}
 use Rattle.ps_term.specs.declared.row.Row.{Row}
 use Rattle.ps_term.specs.declared.var.Var.{Var}
-use Rattle.ps_term.specs.declared.var.Var.TheVariants.{Global, Local, Havoc}
+use Rattle.ps_term.specs.declared.var.Var.TheVariants.{Local}
 use Rattle.ps_term.specs.Pairs.{IsCanonical, coefficient}
 use Rattle.ps_term.specs.Tightened.{IsTightened}
 use Rattle.ps_term.proofs.Ring.{mul-zero}
-use Rattle.ps_atom.specs.Canonical.{IsInSlots, IsCanonicalOf}
+use Rattle.ps_atom.specs.Canonical.{IsInSlots}
 use Rattle.ps_atom.specs.Places.{HasForm, IsEndOf, IsFormEnd, IsArityOf}
-use Rattle.ps_atom.specs.Threads.{AreOccurring, Occurs, HasThreads}
+use Rattle.ps_atom.specs.Threads.{AreOccurring, Occurs}
 use Rattle.ps_atom.specs.declared.predicate.Predicate.{Predicate}
 use Rattle.ps_atom.specs.declared.place.PlaceEnd.{PlaceEnd}
 use Rattle.ps_atom.specs.declared.place.PlaceEnd.TheVariants.{Arity, Full, Memory}

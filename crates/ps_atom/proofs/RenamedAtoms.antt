@@ -1,5 +1,5 @@
 -- Atoms with their threads renamed.
-use Rattle.std.proofs.Common.{◌≡◌, ◌≢◌, ◌+◌, ◌<◌, ℕ, ℤ, pos, ◌+ℤ◌, ◌≤ℤ◌, List, [], ◌∷◌, length, get_or, AllPairs, All, Contains, map, refl, sym, ap, ◌∙◌, subst, arith}
+use Rattle.std.proofs.Common.{◌≡◌, ◌≢◌, ℕ, ℤ, pos, ◌+ℤ◌, ◌≤ℤ◌, List, [], ◌∷◌, length, AllPairs, All, Contains, map, refl, sym, ap, subst}
 use Rattle.std.specs.List.{AllByRecursion}
 use Rattle.std.proofs.lemmas.List.{get_or-map}
 use Rattle.std.proofs.lemmas.List.Elements.{recursion_from_All}
@@ -8,7 +8,7 @@ use Rattle.ps_term.specs.declared.var.Var.{Var}
 use Rattle.ps_term.specs.declared.var.Var.TheVariants.{Global, Local, Havoc}
 use Rattle.ps_term.specs.Pairs.{pairs_value}
 use Rattle.ps_atom.specs.Atoms.{at_threads, HoldsAt, IsInjectiveOn, IsOfSlots, renamed_variable}
-use Rattle.ps_atom.proofs.Chains.{IsChain, chain_from_pairs, pairs_from_chain}
+use Rattle.ps_atom.proofs.Chains.{chain_from_pairs, pairs_from_chain}
 use Rattle.ps_atom.proofs.Renamings.{all_contained, chain_mapped}
 use Rattle.ps_atom.proofs.Slotting.{same_worth}
 

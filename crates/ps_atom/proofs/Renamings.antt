@@ -1,5 +1,5 @@
 -- A row and a renaming of it have one canonical predicate.
-use Rattle.std.proofs.Common.{◌≡◌, ◌≢◌, ◌⊎◌, ◌==◌, ◌+◌, ◌<◌, ◌≤◌, ℕ, ℤ, pos, ◌+ℤ◌, ◌*ℤ◌, Bool, true, false, List, [], ◌∷◌, length, get_or, slice_index, AllPairs, Contains, map, refl, sym, ap, ap₂, ◌∙◌, subst, inl, inr, suc, zero, arith}
+use Rattle.std.proofs.Common.{◌≡◌, ◌≢◌, ◌⊎◌, ◌<◌, ◌≤◌, ℕ, ℤ, pos, ◌*ℤ◌, false, List, [], ◌∷◌, length, get_or, slice_index, Contains, map, refl, sym, ap, ap₂, ◌∙◌, subst, inl, inr, suc, arith}
 use Rattle.std.specs.List.{AllByRecursion}
 use Rattle.std.specs.List.Sorted.{IsPermutation}
 use Rattle.std.specs.Ordering.{nat_cmp, ordering_then, is_gt}
@@ -14,9 +14,8 @@ use Rattle.ps_term.specs.declared.var.Var.TheVariants.{Global, Local, Havoc}
 use Rattle.ps_term.specs.Pairs.{IsCanonical, coefficient}
 use Rattle.ps_term.specs.Tightened.{IsTightened}
 use Rattle.ps_term.specs.Whole.{IsCeiling}
-use Rattle.ps_term.proofs.Ring.{mul-zero}
 use Rattle.ps_term.proofs.Uniqueness.{same_coefficients}
-use Rattle.ps_atom.specs.Canonical.{HasSlots, IsInSlots, IsCanonicalOf}
+use Rattle.ps_atom.specs.Canonical.{IsInSlots, IsCanonicalOf}
 use Rattle.ps_atom.specs.Renaming.{IsRenaming}
 use Rattle.ps_atom.specs.Slots.{in_slot}
 use Rattle.ps_atom.specs.Threads.{local_pairs, pairs_cmp, thread_cmp, Occurs, AreSlots}

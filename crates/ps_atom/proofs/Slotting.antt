@@ -1,26 +1,23 @@
 -- The placed pairs of a row have the coefficients of its slots, and no other canonical pairs have them.
 use Rattle.std.proofs.Common.{◌≡◌, ◌≢◌, ◌⊎◌, ◌==◌, ◌+◌, ◌<◌, ◌≤◌, ℕ, ℤ, pos, ◌+ℤ◌, ◌*ℤ◌, Bool, true, false, List, [], ◌∷◌, length, get_or, slice_index, AllPairs, Contains, map, if◌then◌else◌, refl, sym, ap, ap₂, ◌∙◌, subst, inl, inr, suc, zero, arith}
 use Rattle.std.specs.List.{AllByRecursion}
-use Rattle.std.specs.declared.cmp.Ordering.TheVariants.{Less, Equal, Greater}
-use Rattle.std.proofs.lemmas.Bool.{false≢true, true≢false}
+use Rattle.std.specs.declared.cmp.Ordering.TheVariants.{Less, Equal}
+use Rattle.std.proofs.lemmas.Bool.{true≢false}
 use Rattle.std.proofs.lemmas.Bool.Decides.{nat_tests}
 use Rattle.std.proofs.lemmas.Cmp.{tied_itself}
-use Rattle.std.proofs.lemmas.Int.{ints}
-use Rattle.ps_list.proofs.Members.{nothing, cons_cases, here, there}
+use Rattle.ps_list.proofs.Members.{nothing, cons_cases}
 use Rattle.ps_term.specs.declared.var.Var.{Var}
 use Rattle.ps_term.specs.declared.var.Var.TheVariants.{Global, Local, Havoc}
-use Rattle.ps_term.specs.Var.{var_lt, var_eq}
-use Rattle.ps_term.specs.Pairs.{IsBelow, IsCanonical, pairs_value, coefficient}
-use Rattle.ps_term.proofs.Uniqueness.{unit_at, pairs_value-unit_at, pairs_value-zero, same_coefficients, coefficient-first}
-use Rattle.ps_atom.specs.Atoms.{at_threads}
+use Rattle.ps_term.specs.Pairs.{IsCanonical, pairs_value, coefficient}
+use Rattle.ps_term.proofs.Uniqueness.{unit_at, pairs_value-unit_at, pairs_value-zero, same_coefficients}
 use Rattle.ps_atom.specs.Canonical.{HasSlots}
 use Rattle.ps_atom.specs.Slots.{placed}
-use Rattle.ps_atom.specs.Threads.{local_pairs, Occurs, AreOccurring, AreSlots, thread_cmp}
+use Rattle.ps_atom.specs.Threads.{local_pairs, Occurs, AreSlots, thread_cmp}
 use Rattle.ps_atom.proofs.Chains.{IsChain, chain_from_pairs, once_from_chain, same_chain}
 use Rattle.ps_atom.proofs.Counts.{IsOnce, once-tail, once-first}
 use Rattle.ps_atom.proofs.MetThreads.{occurs_first, occurs_later}
 use Rattle.ps_atom.proofs.Orders.{thread_total}
-use Rattle.ps_atom.proofs.Parts.{slot_of, slotted, AreAmong, placed_worth, placed_canonical}
+use Rattle.ps_atom.proofs.Parts.{slot_of, slotted, AreAmong, placed_worth}
 
 -- ---- slots of threads
 pub slot_of-found : (k : ℕ) (ts : List ℕ) (t : ℕ) → Contains ts t → (i : ℕ) × (slot_of k ts t ≡ k + i) × (i < length ts) × (get_or ts i 0 ≡ t)

@@ -1,10 +1,9 @@
 -- The canonical predicate of a row.
-use Rattle.std.specs.Prelude.{◌≡◌, ◌≢◌, ℕ, ◌<◌, ◌≤◌, ℤ, pos, List, [], length, slice_index}
+use Rattle.std.specs.Prelude.{◌≡◌, ℕ, ◌<◌, ◌≤◌, ℤ, pos, List, length, slice_index}
 use Rattle.std.specs.List.{range_with_len}
 use Rattle.ps_term.specs.Pairs.{coefficient, IsCanonical}
 use Rattle.ps_term.specs.Tightened.{IsTightened}
 use Rattle.ps_term.specs.declared.row.Row.{Row}
-use Rattle.ps_term.specs.declared.term.Term.{Term}
 use Rattle.ps_term.specs.declared.var.Var.{Var}
 use Rattle.ps_term.specs.declared.var.Var.TheVariants.{Global, Local, Havoc}
 use Rattle.ps_atom.specs.declared.predicate.Predicate.{Predicate}

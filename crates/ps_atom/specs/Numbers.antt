@@ -1,5 +1,5 @@
 -- The table of predicates as a list.
-use Rattle.std.specs.Prelude.{◌≡◌, ◌≢◌, ℕ, ◌<◌, ◌≤◌, pos, List, [], Some, length, slice_get, Contains}
+use Rattle.std.specs.Prelude.{◌≡◌, ◌≢◌, ℕ, ◌<◌, ◌≤◌, pos, List, [], Some, length, slice_get}
 use Rattle.ps_atom.specs.declared.predicate.Predicate.{Predicate}
 
 -- the predicate `1 <= 0`, which no values satisfy

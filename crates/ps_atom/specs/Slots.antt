@@ -3,7 +3,6 @@ use Rattle.std.specs.Prelude.{ℕ, ℤ, ◌+◌, Bool, true, false, List, [], �
 use Rattle.std.specs.Option.{option_to_list}
 use Rattle.ps_term.specs.declared.var.Var.{Var}
 use Rattle.ps_term.specs.declared.var.Var.TheVariants.{Global, Local, Havoc}
-use Rattle.ps_atom.specs.Threads.{local_pairs}
 
 -- the variable is a global
 abbrev pub is_global : Var → Bool

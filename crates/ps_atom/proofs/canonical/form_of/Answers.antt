@@ -1,4 +1,4 @@
-use Rattle.std.proofs.Common.{ℕ, ℤ, List, length, vec_len, min, ◌-◌, ◌^◌, ap, ◌∙◌, sym, subst, arith}
+use Rattle.std.proofs.Common.{ℕ, ℤ, List, vec_len, min, ◌-◌, ◌^◌, ap, ◌∙◌, sym, subst, arith}
 use Rattle.ps_term.specs.declared.var.Var.{Var}
 use Rattle.ps_atom.specs.Threads.{AreOccurring}
 use Rattle.ps_atom.proofs.canonical.form_of.Goals as goal

@@ -1,4 +1,4 @@
-use Rattle.std.proofs.Common.{◌≡◌, None, sym, ap, ◌∙◌, subst}
+use Rattle.std.proofs.Common.{sym, ap, ◌∙◌, subst}
 use Rattle.indexmap.specs.IndexMap.{get}
 use Rattle.ps_atom.specs.Index.{key_of, IsNoted}
 use Rattle.ps_atom.specs.Keys.{key_eq}

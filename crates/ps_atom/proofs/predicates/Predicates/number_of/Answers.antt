@@ -1,4 +1,4 @@
-use Rattle.std.proofs.Common.{◌≡◌, ◌≢◌, ◌<◌, ℕ, List, [], Some, None, Contains, length, sym, ap, ◌∙◌, subst, arith}
+use Rattle.std.proofs.Common.{◌≡◌, ◌≢◌, ◌<◌, List, [], Some, None, Contains, length, sym, ap, ◌∙◌, subst, arith}
 use Rattle.ps_atom.specs.Index.{key_of, least}
 use Rattle.ps_atom.specs.Numbers.{IsNumberOf}
 use Rattle.ps_atom.specs.declared.predicate.Predicate.{Predicate}
