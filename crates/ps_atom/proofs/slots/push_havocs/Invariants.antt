@@ -1,0 +1,6 @@
+use Rattle.std.proofs.Common.{◌≡◌, ◌++◌, filter, take}
+use Rattle.ps_atom.specs.Slots.{is_havoc}
+use Rattle.ps_atom.proofs.slots.push_havocs.Given as goal
+
+abbrev pub invariant-loop-pair : goal.invariant-loop-pair
+invariant-loop-pair l = l.list.items ≡ l.initial.list.items ++ filter (λ pair. is_havoc pair.0) (take l.pair-index l.pairs)

@@ -1,0 +1,13 @@
+pub mod Atoms
+pub mod Canonical
+pub mod Index
+pub mod KeyLaws
+pub mod Keys
+pub mod Numbers
+pub mod Places
+pub mod Range
+pub mod Renaming
+pub mod Says
+pub mod Shares
+pub mod Slots
+pub mod Threads
