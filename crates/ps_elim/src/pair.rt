@@ -109,6 +109,9 @@ fn weighted_row(alloc: Global, weights: Weights, p: &Row, q: &Row) -> Result<Row
     ensures past { IsErrOf result TermEnd.Past128 → ¬ RowFits weights.first p.now weights.second q.now }
 {
     let first = within_signed(weights.first).ok_or(TermEnd::Past128)? as i128;
+    // The proof takes from these calls that each variable stands once.
+    let _first_pairs = p.term.pairs.as_slice();
+    let _second_pairs = q.term.pairs.as_slice();
     let none = Term::from_constant(alloc, 0);
     let part = add_scaled(alloc, &none, first, &p.term)?;
     let term = add_scaled(alloc, &part, weights.second as i128, &q.term)?;
