@@ -1,3 +1,4 @@
+pub mod Bits
 mod Examples
 pub mod Gcds
 pub mod Kept

@@ -1,7 +1,6 @@
 // The vector that an elimination answers.
-ghost use Rattle.std.specs.Prelude.{◌≡◌, ◌≤ℤ◌, pos, All, Contains, IsTrue, MatchOption, IfSome, IfNone};
-ghost use Rattle.ps_elim.specs.Choosing.{IsLeastAmong, IsPositive};
-ghost use Rattle.ps_elim.specs.Supports.{is_less};
+ghost use Rattle.std.specs.Prelude.{◌≡◌, ◌≤ℤ◌, pos, All, IfSome, IfNone, option_copied};
+ghost use Rattle.ps_elim.specs.Choosing.{IsLeastAmong, lesser_of};
 
 use crate::filter::is_less;
 use crate::weighted::Weighted;
@@ -22,7 +21,9 @@ pub(crate) fn least_refutation(set: &[Weighted]) -> Option<&Weighted>
 }
 
 // This one, or the best so far where it isn't less than that.
-fn lesser<'a>(best: Option<&'a Weighted>, weighted: &'a Weighted) -> &'a Weighted {
+fn lesser<'a>(best: Option<&'a Weighted>, weighted: &'a Weighted) -> &'a Weighted
+    ensures { result.now ≡ lesser_of (option_copied best.entry) weighted.now }
+{
     match best {
         Some(so_far) => {
             if is_less(weighted.vector.as_slice(), so_far.vector.as_slice()) {

@@ -124,5 +124,13 @@ fn differs(other: &Weighted, weighted: &Weighted) -> bool
 pub(crate) fn is_less(vector: &[u128], other: &[u128]) -> bool
     ensures { result ≡ is_less vector.now other.now }
 {
-    vector < other
+    for (at, entry) in vector.iter().enumerate() {
+        if at >= other.len() {
+            return false;
+        }
+        if *entry != other[at] {
+            return *entry < other[at];
+        }
+    }
+    vector.len() < other.len()
 }

@@ -1,8 +1,5 @@
-use Rattle.std.proofs.Common.{rules, ◌≡◌, ◌≤◌, ◌<◌, ◌/◌, ◌↔◌, ℕ, length, IfOk, IsTrue, ◌+◌, ◌-◌, ◌*◌, ◌%◌, Bool, true, false, nat_eq, nat_lt, List, [], ◌∷◌, ◌++◌, slice_index_or, slice_set, bit_and, bit_or, Fits, w8, w32, w64, Bor, MutBor}
-use Rattle.std.specs.Int.{bit_at}
-use Rattle.ps_elim.specs.Words.{AreWordsOf, IsMarked, IsPartOf}
+use Rattle.ps_elim.proofs.Bits.{IsMarked-set}
 use Rattle.ps_elim.proofs.words.mark.Goals as goal
 
--- src/words.rt:26:1
 pub returns-clause-marked : goal.returns-clause-marked
-returns-clause-marked c = ?
+returns-clause-marked c = IsMarked-set c.args.words.now c.args.place c.requires
