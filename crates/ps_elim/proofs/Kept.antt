@@ -53,7 +53,7 @@ length-marked (m ∷ ms) [] = omega arith
 length-marked (m ∷ ms) (x ∷ xs) = omega (arith, length_if m x (marked ms xs) (length xs) (length-marked ms xs))
 
 pub all_kept : (P : List ℕ → Type 0) (vs : List (List ℕ)) → AllByRecursion P vs → AllByRecursion P (kept vs)
-all_kept P vs h = rw kept-marked vs (all_marked P (staying vs) vs h)
+all_kept P vs h = subst (λ (us : List (List ℕ)). AllByRecursion P us) (sym (kept-marked vs)) (all_marked P (staying vs) vs h)
 
 pub length-staying_after : (before after : List (List ℕ)) → length (staying_after before after) ≡ length after
 length-staying_after before [] = refl

@@ -1,9 +1,13 @@
 pub mod Bits
+pub mod Choosing
+pub mod Eliminating
 mod Examples
 pub mod Gcds
 pub mod Kept
 pub mod Order
+pub mod Pairing
 pub mod Rows
 pub mod Sums
 pub mod Units
+pub mod Vanishing
 pub mod Zipping

@@ -37,5 +37,5 @@ unit_sum rows n i d h e = record {
   constant = sym (weighted-unit (λ t. t.constant) rows n i d h e);
 }
 
-pub unit_long : (n i : ℕ) → length (set (replicate n 0) i 1) ≡ n
-unit_long n i = length-set (replicate n 0) i 1 ∙ length-replicate n 0
+pub unit_long : (n i : ℕ) → length {A = ℕ} (set (replicate n 0) i 1) ≡ n
+unit_long n i = length-set {A = ℕ} (replicate n 0) i 1 ∙ length-replicate {A = ℕ} n 0

@@ -48,7 +48,8 @@ pub(crate) fn combined(
 // The least weights with which the variable vanishes in the sum of the two rows.
 fn weights_of(variable: Var, p: &Row, q: &Row) -> Weights
     requires { pos 0 <ℤ coefficient variable p.now.term.pairs }
-    ensures { AreWeights variable p.now q.now result }
+    ensures weights { AreWeights variable p.now q.now result }
+    ensures small { result.second < 2 ^ 127 }
 {
     let first_size = p.term.pairs.coefficient(variable).unsigned_abs();
     let second_size = q.term.pairs.coefficient(variable).unsigned_abs();

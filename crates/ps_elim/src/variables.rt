@@ -12,8 +12,8 @@ pub(crate) fn variables(alloc: Global, rows: &[Row]) -> Result<Vec<Var>, AllocEr
     ensures { IfOk result (λ list. list.items ≡ variables rows.now) }
 {
     let mut found = BTreeSet::new(alloc);
-    for row in rows.iter().rev() {
-        add_variables(row.term.pairs.as_slice(), &mut found)?;
+    for at in (0..rows.len()).rev() {
+        add_variables(rows[at].term.pairs.as_slice(), &mut found)?;
     }
     listed(alloc, found)
 }
@@ -21,8 +21,8 @@ pub(crate) fn variables(alloc: Global, rows: &[Row]) -> Result<Vec<Var>, AllocEr
 fn add_variables(pairs: &[(Var, i128)], found: &mut BTreeSet<Var>) -> Result<(), AllocError>
     ensures { OnOk result (found.new.keys ≡ with_variables pairs.now found.old.keys) }
 {
-    for pair in pairs.iter().rev() {
-        found.insert(pair.0)?;
+    for at in (0..pairs.len()).rev() {
+        found.insert(pairs[at].0)?;
     }
     Ok(())
 }

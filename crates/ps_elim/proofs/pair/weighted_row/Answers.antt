@@ -1,4 +1,4 @@
-use Rattle.std.proofs.Common.{◌≡◌, ◌<◌, ◌^◌, ℕ, ℤ, pos, ◌+ℤ◌, ◌*ℤ◌, to_z, Option, Some, Err, IsErrOf, SomeIff, List, subst, subst₂, sym, ap, arith}
+use Rattle.std.proofs.Common.{◌≡◌, ◌<◌, ◌^◌, ℕ, ℤ, pos, ◌+ℤ◌, ◌*ℤ◌, to_z, Option, Some, SomeIff, List, subst, subst₂, sym, ap, arith}
 use Rattle.std.specs.Int.{w128}
 use Rattle.std.proofs.lemmas.Int.{ints}
 use Rattle.std.proofs.lemmas.Result.{err_from_is_err_and}
@@ -7,6 +7,7 @@ use Rattle.ps_term.specs.declared.term.TermEnd.TheVariants.{Past128}
 use Rattle.ps_term.specs.declared.var.Var.{Var}
 use Rattle.ps_term.specs.Pairs.{IsCanonical, coefficient}
 use Rattle.ps_term.specs.Sums.{TermFits}
+use Rattle.ps_elim.proofs.Pairing.{same_error}
 use Rattle.ps_elim.proofs.Rows.{IsPart, part_of, first_fits, second_fits, both_fit}
 use Rattle.ps_elim.proofs.pair.weighted_row.Goals as goal
 
@@ -15,10 +16,6 @@ converted : (m n : ℕ) (o : Option ℕ) → SomeIff o (m < 2 ^ 127) m → o ≡
 converted m n o h e =
     let is : (m < 2 ^ 127) × (n ≡ m) = subst (λ (r : Option ℕ). SomeIff r (m < 2 ^ 127) m) e h in
     omega (arith, ints, is.0, is.1)
-
--- an error is the same in two types of results
-same_error : {T U E : Type 0} (e d : E) → IsErrOf {T = T} {E = E} (Err e) d → IsErrOf {T = U} {E = E} (Err e) d
-same_error e d h = let same : e ≡ d = cc in ap (λ x. Err x) same
 
 pub returns-in_err-part-clause-past : goal.returns-in_err-part-clause-past
 returns-in_err-part-clause-past c =

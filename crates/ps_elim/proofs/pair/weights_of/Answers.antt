@@ -6,8 +6,8 @@ use Rattle.ps_elim.specs.Weights.{size_in}
 use Rattle.ps_elim.proofs.Gcds.{common_divisor-swap, gcd_is}
 use Rattle.ps_elim.proofs.pair.weights_of.Goals as goal
 
-pub returns : goal.returns
-returns c =
+pub returns-clause-weights : goal.returns-clause-weights
+returns-clause-weights c =
     let x = c.args.variable in
     let a = size_in x c.args.p.now in
     let b = size_in x c.args.q.now in
