@@ -1,10 +1,10 @@
 -- Bits in words of 64.
-use Rattle.std.proofs.Common.{◌≡◌, ◌≢◌, ◌↔◌, ℕ, zero, suc, ◌+◌, ◌-◌, ◌*◌, ◌/◌, ◌%◌, ◌^◌, ◌<◌, ◌≤◌, min, w64, Bool, true, false, not, ◌&&◌, ◌||◌, ◌==◌, eqb, bit_and, bit_or, List, [], ◌∷◌, length, map, get_or, set, take, if◌then◌else◌, refl, sym, ap, ap₂, ◌∙◌, subst, arith, inl, inr, ◌⊎◌, eqb-true, eq-eqb, Decides, Fits}
+use Rattle.std.proofs.Common.{◌≡◌, ◌≢◌, ◌↔◌, ℕ, zero, suc, ◌+◌, ◌-◌, ◌*◌, ◌/◌, ◌%◌, ◌^◌, ◌<◌, ◌≤◌, min, w64, Bool, true, false, not, ◌&&◌, ◌||◌, ◌==◌, eqb, bit_and, bit_or, List, [], ◌∷◌, ◌++◌, length, map, get_or, set, take, drop, if◌then◌else◌, refl, sym, ap, ap₂, ◌∙◌, subst, arith, inl, inr, ◌⊎◌, eqb-true, eq-eqb, Decides, Fits}
 use Rattle.std.specs.Int.{bit_at, bit_not, div_ceil}
 use Rattle.std.specs.List.{range_with_len}
 use Rattle.std.proofs.lemmas.Bool.{cases_lt, cases_eq, ne_eqb, false≢true, and_parts, and_from}
 use Rattle.std.proofs.lemmas.Bool.Decides.{nat_tests, same_from_decides}
-use Rattle.std.proofs.lemmas.List.{get_or-set_same, get_or-set_other, get_or-take, get_or_past, length-take, same_lists, length-map, get_or-map, take_all}
+use Rattle.std.proofs.lemmas.List.{get_or-set_same, get_or-set_other, get_or-take, get_or_past, length-take, same_lists, length-map, get_or-map, take_all, drop_all, append-nil}
 use Rattle.std.proofs.lemmas.List.FromFn.{get_or-map-range_with_len, length-map-range_with_len}
 use Rattle.std.proofs.lemmas.Nat.Bits.{bit_at_and, bit_at_not, bit_at-zero, bit_at-lt, bit_at_above, same_from_bits, bit_at_set_same, bit_at_set_other}
 use Rattle.ps_elim.specs.Places.{is_part, support_of}
@@ -175,3 +175,14 @@ words_of_part us vs m n h g p k = by_bit (cases_eq (bit_of us k) 1)
 pub part_by_words : (us vs : List ℕ) (m n : ℕ) (t : Bool) → HasPlaces us m → HasPlaces vs n → (t ≡ true) ↔ IsPartOf us vs → t ≡ is_part (bits_of us m) (bits_of vs n)
 part_by_words us vs m n t h g d =
     same_from_decides t (is_part (bits_of us m) (bits_of vs n)) d (λ e. words_of_part us vs m n h g (part_pointwise (bits_of us m) (bits_of vs n) e), λ p. pointwise_part (bits_of us m) (bits_of vs n) (part_of_words us vs m n h g p))
+
+-- supports of one length have as many words
+pub same_words : (us vs : List ℕ) (m n : ℕ) → HasPlaces us m → HasPlaces vs n → length (bits_of us m) ≡ length (bits_of vs n) → length us ≡ length vs
+same_words us vs m n h g e =
+    let same : m ≡ n = sym (length-map-range_with_len (λ j. bit_of us j == 1) 0 m) ∙ (e ∙ length-map-range_with_len (λ j. bit_of vs j == 1) 0 n) in
+    h.enough ∙ (ap (λ (k : ℕ). div_ceil k 64) same ∙ sym g.enough)
+
+-- a slice of all of a list that is written back
+pub written_back : (new old : List ℕ) (n : ℕ) → length new ≡ length old → n ≡ length old → take n (new ++ drop (length new) old) ≡ new
+written_back new old n e f =
+    ap (λ (r : List ℕ). take n (new ++ r)) (drop_all (length new) old (omega (arith, e))) ∙ (ap (λ (r : List ℕ). take n r) (append-nil new) ∙ take_all n new (omega (arith, e, f)))
