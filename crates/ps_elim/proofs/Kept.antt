@@ -1,11 +1,12 @@
 -- The vectors that stay, by marks; and what supports say of them.
 use Rattle.std.proofs.Common.{◌≡◌, ℕ, zero, suc, ◌+◌, ◌<◌, ◌≤◌, Bool, true, false, not, ◌&&◌, ◌||◌, ◌==◌, if◌then◌else◌, List, [], ◌∷◌, ◌++◌, length, map, get_or, take, drop, All, refl, sym, ap, ap₂, ◌∙◌, subst, subst₂, arith, nat_lt}
 use Rattle.std.specs.List.{AllByRecursion}
-use Rattle.std.proofs.lemmas.List.{drop_more, take_more, drop_all, append_assoc, append-nil}
+use Rattle.std.proofs.lemmas.Bool.{false≢true}
+use Rattle.std.proofs.lemmas.List.{drop_more, take_more, drop_all, append_assoc, append-nil, get_or-map, take-map, drop-map}
 use Rattle.std.proofs.lemmas.List.Elements.{All-from_recursion, recursion_from_All}
 use Rattle.ps_elim.specs.Marking.{marked, stays_at, stays_between, staying, staying_after}
 use Rattle.ps_elim.specs.Places.{is_part, support_of}
-use Rattle.ps_elim.specs.Supports.{has_support_of, is_inside, is_less, is_strictly_inside, kept, kept_after}
+use Rattle.ps_elim.specs.Supports.{has_support_of, is_inside, is_less, is_new_after, is_strictly_inside, kept, kept_after, stays_beside}
 use Rattle.ps_elim.specs.Weighing.{vectors_of}
 use Rattle.ps_elim.specs.declared.weighted.Weighted.{Weighted}
 
@@ -88,3 +89,25 @@ strictly_by_supports u v p q t e f h =
 pub same_by_supports : (u v : List ℕ) (p q : List Bool) (t : Bool) → p ≡ support_of u → q ≡ support_of v → t ≡ (is_part p q && is_part q p) → t ≡ has_support_of u v
 same_by_supports u v p q t e f h =
     h ∙ (ap₂ (λ (a b : List Bool). is_part a b && is_part b a) e f ∙ ap₂ (λ (a b : Bool). a && b) (is_part-support_of u v) (is_part-support_of v u))
+
+-- ---- one vector between the others
+pub stays_at-is : (ws : List Weighted) (i : ℕ) (w : Weighted) (a b d : Bool) → i < length ws → w ≡ get_or ws i w → a ≡ stays_beside (vectors_of (take i ws)) w.vector → b ≡ stays_beside (vectors_of (drop (i + 1) ws)) w.vector → d ≡ is_new_after (vectors_of (take i ws)) w.vector → (a && b && d) ≡ stays_at (vectors_of ws) i
+stays_at-is ws i w a b d l is e f g =
+    let here : get_or (vectors_of ws) i [] ≡ w.vector = get_or-map (λ u. u.vector) ws i w [] l ∙ ap (λ (u : Weighted). u.vector) (sym is) in
+    let parts : (a && b && d) ≡ stays_between (vectors_of (take i ws)) w.vector (vectors_of (drop (i + 1) ws)) = ap₂ (λ (p q : Bool). p && q) (ap₂ (λ (p q : Bool). p && q) e f) g in
+    parts ∙ (ap₂ (λ (us vs : List (List ℕ)). stays_between us w.vector vs) (sym (take-map (λ u. u.vector) i ws)) (sym (drop-map (λ u. u.vector) (i + 1) ws)) ∙ ap (λ (v : List ℕ). stays_between (take i (vectors_of ws)) v (drop (i + 1) (vectors_of ws))) (sym here))
+
+-- what one vector says of another, by cases
+pub by_strict : (s r : Bool) → s ≡ true → false ≡ (not s && r)
+by_strict true r e = refl
+by_strict false r e = absurd (false≢true e)
+
+pub by_other : (s h l : Bool) → s ≡ false → h ≡ false → true ≡ (not s && not (h && l))
+by_other false false l e f = refl
+by_other false true l e f = absurd (false≢true (sym f))
+by_other true h l e f = absurd (false≢true (sym e))
+
+pub by_order : (s h l : Bool) → s ≡ false → h ≡ true → not l ≡ (not s && not (h && l))
+by_order false true l e f = refl
+by_order false false l e f = absurd (false≢true f)
+by_order true h l e f = absurd (false≢true (sym e))

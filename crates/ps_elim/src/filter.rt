@@ -61,9 +61,14 @@ fn stays_at(made: &[Weighted], at: usize) -> bool
 {
     let weighted = &made[at];
     let before = &made[..at];
-    stays_beside(before, weighted)
-        && stays_beside(&made[at + 1..], weighted)
-        && is_new_after(before, weighted)
+    let after = &made[at + 1..];
+    if !stays_beside(before, weighted) {
+        return false;
+    }
+    if !stays_beside(after, weighted) {
+        return false;
+    }
+    is_new_after(before, weighted)
 }
 
 fn stays_beside(others: &[Weighted], weighted: &Weighted) -> bool
@@ -90,8 +95,10 @@ fn stays_by(other: &Weighted, weighted: &Weighted) -> bool
     if other.support.strictly_inside(&weighted.support) {
         return false;
     }
-    !other.support.is_same(&weighted.support)
-        || !is_less(other.vector.as_slice(), weighted.vector.as_slice())
+    if !other.support.is_same(&weighted.support) {
+        return true;
+    }
+    !is_less(other.vector.as_slice(), weighted.vector.as_slice())
 }
 
 fn is_new_after(others: &[Weighted], weighted: &Weighted) -> bool
@@ -115,9 +122,12 @@ fn differs(other: &Weighted, weighted: &Weighted) -> bool
     requires weighted { IsWeighted rows weighted.now }
     ensures { result ≡ differs weighted.now.vector other.now.vector }
 {
-    !other.support.is_same(&weighted.support)
-        || is_less(other.vector.as_slice(), weighted.vector.as_slice())
-        || is_less(weighted.vector.as_slice(), other.vector.as_slice())
+    if !other.support.is_same(&weighted.support) {
+        return true;
+    }
+    let vector = weighted.vector.as_slice();
+    let other = other.vector.as_slice();
+    is_less(other, vector) || is_less(vector, other)
 }
 
 // Lexicographic order.
