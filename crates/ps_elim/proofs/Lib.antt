@@ -7,6 +7,7 @@ pub mod Kept
 pub mod Order
 pub mod Pairing
 pub mod Rows
+pub mod Splitting
 pub mod Sums
 pub mod Units
 pub mod Vanishing

@@ -1,7 +1,8 @@
 -- The vector of a pair, with its row.
-use Rattle.std.proofs.Common.{◌≡◌, ℕ, ◌/◌, ◌<◌, ℤ, pos, ◌+ℤ◌, ◌*ℤ◌, List, length, get_or, All, Result, Ok, Err, OnOk, IsErrOf, Bor, unsigned_abs, refl, sym, ap, ap₂, ◌∙◌, subst, subst₂, arith}
-use Rattle.std.proofs.lemmas.List.{get_or-map, length-map}
-use Rattle.ps_elim.specs.Combining.{PairFits, WeightedFits, size_under, weight, weighted_entries}
+use Rattle.std.proofs.Common.{◌≡◌, ℕ, ◌/◌, ◌<◌, ℤ, pos, ◌+ℤ◌, ◌*ℤ◌, List, [], ◌∷◌, ◌++◌, ◌+◌, map, take, length, get_or, All, Result, Ok, Err, OnOk, IsErrOf, Bor, unsigned_abs, refl, sym, ap, ap₂, ◌∙◌, subst, subst₂, arith}
+use Rattle.std.proofs.lemmas.List.{append-nil, append_assoc, get_or-map, length-map, map_push, take_more}
+use Rattle.std.proofs.lemmas.List.Elements.{All-push}
+use Rattle.ps_elim.specs.Combining.{PairFits, WeightedFits, all_combined, combined, size_under, weight, weighted_entries}
 use Rattle.ps_elim.specs.Divisors.{common_divisor}
 use Rattle.ps_elim.specs.Vectors.{IsSum, coefficient_under, constant_under}
 use Rattle.ps_elim.specs.Weighing.{IsWeighted, pointed_to, vectors_of}
@@ -55,3 +56,28 @@ pointed_item P refs i r l is h =
 pub vector_item : (P : List ℕ → Type 0) (refs : List (Bor Weighted)) (i : ℕ) (r : Bor Weighted) → i < length refs → r ≡ get_or refs i r → All P (vectors_of (pointed_to refs)) → P r.now.vector
 vector_item P refs i r l is h =
     pointed_item (λ w. P w.vector) refs i r l is (λ k d m. subst P (get_or-map (λ w. w.vector) (pointed_to refs) k d d.vector m) (h k d.vector (subst (λ (n : ℕ). k < n) (sym (length-map (pointed_to refs) (λ w. w.vector))) m)))
+
+-- ---- one reference more
+pub refs-step : (refs : List (Bor Weighted)) (i : ℕ) (r : Bor Weighted) → i < length refs → r ≡ get_or refs i r → vectors_of (pointed_to (take (i + 1) refs)) ≡ vectors_of (pointed_to (take i refs)) ++ r.now.vector ∷ []
+refs-step refs i r l is =
+    let more : take (i + 1) refs ≡ take i refs ++ r ∷ [] = take_more refs i r l ∙ ap (λ (s : Bor Weighted). take i refs ++ s ∷ []) (sym is) in
+    ap (λ (rs : List (Bor Weighted)). vectors_of (pointed_to rs)) more ∙ (ap vectors_of (map_push (λ s. s.now) (take i refs) r) ∙ map_push (λ w. w.vector) (pointed_to (take i refs)) r.now)
+
+pub pairs-step : (f : List ℕ → List ℕ) (refs : List (Bor Weighted)) (i : ℕ) (r : Bor Weighted) (all made : List Weighted) (w : Weighted) → i < length refs → r ≡ get_or refs i r → vectors_of all ≡ vectors_of made ++ map f (vectors_of (pointed_to (take i refs))) → w.vector ≡ f r.now.vector → vectors_of (all ++ w ∷ []) ≡ vectors_of made ++ map f (vectors_of (pointed_to (take (i + 1) refs)))
+pairs-step f refs i r all made w l is h e =
+    let done = vectors_of (pointed_to (take i refs)) in
+    map_push (λ u. u.vector) all w ∙ (ap₂ (λ (us : List (List ℕ)) (v : List ℕ). us ++ v ∷ []) h e ∙ (append_assoc (vectors_of made) (map f done) (f r.now.vector ∷ []) ∙ (ap (λ (us : List (List ℕ)). vectors_of made ++ us) (sym (map_push f done r.now.vector)) ∙ ap (λ (us : List (List ℕ)). vectors_of made ++ map f us) (sym (refs-step refs i r l is)))))
+
+pub fits-step : (P : List ℕ → Type 0) (refs : List (Bor Weighted)) (i : ℕ) (r : Bor Weighted) → i < length refs → r ≡ get_or refs i r → All P (vectors_of (pointed_to (take i refs))) → P r.now.vector → All P (vectors_of (pointed_to (take (i + 1) refs)))
+fits-step P refs i r l is h p =
+    subst (λ (us : List (List ℕ)). All P us) (sym (refs-step refs i r l is)) (All-push P (vectors_of (pointed_to (take i refs))) r.now.vector h p)
+
+all_combined-push : (rows : List Row) (x : Var) (ps : List (List ℕ)) (p : List ℕ) (qs : List (List ℕ)) → all_combined rows x (ps ++ p ∷ []) qs ≡ all_combined rows x ps qs ++ map (combined rows x p) qs
+all_combined-push rows x [] p qs = append-nil (map (combined rows x p) qs)
+all_combined-push rows x (o ∷ ps) p qs =
+    ap (λ (us : List (List ℕ)). map (combined rows x o) qs ++ us) (all_combined-push rows x ps p qs) ∙ sym (append_assoc (map (combined rows x o) qs) (all_combined rows x ps qs) (map (combined rows x p) qs))
+
+pub all_pairs-step : (rows : List Row) (x : Var) (refs : List (Bor Weighted)) (i : ℕ) (r : Bor Weighted) (qs : List (List ℕ)) (all new made : List Weighted) → i < length refs → r ≡ get_or refs i r → vectors_of all ≡ vectors_of made ++ all_combined rows x (vectors_of (pointed_to (take i refs))) qs → vectors_of new ≡ vectors_of all ++ map (combined rows x r.now.vector) qs → vectors_of new ≡ vectors_of made ++ all_combined rows x (vectors_of (pointed_to (take (i + 1) refs))) qs
+all_pairs-step rows x refs i r qs all new made l is h e =
+    let done = vectors_of (pointed_to (take i refs)) in
+    e ∙ (ap (λ (us : List (List ℕ)). us ++ map (combined rows x r.now.vector) qs) h ∙ (append_assoc (vectors_of made) (all_combined rows x done qs) (map (combined rows x r.now.vector) qs) ∙ ap (λ (us : List (List ℕ)). vectors_of made ++ us) (sym (all_combined-push rows x done r.now.vector qs) ∙ ap (λ (us : List (List ℕ)). all_combined rows x us qs) (sym (refs-step refs i r l is)))))

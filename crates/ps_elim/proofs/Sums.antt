@@ -46,7 +46,7 @@ pub weighted-reduced : (part : Term → ℤ) (rows : List Row) (v : List ℕ) �
 weighted-reduced part rows v h = weighted-divided part rows (divisor_of_all v) v h (divisor_of_all-divides v)
 
 -- ---- a factor that isn't 0 is left out
-product_zero : (d : ℕ) (c : ℤ) → 0 < d → (pos d *ℤ c) ≡ pos 0 → c ≡ pos 0
+pub product_zero : (d : ℕ) (c : ℤ) → 0 < d → (pos d *ℤ c) ≡ pos 0 → c ≡ pos 0
 product_zero zero c h e = absurd (omega arith)
 product_zero (suc d) (pos zero) h e = refl
 product_zero (suc d) (pos (suc k)) h e = absurd (omega (arith, ints, e))

@@ -1,8 +1,11 @@
 -- The vectors with which an elimination begins.
-use Rattle.std.proofs.Common.{◌≡◌, ℕ, zero, suc, ◌+◌, ◌<◌, ◌≤◌, ℤ, pos, ◌+ℤ◌, ◌*ℤ◌, List, [], ◌∷◌, length, map, get_or, set, replicate, refl, sym, ap, ap₂, ◌∙◌, subst, arith}
+use Rattle.std.proofs.Common.{◌≡◌, ℕ, zero, suc, ◌+◌, ◌<◌, ◌≤◌, ℤ, pos, ◌+ℤ◌, ◌*ℤ◌, List, [], ◌∷◌, ◌++◌, take, length, map, get_or, set, replicate, refl, sym, ap, ap₂, ◌∙◌, subst, arith}
 use Rattle.std.proofs.lemmas.Int.{ints}
-use Rattle.std.proofs.lemmas.List.{get_or-map, length-map, length-replicate, length-set, get_or_default}
+use Rattle.std.proofs.lemmas.List.{get_or-map, length-map, length-replicate, length-set, map_push, take_more, take_all}
+use Rattle.ps_elim.specs.Places.{support_of}
 use Rattle.ps_elim.specs.Vectors.{IsSum, units}
+use Rattle.ps_elim.specs.Weighing.{IsWeighted, vectors_of}
+use Rattle.ps_elim.specs.declared.weighted.Weighted.{Weighted}
 use Rattle.ps_farkas.specs.Refutes.{weighted}
 use Rattle.ps_term.specs.declared.row.Row.{Row}
 use Rattle.ps_term.specs.declared.term.Term.{Term}
@@ -39,3 +42,17 @@ unit_sum rows n i d h e = record {
 
 pub unit_long : (n i : ℕ) → length {A = ℕ} (set (replicate n 0) i 1) ≡ n
 unit_long n i = length-set {A = ℕ} (replicate n 0) i 1 ∙ length-replicate {A = ℕ} n 0
+
+pub unit_weighted : (rows : List Row) (i : ℕ) (r : Row) (w : Weighted) → i < length rows → r ≡ get_or rows i r → w.vector ≡ set (replicate (length rows) 0) i 1 → w.row ≡ r → w.support ≡ support_of w.vector → IsWeighted rows w
+unit_weighted rows i r w l is e f s = record {
+  long = ap (λ (v : List ℕ). length v) e ∙ unit_long (length rows) i;
+  sum = subst (λ (v : List ℕ). IsSum rows v w.row) (sym e) (subst (λ (q : Row). IsSum rows (set (replicate (length rows) 0) i 1) q) (sym (f ∙ is)) (unit_sum rows (length rows) i r l refl));
+  support = s;
+}
+
+pub units-step : (n i : ℕ) (ws : List Weighted) (w : Weighted) → i < n → vectors_of ws ≡ take i (units n) → w.vector ≡ set (replicate n 0) i 1 → vectors_of (ws ++ w ∷ []) ≡ take (i + 1) (units n)
+units-step n i ws w l h e =
+    map_push (λ u. u.vector) ws w ∙ (ap₂ (λ (us : List (List ℕ)) (v : List ℕ). us ++ v ∷ []) h (e ∙ sym (get_or-units n i [] l)) ∙ sym (take_more (units n) i [] (omega (arith, length-units n))))
+
+pub units-end : (n i : ℕ) → n ≤ i → take i (units n) ≡ units n
+units-end n i h = take_all i (units n) (omega (arith, length-units n))

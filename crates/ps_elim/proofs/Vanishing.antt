@@ -129,8 +129,8 @@ zero_vanishes rows done x v h e = record { long = h.long; vanish = at }
 pub eliminated_vanish : (rows : List Row) (done : Var → Type 0) (x : Var) (vs : List (List ℕ)) → AllByRecursion (Vanishing rows done) vs → AllByRecursion (Vanishing rows (λ y. done y ⊎ (x ≡ y))) (eliminated rows x vs)
 eliminated_vanish rows done x vs h =
     let zero_ones = passing (Vanishing rows done) (Vanishing rows (λ y. done y ⊎ (x ≡ y))) (λ v. int_eq (coefficient_under rows x v) (pos 0)) (λ v p e. zero_vanishes rows done x v p e) vs h in
-    let first_ones = passing (Vanishing rows done) (Positive rows done x) (λ v. int_lt (pos 0) (coefficient_under rows x v)) (λ v p e. (p, record { lt = e })) vs h in
-    let second_ones = passing (Vanishing rows done) (Negative rows done x) (λ v. int_lt (coefficient_under rows x v) (pos 0)) (λ v p e. (p, record { lt = e })) vs h in
+    let first_ones = passing (Vanishing rows done) (Positive rows done x) (λ v. int_lt (pos 0) (coefficient_under rows x v)) (λ v p e. (p, omega (arith, ints, e))) vs h in
+    let second_ones = passing (Vanishing rows done) (Negative rows done x) (λ v. int_lt (coefficient_under rows x v) (pos 0)) (λ v p e. (p, omega (arith, ints, e))) vs h in
     all_kept (Vanishing rows (λ y. done y ⊎ (x ≡ y))) (zeros rows x vs ++ all_combined rows x (positives rows x vs) (negatives rows x vs)) (append (Vanishing rows (λ y. done y ⊎ (x ≡ y))) (zeros rows x vs) (all_combined rows x (positives rows x vs) (negatives rows x vs)) zero_ones (pairs_vanish rows done x (positives rows x vs) (negatives rows x vs) first_ones second_ones))
 
 -- ---- all variables

@@ -47,7 +47,7 @@ pub fn eliminate(alloc: Global, rows: &[Row]) -> Result<Elim, AllocError>
     let mut stages = Vec::with_capacity(alloc, variables.len())?;
     let mut set = first_set(alloc, rows)?;
     for (number, variable) in variables.iter().enumerate() {
-        match next_set(alloc, set.as_slice(), *variable)? {
+        match next_set(alloc, rows, set.as_slice(), *variable)? {
             Next::Set(next) => {
                 let stage = stage_of(alloc, *variable, set)?;
                 stages.push(stage)?;

@@ -9,7 +9,7 @@ use crate::filter::kept;
 use crate::pair::combined;
 use crate::sign::{Sign, with_sign};
 use crate::weighted::Weighted;
-use ps_term::{TermEnd, Var};
+use ps_term::{Row, TermEnd, Var};
 use std::alloc::{AllocError, Global};
 
 // Of how many vectors a set is made at most.
@@ -26,7 +26,14 @@ pub(crate) enum Next {
     TooWide(u64),
 }
 
-pub(crate) fn next_set(alloc: Global, set: &[Weighted], variable: Var) -> Result<Next, AllocError>
+// The set that comes after the variable is eliminated. The given rows only say for the proof of which
+// rows the vectors are.
+pub(crate) fn next_set(
+    alloc: Global,
+    _given: &[Row],
+    set: &[Weighted],
+    variable: Var,
+) -> Result<Next, AllocError>
     ghost rows: { List Row }
     requires weighted { All (IsWeighted rows) set.now }
     requires few { length set.now < 2 ^ 32 }
