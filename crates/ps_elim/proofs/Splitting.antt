@@ -1,12 +1,12 @@
 -- The vectors of a set by the signs of their coefficients.
-use Rattle.std.proofs.Common.{◌≡◌, ℕ, ◌+◌, ◌-◌, ◌*◌, ◌^◌, ◌<◌, ◌≤◌, ℤ, Bool, true, false, if◌then◌else◌, IsTrue, List, [], ◌∷◌, ◌++◌, length, map, All, Bor, refl, sym, ap, ap₂, ◌∙◌, subst, arith}
+use Rattle.std.proofs.Common.{◌≡◌, ℕ, ◌+◌, ◌-◌, ◌*◌, ◌^◌, ◌<◌, ◌≤◌, ℤ, Bool, true, false, if◌then◌else◌, IsTrue, List, [], ◌∷◌, ◌++◌, length, map, All, Bor, refl, sym, ap, ap₂, ◌∙◌, subst, subst₂, suc, arith, length-append}
 use Rattle.std.specs.List.{AllByRecursion, filter}
 use Rattle.std.proofs.lemmas.List.{length-map}
-use Rattle.std.proofs.lemmas.List.Elements.{All-from_recursion, recursion_from_All}
+use Rattle.std.proofs.lemmas.List.Elements.{All-from_recursion, All-weaker, recursion_from_All}
 use Rattle.std.proofs.Math.Nat.{mul-le-mul}
-use Rattle.ps_elim.specs.Combining.{negatives, positives, width, zeros}
+use Rattle.ps_elim.specs.Combining.{AllFit, all_combined, combined, negatives, positives, width, zeros}
 use Rattle.ps_elim.specs.Vectors.{coefficient_under}
-use Rattle.ps_elim.specs.Weighing.{ArePairable, IsPairable, IsWeighted, coefficient_in, is_of, pointed_to, vectors_of}
+use Rattle.ps_elim.specs.Weighing.{AllPairsFit, ArePairable, IsPairable, IsWeighted, coefficient_in, is_of, pointed_to, vectors_of}
 use Rattle.ps_elim.specs.declared.sign.Sign.{Sign}
 use Rattle.ps_elim.specs.declared.sign.Sign.TheVariants.{Zero, Positive, Negative}
 use Rattle.ps_elim.specs.declared.weighted.Weighted.{Weighted}
@@ -80,4 +80,33 @@ split_width rows x ws ns ps qs s =
     ap₂ (λ (k m : ℕ). k + m) (vectors_length ns (zeros rows x (vectors_of ws)) s.zero_ones) (ap₂ (λ (k m : ℕ). k * m) (vectors_length ps (positives rows x (vectors_of ws)) s.first_ones) (vectors_length qs (negatives rows x (vectors_of ws)) s.second_ones))
 
 pub product_small : (a b : ℕ) → a < 2 ^ 32 → b < 2 ^ 32 → a * b ≤ (2 ^ 32 - 1) * (2 ^ 32 - 1)
-product_small a b h k = mul-le-mul (omega arith) (omega arith)
+product_small a b h k =
+    let first : a ≤ 2 ^ 32 - 1 = omega arith in
+    let second : b ≤ 2 ^ 32 - 1 = omega arith in
+    mul-le-mul first second
+
+-- ---- the set that is made
+length-all_combined : (rows : List Row) (x : Var) (ps qs : List (List ℕ)) → length (all_combined rows x ps qs) ≡ length ps * length qs
+length-all_combined rows x [] qs = omega arith
+length-all_combined rows x (p ∷ ps) qs =
+    length-append (map (combined rows x p) qs) (all_combined rows x ps qs) ∙ (ap₂ (λ (k m : ℕ). k + m) (length-map qs (combined rows x p)) (length-all_combined rows x ps qs) ∙ more (length ps) (length qs))
+  where
+    more : (a b : ℕ) → b + (a * b) ≡ suc a * b
+    more a b = omega arith
+
+pub made_length : (rows : List Row) (x : Var) (vs us : List (List ℕ)) → us ≡ zeros rows x vs ++ all_combined rows x (positives rows x vs) (negatives rows x vs) → length us ≡ width rows x vs
+made_length rows x vs us e =
+    ap (λ (ts : List (List ℕ)). length ts) e ∙ (length-append (zeros rows x vs) (all_combined rows x (positives rows x vs) (negatives rows x vs)) ∙ ap (λ (k : ℕ). length (zeros rows x vs) + k) (length-all_combined rows x (positives rows x vs) (negatives rows x vs)))
+
+pub made_is : (rows : List Row) (x : Var) (ws : List Weighted) (ns ps qs : List (Bor Weighted)) (copied made : List Weighted) → IsSplit rows x ws ns ps qs → copied ≡ pointed_to ns → vectors_of made ≡ vectors_of copied ++ all_combined rows x (vectors_of (pointed_to ps)) (vectors_of (pointed_to qs)) → vectors_of made ≡ zeros rows x (vectors_of ws) ++ all_combined rows x (positives rows x (vectors_of ws)) (negatives rows x (vectors_of ws))
+made_is rows x ws ns ps qs copied made s e h =
+    h ∙ (ap₂ (λ (us ts : List (List ℕ)). us ++ all_combined rows x ts (vectors_of (pointed_to qs))) (ap vectors_of e ∙ s.zero_ones) s.first_ones ∙ ap (λ (us : List (List ℕ)). zeros rows x (vectors_of ws) ++ all_combined rows x (positives rows x (vectors_of ws)) us) s.second_ones)
+
+pub fits_all : (rows : List Row) (x : Var) (ws : List Weighted) (ns ps qs : List (Bor Weighted)) → IsSplit rows x ws ns ps qs → AllPairsFit rows x (vectors_of (pointed_to ps)) (vectors_of (pointed_to qs)) → AllFit rows x (vectors_of ws)
+fits_all rows x ws ns ps qs s h = subst₂ (λ (us ts : List (List ℕ)). AllPairsFit rows x us ts) s.first_ones s.second_ones h
+
+pub all_fits : (rows : List Row) (x : Var) (ws : List Weighted) (ns ps qs : List (Bor Weighted)) → IsSplit rows x ws ns ps qs → AllFit rows x (vectors_of ws) → AllPairsFit rows x (vectors_of (pointed_to ps)) (vectors_of (pointed_to qs))
+all_fits rows x ws ns ps qs s h = subst₂ (λ (us ts : List (List ℕ)). AllPairsFit rows x us ts) (sym s.first_ones) (sym s.second_ones) h
+
+pub pairable_weighted : (rows : List Row) (sign : Sign) (x : Var) (ws : List Weighted) → ArePairable rows sign x ws → All (IsWeighted rows) ws
+pairable_weighted rows sign x ws h = All-weaker (IsPairable rows sign x) (IsWeighted rows) (λ w p. p.0) ws h
