@@ -1,5 +1,6 @@
 pub mod Bits
 pub mod Choosing
+pub mod Counting
 pub mod Eliminating
 mod Examples
 pub mod Gcds

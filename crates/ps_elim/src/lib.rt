@@ -23,3 +23,4 @@ pub use answer::Elim;
 pub use elimination::eliminate;
 pub use stage::Stage;
 pub use support::Support;
+pub use variables::has_few_variables;

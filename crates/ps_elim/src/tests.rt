@@ -1,11 +1,11 @@
 // Worked examples.
 ghost use Rattle.std.specs.Prelude.{◌≢◌, ◌<◌, ◌^◌, pos, length};
-ghost use Rattle.ps_elim.specs.Stages.{variables};
 ghost use Rattle.ps_term.specs.Pairs.{IsCanonical};
 
 use crate::answer::Elim;
 use crate::elimination::eliminate;
 use crate::support::Support;
+use crate::variables::has_few_variables;
 use ps_term::{Pairs, Row, Term, Var};
 use std::alloc::{AllocError, Global};
 use std::test::Fail;
@@ -70,34 +70,82 @@ fn push_numbers(alloc: Global, text: &mut String, numbers: &[u128]) -> Result<()
     Ok(())
 }
 
+fn shown_answer(alloc: Global, rows: &[Row]) -> Result<String, AllocError>
+    requires { length rows.now < 2 ^ 32 }
+{
+    if !has_few_variables(rows) {
+        return Ok(String::new(alloc));
+    }
+    let answer = eliminate(alloc, rows)?;
+    shown(alloc, &answer.copy(alloc)?)
+}
+
 #[test]
 fn answers(rt: HostRuntime) -> Result<(), Fail> {
     let alloc = rt.alloc();
     let refuted = [single(alloc, 1, 1)?, single(alloc, -1, 0)?];
-    let answer = eliminate(alloc, &refuted)?.copy(alloc)?;
-    assert_eq!(rt; shown(alloc, &answer)?.as_str(), "refuted 1 1");
-
+    assert_eq!(rt; shown_answer(alloc, &refuted)?.as_str(), "refuted 1 1");
     let two = [
         row(alloc, &[(G, 2), (H, -3)], -1)?,
         row(alloc, &[(G, -2), (H, 3)], 1)?,
         bare(alloc, 0),
     ];
-    let answer = eliminate(alloc, &two)?.copy(alloc)?;
-    assert_eq!(rt; shown(alloc, &answer)?.as_str(), "stages; 1 0 0, 0 1 0, 0 0 1,; 0 0 1, 1 1 0,");
-
-    let open = [single(alloc, -1, 6)?];
-    let answer = eliminate(alloc, &open)?;
-    assert_eq!(rt; shown(alloc, &answer)?.as_str(), "stages; 1,");
-
+    assert_eq!(rt; shown_answer(alloc, &two)?.as_str(), "stages; 1 0 0, 0 1 0, 0 0 1,; 0 0 1, 1 1 0,");
+    assert_eq!(rt; shown_answer(alloc, &[single(alloc, -1, 6)?])?.as_str(), "stages; 1,");
     let far = [single(alloc, i128::MAX, 0)?, single(alloc, -2, 0)?];
-    let answer = eliminate(alloc, &far)?;
-    assert_eq!(rt; shown(alloc, &answer)?.as_str(), "past 0");
+    assert_eq!(rt; shown_answer(alloc, &far)?.as_str(), "past 0");
+    assert_eq!(rt; shown_answer(alloc, &[])?.as_str(), "stages");
+    assert_eq!(rt; shown_answer(alloc, &[bare(alloc, 3), bare(alloc, 1)])?.as_str(), "refuted 0 1");
+    let equal = [single(alloc, 2, 4)?, single(alloc, 2, 4)?, single(alloc, -4, 0)?];
+    assert_eq!(rt; shown_answer(alloc, &equal)?.as_str(), "refuted 0 2 1");
+    Ok(())
+}
 
-    let answer = eliminate(alloc, &[])?;
-    assert_eq!(rt; shown(alloc, &answer)?.as_str(), "stages");
+// So many rows g0 <= 0, and then so many rows -g0 <= 0.
+fn opposite(alloc: Global, positive: u32, negative: u32) -> Result<Vec<Row>, AllocError> {
+    let mut rows = Vec::new(alloc);
+    for _row in 0..positive {
+        rows.push(single(alloc, 1, 0)?)?;
+    }
+    for _row in 0..negative {
+        rows.push(single(alloc, -1, 0)?)?;
+    }
+    Ok(rows)
+}
 
-    let bare_rows = [bare(alloc, 3), bare(alloc, 1)];
-    let answer = eliminate(alloc, &bare_rows)?;
-    assert_eq!(rt; shown(alloc, &answer)?.as_str(), "refuted 0 1");
+#[test]
+fn bounds_the_width(rt: HostRuntime) -> Result<(), Fail> {
+    let alloc = rt.alloc();
+    for (positive, negative, wide, count) in [(3, 683, true, 2049), (32, 64, false, 0)] {
+        let rows = opposite(alloc, positive, negative)?;
+        if rows.len() >= 1 << 32 || !has_few_variables(rows.as_slice()) {
+            return Ok(());
+        }
+        match eliminate(alloc, rows.as_slice())? {
+            Elim::TooWide { stage, count: found } => {
+                assert!(rt; wide);
+                assert_eq!(rt; (stage, found), (0, count));
+            }
+            Elim::Stages(stages) => {
+                assert!(rt; !wide);
+                for stage in stages.as_slice() {
+                    assert_eq!(rt; stage.copy(alloc)?.vectors.as_slice().len(), 96);
+                }
+            }
+            _ => assert!(rt; false),
+        }
+    }
+    Ok(())
+}
+
+#[test]
+fn compares_supports(rt: HostRuntime) -> Result<(), Fail> {
+    let alloc = rt.alloc();
+    let support = Support::new(alloc, &[0, 1, 2])?.copy(alloc)?;
+    let wider = Support::new(alloc, &[1, 1, 2])?;
+    let other = Support::new(alloc, &[0, 3, 1])?;
+    assert!(rt; support.strictly_inside(&wider));
+    assert!(rt; !support.strictly_inside(&other));
+    assert!(rt; support.is_same(&other) && support.inside(&wider) && !wider.inside(&support));
     Ok(())
 }

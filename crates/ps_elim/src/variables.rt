@@ -1,11 +1,14 @@
 // The variables of rows.
-ghost use Rattle.std.specs.Prelude.{◌≡◌, ◌++◌, ◌≤◌, List, IfOk, OnOk, length, drop, ℤ};
+ghost use Rattle.std.specs.Prelude.{◌≡◌, ◌↔◌, ◌<◌, ◌^◌, IfOk, IsTrue, OnOk, length};
 ghost use Rattle.ps_elim.specs.Stages.{variables, with_variables};
-ghost use Rattle.ps_term.specs.declared.var.Var.{Var};
+ghost use Rattle.std.specs.List.{sum_by};
 
 use ps_term::{Row, Var};
 use std::alloc::{AllocError, Global};
 use std::collections::BTreeSet;
+
+// So many pairs are too many.
+const MOST_PAIRS: usize = 1 << 32;
 
 // The variables that stand in the rows, ascending.
 pub(crate) fn variables(alloc: Global, rows: &[Row]) -> Result<Vec<Var>, AllocError>
@@ -16,6 +19,22 @@ pub(crate) fn variables(alloc: Global, rows: &[Row]) -> Result<Vec<Var>, AllocEr
         add_variables(rows[at].term.pairs.as_slice(), &mut found)?;
     }
     listed(alloc, found)
+}
+
+/// Whether the rows have fewer than 2^32 pairs in all, and so fewer than 2^32 variables; in time of the
+/// number of rows, without memory.
+pub fn has_few_variables(rows: &[Row]) -> bool
+    ensures pairs { IsTrue result ↔ (sum_by (λ r. length r.term.pairs) rows.now < 2 ^ 32) }
+    ensures variables { IsTrue result → length (variables rows.now) < 2 ^ 32 }
+{
+    let mut count = 0;
+    for row in rows {
+        count += row.term.pairs.as_slice().len();
+        if count >= MOST_PAIRS {
+            return false;
+        }
+    }
+    true
 }
 
 fn add_variables(pairs: &[(Var, i128)], found: &mut BTreeSet<Var>) -> Result<(), AllocError>
