@@ -1,6 +1,7 @@
 -- Rows have no more variables than pairs.
 use Rattle.std.proofs.Common.{◌≡◌, ℕ, ◌+◌, ◌≤◌, ℤ, Bool, true, false, if◌then◌else◌, List, [], ◌∷◌, length, arith}
 use Rattle.std.specs.List.{sum_by}
+use Rattle.std.proofs.lemmas.List.Sums.{sum_by-cons}
 use Rattle.ps_elim.specs.Stages.{variables, with_variable, with_variables}
 use Rattle.ps_term.specs.declared.row.Row.{Row}
 use Rattle.ps_term.specs.declared.var.Var.{Var}
@@ -24,4 +25,4 @@ length-with_variables (p ∷ ps) xs = omega (arith, length-with_variable p.0 (wi
 
 pub length-variables : (rows : List Row) → length (variables rows) ≤ pairs_in rows
 length-variables [] = omega arith
-length-variables (r ∷ rs) = omega (arith, length-with_variables r.term.pairs (variables rs), length-variables rs)
+length-variables (r ∷ rs) = omega (arith, sum_by-cons (λ (s : Row). length s.term.pairs) r rs, length-with_variables r.term.pairs (variables rs), length-variables rs)

@@ -53,7 +53,9 @@ pub fn eliminate(alloc: Global, rows: &[Row]) -> Result<Elim, AllocError>
                 stages.push(stage)?;
                 set = next;
             }
-            Next::Past128 => return Ok(Elim::Past128 { stage: number as u32 }),
+            Next::Past128 => return Ok(Elim::Past128 {
+                stage: number as u32,
+            }),
             Next::TooWide(count) => {
                 return Ok(Elim::TooWide {
                     stage: number as u32,

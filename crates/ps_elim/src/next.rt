@@ -47,7 +47,13 @@ pub(crate) fn next_set(
         return Ok(Next::TooWide(width));
     }
     let made = copies(alloc, zeros.as_slice(), width as usize)?;
-    match with_pairs(alloc, variable, positives.as_slice(), negatives.as_slice(), made) {
+    match with_pairs(
+        alloc,
+        variable,
+        positives.as_slice(),
+        negatives.as_slice(),
+        made,
+    ) {
         Ok(made) => Ok(Next::Set(kept(alloc, made)?)),
         Err(TermEnd::Past128) => Ok(Next::Past128),
         Err(TermEnd::Memory(end)) => Err(end),

@@ -16,11 +16,7 @@ use ps_term::{Pairs, Row, Term, ceil_div, divided, gcd};
 use std::alloc::{AllocError, Global};
 
 // The vector divided by what its entries have in common, with its row divided by the same.
-pub(crate) fn reduced(
-    alloc: Global,
-    entries: Vec<u128>,
-    row: Row,
-) -> Result<Weighted, AllocError>
+pub(crate) fn reduced(alloc: Global, entries: Vec<u128>, row: Row) -> Result<Weighted, AllocError>
     ghost rows: { List Row }
     requires long { length entries.items ≡ length rows }
     requires small { All (λ n. n < 2 ^ 127) entries.items }

@@ -90,13 +90,26 @@ fn answers(rt: HostRuntime) -> Result<(), Fail> {
         row(alloc, &[(G, -2), (H, 3)], 1)?,
         bare(alloc, 0),
     ];
-    assert_eq!(rt; shown_answer(alloc, &two)?.as_str(), "stages; 1 0 0, 0 1 0, 0 0 1,; 0 0 1, 1 1 0,");
-    assert_eq!(rt; shown_answer(alloc, &[single(alloc, -1, 6)?])?.as_str(), "stages; 1,");
+    assert_eq!(rt;
+        shown_answer(alloc, &two)?.as_str(),
+        "stages; 1 0 0, 0 1 0, 0 0 1,; 0 0 1, 1 1 0,"
+    );
+    assert_eq!(rt;
+        shown_answer(alloc, &[single(alloc, -1, 6)?])?.as_str(),
+        "stages; 1,"
+    );
     let far = [single(alloc, i128::MAX, 0)?, single(alloc, -2, 0)?];
     assert_eq!(rt; shown_answer(alloc, &far)?.as_str(), "past 0");
     assert_eq!(rt; shown_answer(alloc, &[])?.as_str(), "stages");
-    assert_eq!(rt; shown_answer(alloc, &[bare(alloc, 3), bare(alloc, 1)])?.as_str(), "refuted 0 1");
-    let equal = [single(alloc, 2, 4)?, single(alloc, 2, 4)?, single(alloc, -4, 0)?];
+    assert_eq!(rt;
+        shown_answer(alloc, &[bare(alloc, 3), bare(alloc, 1)])?.as_str(),
+        "refuted 0 1"
+    );
+    let equal = [
+        single(alloc, 2, 4)?,
+        single(alloc, 2, 4)?,
+        single(alloc, -4, 0)?,
+    ];
     assert_eq!(rt; shown_answer(alloc, &equal)?.as_str(), "refuted 0 2 1");
     Ok(())
 }
@@ -122,7 +135,10 @@ fn bounds_the_width(rt: HostRuntime) -> Result<(), Fail> {
             return Ok(());
         }
         match eliminate(alloc, rows.as_slice())? {
-            Elim::TooWide { stage, count: found } => {
+            Elim::TooWide {
+                stage,
+                count: found,
+            } => {
                 assert!(rt; wide);
                 assert_eq!(rt; (stage, found), (0, count));
             }

@@ -11,7 +11,6 @@ use Rattle.ps_term.specs.declared.var.Var.TheVariants.{Global, Local, Havoc}
 use Rattle.ps_term.specs.Var.{var_eq, var_lt}
 use Rattle.ps_elim.proofs.variables.add_variables.Goals as goal
 
-
 cmp_is : (a b : Var) → cmp-value.it a b ≡ (if var_eq a b then Equal else (if var_lt a b then Less else Greater))
 cmp_is (Global m) (Global n) = grind (arith, nat_tests)
 cmp_is (Local s m) (Local t n) = grind (arith, nat_tests)
