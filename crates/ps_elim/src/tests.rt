@@ -129,9 +129,16 @@ fn opposite(alloc: Global, positive: u32, negative: u32) -> Result<Vec<Row>, All
 fn bounds_the_width(rt: HostRuntime) -> Result<(), Fail> {
     let alloc = rt.alloc();
     let wide = opposite(alloc, 3, 683)?;
-    assert_eq!(rt; shown_answer(alloc, wide.as_slice())?.as_str(), "wide 0 2049");
+    assert_eq!(rt;
+        shown_answer(alloc, wide.as_slice())?.as_str(),
+        "wide 0 2049"
+    );
     let narrow = opposite(alloc, 32, 64)?;
-    assert!(rt; shown_answer(alloc, narrow.as_slice())?.as_str().starts_with("stages"));
+    assert!(rt;
+        shown_answer(alloc, narrow.as_slice())?
+            .as_str()
+            .starts_with("stages")
+    );
     Ok(())
 }
 
