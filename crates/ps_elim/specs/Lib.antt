@@ -4,3 +4,10 @@ pub mod Vectors
 pub mod Combining
 pub mod Stages
 pub mod Elimination
+pub mod Refutation
+pub mod Places
+pub mod Words
+pub mod Weighing
+pub mod Weights
+pub mod Marking
+pub mod Choosing

@@ -3,7 +3,24 @@
 #![tactic(auto)]
 
 mod answer;
+mod choose;
+mod elimination;
+mod filter;
+mod first;
+mod next;
+mod pair;
+mod reduce;
+mod sign;
 mod stage;
+mod support;
+#[cfg(test)]
+mod tests;
+mod variables;
+mod weighted;
+mod words;
 
 pub use answer::Elim;
+pub use elimination::eliminate;
 pub use stage::Stage;
+pub use support::Support;
+pub use variables::has_few_variables;

@@ -26,6 +26,6 @@ pub use stop::Stop;
 pub use substitution::substitute;
 pub use sums::{add_scaled, scaled_sum};
 pub use term::{Term, TermEnd};
-pub use tightening::tighten;
+pub use tightening::{divided, tighten};
 pub use var::{Var, is_before, is_same};
 pub use whole::{ceil_div, gcd};

@@ -58,7 +58,8 @@ fn common_factor(pairs: &[(Var, i128)]) -> u128
     factor
 }
 
-fn divided(
+/// The pairs with each coefficient divided by a factor of all of them, in time and memory of their number.
+pub fn divided(
     alloc: Global,
     pairs: &[(Var, i128)],
     factor: u128,

@@ -1,0 +1,37 @@
+// The vector that an elimination answers.
+ghost use Rattle.std.specs.Prelude.{◌≡◌, ◌≤ℤ◌, pos, All, IfSome, IfNone, option_copied};
+ghost use Rattle.ps_elim.specs.Choosing.{IsLeastAmong, lesser_of};
+
+use crate::filter::is_less;
+use crate::weighted::Weighted;
+
+// The lexicographically least of the vectors whose row has a positive constant.
+pub(crate) fn least_refutation(set: &[Weighted]) -> Option<&Weighted>
+    ensures least { IfSome result (λ best. IsLeastAmong set.now best.now) }
+    ensures none { IfNone result (All (λ w. w.row.term.constant ≤ℤ pos 0) set.now) }
+{
+    let mut best = None;
+    for weighted in set {
+        if weighted.row.term.constant <= 0 {
+            continue;
+        }
+        best = Some(lesser(best, weighted));
+    }
+    best
+}
+
+// This one, or the best so far where it isn't less than that.
+fn lesser<'a>(best: Option<&'a Weighted>, weighted: &'a Weighted) -> &'a Weighted
+    ensures { result.now ≡ lesser_of (option_copied best.entry) weighted.now }
+{
+    match best {
+        Some(so_far) => {
+            if is_less(weighted.vector.as_slice(), so_far.vector.as_slice()) {
+                weighted
+            } else {
+                so_far
+            }
+        }
+        None => weighted,
+    }
+}
