@@ -1,14 +1,12 @@
 -- The loop over the variables: what is done, with what is left, is all.
-use Rattle.std.proofs.Common.{◌≡◌, ℕ, zero, suc, ◌+◌, ◌^◌, ◌<◌, ◌≤◌, List, [], ◌∷◌, ◌++◌, length, map, All, refl, sym, ap, ◌∙◌, subst, arith}
-use Rattle.std.specs.List.{AllZip}
-use Rattle.std.proofs.lemmas.List.{append_assoc, append-nil, length_push}
+use Rattle.std.proofs.Common.{◌≡◌, ℕ, zero, suc, ◌+◌, ◌^◌, ◌<◌, ◌≤◌, List, [], ◌∷◌, ◌++◌, length, map, All, sym, ap, ◌∙◌, subst, arith}
+use Rattle.std.proofs.lemmas.List.{append_assoc, length_push}
 use Rattle.std.proofs.lemmas.List.Elements.{All-head, All-tail, All-nil, All-push}
 use Rattle.ps_elim.specs.Combining.{AllFit, eliminated, width}
 use Rattle.ps_elim.specs.Elimination.{Ends, IsTooWide, LeavesRange, last_set}
 use Rattle.ps_elim.specs.Stages.{AllPass, AreStages, Passes, StopsAt, first_set, most_vectors, set_after, variables}
 use Rattle.ps_elim.specs.Vectors.{AreSums}
-use Rattle.ps_elim.specs.Weighing.{IsNext, IsWeighted, vectors_of}
-use Rattle.ps_elim.specs.declared.next.Next.TheVariants.{Set, Past128, TooWide}
+use Rattle.ps_elim.specs.Weighing.{IsWeighted, vectors_of}
 use Rattle.ps_elim.specs.declared.stage.Stage.{Stage}
 use Rattle.ps_elim.specs.declared.weighted.Weighted.{Weighted}
 use Rattle.ps_term.specs.declared.row.Row.{Row}

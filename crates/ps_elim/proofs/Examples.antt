@@ -1,11 +1,10 @@
 -- The definitions give the worked answers.
 use Rattle.std.proofs.Common.{◌≡◌, ℤ, pos, negsuc, List, [], ◌∷◌, refl}
-use Rattle.ps_elim.specs.Combining.{width, eliminated}
 use Rattle.ps_elim.specs.Elimination.{last_set}
-use Rattle.ps_elim.specs.Stages.{variables, first_set, set_after}
+use Rattle.ps_elim.specs.Stages.{variables}
 use Rattle.ps_term.specs.declared.row.Row.{Row}
 use Rattle.ps_term.specs.declared.var.Var.{Var}
-use Rattle.ps_term.specs.declared.var.Var.TheVariants.{Global, Local, Havoc}
+use Rattle.ps_term.specs.declared.var.Var.TheVariants.{Global}
 
 abbrev pub row : List (Var × ℤ) → ℤ → Row
 row pairs constant = record { term = record { pairs = pairs; constant = constant } }

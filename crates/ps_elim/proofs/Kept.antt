@@ -1,12 +1,12 @@
 -- The vectors that stay, by marks; and what supports say of them.
-use Rattle.std.proofs.Common.{◌≡◌, ℕ, zero, suc, ◌+◌, ◌<◌, ◌≤◌, Bool, true, false, not, ◌&&◌, ◌||◌, ◌==◌, if◌then◌else◌, List, [], ◌∷◌, ◌++◌, length, map, get_or, take, drop, All, refl, sym, ap, ap₂, ◌∙◌, subst, subst₂, arith, nat_lt}
+use Rattle.std.proofs.Common.{◌≡◌, ℕ, suc, ◌+◌, ◌<◌, ◌≤◌, Bool, true, false, not, ◌&&◌, ◌||◌, ◌==◌, if◌then◌else◌, List, [], ◌∷◌, ◌++◌, length, get_or, take, drop, All, refl, sym, ap, ap₂, ◌∙◌, subst, arith}
 use Rattle.std.specs.List.{AllByRecursion}
 use Rattle.std.proofs.lemmas.Bool.{false≢true}
 use Rattle.std.proofs.lemmas.List.{drop_more, take_more, drop_all, append_assoc, append-nil, get_or-map, take-map, drop-map}
 use Rattle.std.proofs.lemmas.List.Elements.{All-from_recursion, recursion_from_All}
 use Rattle.ps_elim.specs.Marking.{marked, stays_at, stays_between, staying, staying_after}
 use Rattle.ps_elim.specs.Places.{is_part, support_of}
-use Rattle.ps_elim.specs.Supports.{has_support_of, is_inside, is_less, is_new_after, is_strictly_inside, kept, kept_after, stays_beside}
+use Rattle.ps_elim.specs.Supports.{has_support_of, is_inside, is_new_after, is_strictly_inside, kept, kept_after, stays_beside}
 use Rattle.ps_elim.specs.Weighing.{vectors_of}
 use Rattle.ps_elim.specs.declared.weighted.Weighted.{Weighted}
 

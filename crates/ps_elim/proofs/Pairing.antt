@@ -1,5 +1,5 @@
 -- The vector of a pair, with its row.
-use Rattle.std.proofs.Common.{◌≡◌, ℕ, ◌/◌, ◌<◌, ℤ, pos, ◌+ℤ◌, ◌*ℤ◌, List, [], ◌∷◌, ◌++◌, ◌+◌, map, take, length, get_or, All, Result, Ok, Err, OnOk, IsErrOf, Bor, unsigned_abs, refl, sym, ap, ap₂, ◌∙◌, subst, subst₂, arith}
+use Rattle.std.proofs.Common.{◌≡◌, ℕ, ◌/◌, ◌<◌, ℤ, pos, ◌+ℤ◌, ◌*ℤ◌, List, [], ◌∷◌, ◌++◌, ◌+◌, map, take, length, get_or, All, Result, Ok, Err, OnOk, IsErrOf, Bor, unsigned_abs, sym, ap, ap₂, ◌∙◌, subst, subst₂}
 use Rattle.std.proofs.lemmas.List.{append-nil, append_assoc, get_or-map, length-map, map_push, take_more}
 use Rattle.std.proofs.lemmas.List.Elements.{All-push}
 use Rattle.ps_elim.specs.Combining.{PairFits, WeightedFits, all_combined, combined, size_under, weight, weighted_entries}

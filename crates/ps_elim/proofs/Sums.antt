@@ -1,5 +1,5 @@
 -- Weighted sums of rows under sums of vectors, and under vectors divided by what their entries have in common.
-use Rattle.std.proofs.Common.{◌≡◌, ℕ, zero, suc, ◌+◌, ◌*◌, ◌/◌, ◌<◌, ◌≤◌, ℤ, pos, negsuc, ◌+ℤ◌, ◌*ℤ◌, ◌-ℤ◌, List, [], ◌∷◌, length, map, unsigned_abs, refl, sym, ap, ap₂, ◌∙◌, subst, arith}
+use Rattle.std.proofs.Common.{◌≡◌, ℕ, zero, suc, ◌+◌, ◌*◌, ◌/◌, ◌<◌, ℤ, pos, negsuc, ◌+ℤ◌, ◌*ℤ◌, ◌-ℤ◌, List, [], ◌∷◌, length, map, unsigned_abs, refl, sym, ap, ap₂, ◌∙◌, subst, arith}
 use Rattle.std.specs.Int.{◌∣◌}
 use Rattle.std.specs.List.{AllByRecursion}
 use Rattle.std.proofs.lemmas.Int.{ints, unsigned_abs-mul}
@@ -10,7 +10,7 @@ use Rattle.ps_elim.proofs.Gcds.{divisor_of_all-divides, exactly}
 use Rattle.ps_farkas.specs.Refutes.{weighted}
 use Rattle.ps_term.specs.declared.row.Row.{Row}
 use Rattle.ps_term.specs.declared.term.Term.{Term}
-use Rattle.ps_term.proofs.Ring.{distribute, distribute_right, assoc, mul-zero, zero-mul}
+use Rattle.ps_term.proofs.Ring.{distribute, distribute_right, assoc, mul-zero}
 
 product_of_sum : (m i n j : ℕ) (t : ℤ) → (pos ((m * i) + (n * j)) *ℤ t) ≡ ((pos m *ℤ (pos i *ℤ t)) +ℤ (pos n *ℤ (pos j *ℤ t)))
 product_of_sum m i n j t =

@@ -8,7 +8,6 @@ use Rattle.ps_elim.specs.declared.answer.Elim.{Elim}
 use Rattle.ps_elim.specs.declared.answer.Elim.TheVariants.{Refuted, Stages, Past128, TooWide}
 use Rattle.ps_elim.specs.declared.stage.Stage.{Stage}
 use Rattle.ps_term.specs.declared.row.Row.{Row}
-use Rattle.ps_term.specs.declared.var.Var.{Var}
 
 -- the set that is left after the last variable
 abbrev pub last_set : List Row → List (List ℕ)

@@ -1,5 +1,5 @@
 -- Which vectors stay, one by one.
-use Rattle.std.specs.Prelude.{ℕ, ◌+◌, Bool, true, false, not, ◌&&◌, ◌||◌, List, [], ◌∷◌, ◌++◌, take, drop, slice_index_or, if◌then◌else◌}
+use Rattle.std.specs.Prelude.{ℕ, ◌+◌, Bool, not, ◌&&◌, ◌||◌, List, [], ◌∷◌, ◌++◌, take, drop, slice_index_or, if◌then◌else◌}
 use Rattle.ps_elim.specs.Supports.{has_support_of, is_less, is_new_after, is_strictly_inside, stays_beside}
 
 -- the first vector stays where the second one is there

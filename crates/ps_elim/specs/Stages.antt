@@ -1,5 +1,5 @@
 -- The stages of an elimination: the set of vectors before each variable.
-use Rattle.std.specs.Prelude.{◌≡◌, ◌≤◌, ◌<◌, ℕ, zero, suc, ℤ, List, [], ◌∷◌, length, if◌then◌else◌}
+use Rattle.std.specs.Prelude.{◌≡◌, ◌≤◌, ℕ, zero, suc, ℤ, List, [], ◌∷◌, length, if◌then◌else◌}
 use Rattle.ps_elim.specs.Combining.{AllFit, eliminated, width}
 use Rattle.ps_elim.specs.Vectors.{AreSums, units}
 use Rattle.ps_elim.specs.declared.stage.Stage.{Stage}

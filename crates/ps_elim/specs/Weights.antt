@@ -1,5 +1,5 @@
 -- The weights with which two rows are added.
-use Rattle.std.specs.Prelude.{◌≡◌, ◌/◌, ℕ, ℤ, unsigned_abs}
+use Rattle.std.specs.Prelude.{◌≡◌, ◌/◌, ℕ, unsigned_abs}
 use Rattle.ps_elim.specs.Combining.{WeightedFits}
 use Rattle.ps_elim.specs.Divisors.{common_divisor}
 use Rattle.ps_elim.specs.declared.pair.Weights.{Weights}

@@ -1,9 +1,9 @@
-use Rattle.std.proofs.Common.{◌≡◌, ◌++◌, ◌∷◌, ◌+◌, [], ◌∙◌, ◌≤◌, ◌≤ℤ◌, ◌<◌, ℤ, ℕ, pos, List, Bor, Option, Some, None, All, IfNone, FitsSigned, ap, get_or, length, take, rules, subst, sym, arith}
+use Rattle.std.proofs.Common.{◌≡◌, ◌++◌, ◌∷◌, ◌+◌, [], ◌∙◌, ◌≤ℤ◌, ◌<◌, ℕ, pos, List, Bor, Option, Some, None, All, IfNone, FitsSigned, ap, get_or, length, take, rules, subst, sym, arith}
 use Rattle.std.specs.Int.{w128}
 use Rattle.std.specs.Option.{option_copied}
-use Rattle.std.proofs.lemmas.Int.{ints, to_z-of_z}
+use Rattle.std.proofs.lemmas.Int.{ints}
 use Rattle.std.proofs.lemmas.List.{take_all, take_more}
-use Rattle.ps_elim.specs.Choosing.{IsLeastAmong, IsPositive, lesser_of}
+use Rattle.ps_elim.specs.Choosing.{IsLeastAmong, IsPositive}
 use Rattle.ps_elim.specs.declared.weighted.Weighted.{Weighted}
 use Rattle.ps_elim.proofs.Choosing.{IsBest, IsBest-more, IsBest-skip}
 use Rattle.ps_elim.proofs.choose.least_refutation.Goals as goal

@@ -1,4 +1,4 @@
-use Rattle.std.proofs.Common.{◌≡◌, ◌+◌, ◌^◌, ◌<◌, ◌≤◌, ◌++◌, ◌≤ℤ◌, pos, All, ℕ, List, [], ◌∷◌, drop, get_or, length, refl, sym, ap, ◌∙◌, subst, subst₂, arith}
+use Rattle.std.proofs.Common.{◌≡◌, ◌+◌, ◌^◌, ◌<◌, ◌≤◌, ◌≤ℤ◌, pos, All, ℕ, List, [], ◌∷◌, drop, get_or, length, sym, ap, ◌∙◌, subst, subst₂, arith}
 use Rattle.std.proofs.lemmas.List.{append-nil, drop_all, drop_more, length-map, length_push}
 use Rattle.ps_elim.specs.Elimination.{AreStagesOf, Ends, IsLeastRefutation}
 use Rattle.ps_elim.specs.Stages.{AreStages, first_set, variables}

@@ -1,4 +1,4 @@
-use Rattle.std.proofs.Common.{◌≡◌, sym, ◌∙◌}
+use Rattle.std.proofs.Common.{sym, ◌∙◌}
 use Rattle.ps_elim.proofs.Kept.{same_by_supports}
 use Rattle.ps_elim.proofs.Order.{differs_unless_same}
 use Rattle.ps_elim.proofs.filter.differs.Goals as goal

@@ -1,4 +1,4 @@
-use Rattle.std.proofs.Common.{◌≡◌, ◌+◌, Bool, true, false, List, drop, take, length, refl, sym, ap, ◌∙◌}
+use Rattle.std.proofs.Common.{◌+◌, true, false, List, drop, take, refl, sym, ap, ◌∙◌}
 use Rattle.std.proofs.lemmas.List.{take_rest}
 use Rattle.ps_elim.specs.Supports.{is_new_after, stays_beside}
 use Rattle.ps_elim.specs.Weighing.{vectors_of}

@@ -1,4 +1,4 @@
-use Rattle.std.proofs.Common.{◌≡◌, Bool, true, false, not, ◌&&◌, List, ℕ, sym, ap, ap₂, ◌∙◌}
+use Rattle.std.proofs.Common.{◌≡◌, not, ◌&&◌, List, ℕ, sym, ap, ap₂, ◌∙◌}
 use Rattle.ps_elim.specs.Supports.{has_support_of, is_less, is_strictly_inside}
 use Rattle.ps_elim.proofs.Kept.{by_order, by_other, by_strict, same_by_supports, strictly_by_supports}
 use Rattle.ps_elim.proofs.filter.stays_by.Goals as goal

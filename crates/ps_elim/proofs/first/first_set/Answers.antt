@@ -1,8 +1,7 @@
-use Rattle.std.proofs.Common.{◌≡◌, ◌++◌, ◌∷◌, [], ◌∙◌, List, ℕ, ap, length, replicate, set, rules, subst, sym, arith}
+use Rattle.std.proofs.Common.{◌≡◌, ◌++◌, ◌∷◌, [], ◌∙◌, ap, length, replicate, set, rules, sym}
 use Rattle.std.proofs.lemmas.List.Elements.{All-push}
 use Rattle.ps_elim.specs.Places.{support_of}
 use Rattle.ps_elim.specs.Weighing.{IsWeighted}
-use Rattle.ps_elim.specs.declared.weighted.Weighted.{Weighted}
 use Rattle.ps_elim.proofs.Units.{unit_weighted, units-end, units-step}
 use Rattle.ps_elim.proofs.first.first_set.Goals as goal
 

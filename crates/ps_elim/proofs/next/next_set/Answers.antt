@@ -1,12 +1,12 @@
 use Rattle.std.proofs.Common.{◌≡◌, ◌+◌, ◌*◌, ◌^◌, ◌<◌, ◌≤◌, ◌++◌, ℕ, List, All, Bor, Err, length, sym, ap, ap₂, ◌∙◌, subst, subst₂, arith}
 use Rattle.std.proofs.lemmas.List.{length-map}
-use Rattle.ps_elim.specs.Combining.{all_combined, eliminated, negatives, positives, width, zeros}
-use Rattle.ps_elim.specs.Stages.{Passes, most_vectors}
+use Rattle.ps_elim.specs.Combining.{all_combined, width}
+use Rattle.ps_elim.specs.Stages.{most_vectors}
 use Rattle.ps_elim.specs.Supports.{kept}
 use Rattle.ps_elim.specs.Weighing.{AllPairsFit, ArePairable, IsWeighted, pointed_to, vectors_of}
 use Rattle.ps_elim.specs.declared.sign.Sign.TheVariants.{Zero, Positive, Negative}
 use Rattle.ps_elim.specs.declared.weighted.Weighted.{Weighted}
-use Rattle.ps_elim.proofs.Splitting.{IsSplit, all_fits, fits_all, is_split, made_is, made_length, pairable_weighted, product_small, split_length, split_pairable, split_width}
+use Rattle.ps_elim.proofs.Splitting.{all_fits, fits_all, is_split, made_is, made_length, pairable_weighted, product_small, split_length, split_pairable, split_width}
 use Rattle.ps_elim.proofs.next.next_set.Goals as goal
 
 pub overflow_mul-width : goal.overflow_mul-width

@@ -5,7 +5,6 @@ use Rattle.ps_elim.specs.Vectors.{IsSum}
 use Rattle.ps_elim.proofs.Pairing.{first_weight, on_ok, pair_fits, pair_sum, same_error, second_weight}
 use Rattle.ps_elim.proofs.Sums.{length-weighted_entries}
 use Rattle.ps_elim.proofs.Zipping.{EntriesFit}
-use Rattle.ps_term.specs.declared.row.Row.{Row}
 use Rattle.ps_term.specs.declared.term.TermEnd.TheVariants.{Past128}
 use Rattle.ps_elim.proofs.pair.combined.Goals as goal
 

@@ -1,4 +1,4 @@
-use Rattle.std.proofs.Common.{◌≡◌, ℕ, ℤ, pos, to_z, FitsSigned, List, rules, subst, sym, arith, unsigned_abs}
+use Rattle.std.proofs.Common.{◌≡◌, ℤ, pos, to_z, FitsSigned, List, rules, subst, sym, arith, unsigned_abs}
 use Rattle.std.specs.Int.{w128, ◌∣◌}
 use Rattle.std.proofs.lemmas.Int.{to_z-of_z, ints}
 use Rattle.ps_term.specs.declared.var.Var.{Var}

@@ -1,4 +1,4 @@
-use Rattle.std.proofs.Common.{◌≡◌, ℕ, ℤ, ◌<◌, ◌≤◌, ◌/◌, ◌*ℤ◌, ◌^◌, pos, List, map, length, IfOk, Result, Ok, Err, unsigned_abs, refl, sym, ap, ap₂, ◌∙◌, subst, arith}
+use Rattle.std.proofs.Common.{◌≡◌, ℕ, ◌<◌, ◌≤◌, ◌/◌, ◌*ℤ◌, ◌^◌, pos, List, map, length, IfOk, Result, Ok, Err, unsigned_abs, sym, ap, ◌∙◌, subst, arith}
 use Rattle.std.specs.Int.{◌∣◌}
 use Rattle.std.proofs.lemmas.List.{length-map}
 use Rattle.std.proofs.lemmas.List.Elements.{recursion_from_All}

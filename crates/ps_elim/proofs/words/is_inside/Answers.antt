@@ -1,4 +1,4 @@
-use Rattle.std.proofs.Common.{◌≡◌, true, false, rules}
+use Rattle.std.proofs.Common.{rules}
 use Rattle.std.proofs.lemmas.Bool.{both_ways, false≢true}
 use Rattle.ps_elim.proofs.Bits.{word_of_part}
 use Rattle.ps_elim.proofs.words.is_inside.Goals as goal

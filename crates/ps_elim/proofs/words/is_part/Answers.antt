@@ -1,4 +1,4 @@
-use Rattle.std.proofs.Common.{◌<◌, ◌^◌, arith, rules}
+use Rattle.std.proofs.Common.{arith}
 use Rattle.ps_elim.proofs.Bits.{word_part}
 use Rattle.ps_elim.proofs.words.is_part.Goals as goal
 
