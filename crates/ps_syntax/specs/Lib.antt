@@ -1,6 +1,10 @@
 pub mod Sum
 pub mod Cond
 pub mod Words
+pub mod Within
+pub mod Seen
+pub mod Scoped
+pub mod Signed
 pub mod Names
 pub mod Sums
 pub mod Conds

@@ -2,14 +2,22 @@
 #![tactic(auto)]
 
 mod cond;
+mod cursor;
+mod declared;
 mod global_decl;
 mod limit_name;
 mod name;
+mod numbers;
+mod parser;
 mod program;
 mod read_refusal;
 mod relation;
+mod scope;
+mod signs;
 mod stmt;
 mod sum;
+mod sums;
+mod word;
 
 pub use cond::{Cond, Test};
 pub use global_decl::GlobalDecl;
