@@ -1,5 +1,5 @@
 -- The value of 1 to 18 digits, digit by digit.
-use Rattle.std.proofs.Common.{◌≡◌, ℕ, ◌+◌, ◌-◌, ◌*◌, ◌^◌, ◌<◌, ◌≤◌, List, [], ◌∷◌, zero, suc, length, get_or, take, refl, sym, ◌∙◌, arith, true}
+use Rattle.std.proofs.Common.{◌≡◌, ℕ, ◌+◌, ◌-◌, ◌*◌, ◌^◌, ◌<◌, ◌≤◌, List, [], ◌∷◌, zero, suc, length, get_or, take, take_all, refl, sym, ◌∙◌, arith, true}
 use Rattle.std.specs.Char.{digit_value}
 use Rattle.std.specs.List.{list_all}
 use Rattle.std.specs.Str.Parse.{digits_value, AllDigits}
@@ -43,3 +43,8 @@ one_more ds i value x n lt e is =
     let top : digits_value 10 ds < 10 ^ 18 = whole_below ds n in
     let same : value * 10 + (x - 48) ≡ digits_value 10 (take (i + 1) ds) = omega (arith, d.2, more) in
     record { digit = d.0; is = same; below = omega (arith, same, least, top) }
+
+pub all_of : (ds : List ℕ) (i value : ℕ) → IsNumber ds → length ds ≤ i → value ≡ digits_value 10 (take i ds) → (value ≡ digits_value 10 ds) × (value < 10 ^ 18)
+all_of ds i value n le is =
+    let whole : value ≡ digits_value 10 ds = rw (is, take_all i ds le) refl in
+    (whole, omega (arith, whole, whole_below ds n))

@@ -6,10 +6,13 @@ ghost use Rattle.ps_text.specs.Lexing.{IsNumber};
 ghost use Rattle.ps_syntax.specs.Words.{is_kind, words_of, place_at, next_is, word_at, and_then, Gives};
 ghost use Rattle.ps_syntax.specs.Seen.{seen};
 ghost use Rattle.ps_syntax.specs.Within.{AreWithin};
-ghost use Rattle.ps_syntax.specs.Sums.{number_value};
+ghost use Rattle.ps_syntax.specs.Signed.{signs_of};
+ghost use Rattle.ps_syntax.specs.Sums.{number_value, sign_at};
 
 use crate::numbers::number_value;
 use crate::read_refusal::ReadRefusal;
+use crate::relation::Sign;
+use crate::signs::Signs;
 use crate::word::Word;
 use ps_text::{Place, Token, TokenKind};
 use std::marker::Model;
@@ -91,10 +94,29 @@ impl<'a> Cursor<'a> {
 
     /// Takes the next word, which is a number.
     #[tactic(auto, unfolding(crate::specs::Words::and_then))]
-    pub(crate) fn number(&mut self) -> Result<i128, ReadRefusal>
+    pub(crate) fn number(&mut self) -> Result<i64, ReadRefusal>
         ensures { Gives (λ n. n) result self.new (and_then (word_at Number self.old) (λ w. Ok (number_value w.0.text, w.1))) }
     {
         let word = self.word(TokenKind::Number)?;
         Ok(number_value(word.text))
+    }
+
+    /// Takes the next word, which is a sign.
+    #[tactic(auto, unfolding(crate::specs::Sums::sign_at, crate::specs::Words::and_then))]
+    pub(crate) fn sign(&mut self, signs: Signs) -> Result<Sign, ReadRefusal>
+        ensures { Gives (λ sign. sign) result self.new (sign_at (signs_of signs) self.old) }
+    {
+        if self.tokens.is_empty() {
+            return Err(ReadRefusal::Grammar(self.end));
+        }
+        let token = self.tokens[0];
+        let (_, rest) = self.tokens.split_at(1);
+        match signs.sign_of(token.kind) {
+            Some(sign) => {
+                self.tokens = rest;
+                Ok(sign)
+            }
+            None => Err(ReadRefusal::Grammar(token.place)),
+        }
     }
 }

@@ -2,6 +2,7 @@
 #![tactic(auto)]
 
 mod cond;
+mod conds;
 mod cursor;
 mod declared;
 mod global_decl;

@@ -21,7 +21,7 @@ use sqlite_items::Items;
 
 // The number in a product after a name: a second name there isn't linear.
 #[tactic(auto, unfolding(crate::specs::Sums::factor_at))]
-fn factor<'b>(cursor: &mut Cursor<'b>) -> Result<i128, ReadRefusal>
+fn factor<'b>(cursor: &mut Cursor<'b>) -> Result<i64, ReadRefusal>
     ensures { Gives (λ x. x) result cursor.new (factor_at cursor.old) }
 {
     if cursor.next_is(TokenKind::Name) {
@@ -55,7 +55,7 @@ impl<'a> Parser<'a> {
     fn number_product<'b>(
         &self,
         cursor: &mut Cursor<'b>,
-    ) -> Result<(i128, Option<Var>), ReadRefusal>
+    ) -> Result<(i64, Option<Var>), ReadRefusal>
         ensures { Gives (λ x. x) result cursor.new (number_product_at (names_in self.now.scope) cursor.old) }
     {
         let number = cursor.number()?;
@@ -72,7 +72,7 @@ impl<'a> Parser<'a> {
     fn name_product<'b>(
         &self,
         cursor: &mut Cursor<'b>,
-    ) -> Result<(i128, Option<Var>), ReadRefusal>
+    ) -> Result<(i64, Option<Var>), ReadRefusal>
         ensures { Gives (λ x. x) result cursor.new (name_product_at (names_in self.now.scope) cursor.old) }
     {
         let variable = self.variable(cursor)?;
@@ -85,7 +85,7 @@ impl<'a> Parser<'a> {
     }
 
     #[tactic(auto, unfolding(crate::specs::Sums::product_at))]
-    fn product<'b>(&self, cursor: &mut Cursor<'b>) -> Result<(i128, Option<Var>), ReadRefusal>
+    fn product<'b>(&self, cursor: &mut Cursor<'b>) -> Result<(i64, Option<Var>), ReadRefusal>
         ensures { Gives (λ x. x) result cursor.new (product_at (names_in self.now.scope) cursor.old) }
     {
         if cursor.next_is(TokenKind::Number) {
@@ -93,5 +93,87 @@ impl<'a> Parser<'a> {
         } else {
             self.name_product(cursor)
         }
+    }
+
+    // The first product of a sum, which may have a `-` before it.
+    #[tactic(auto, unfolding(crate::specs::Sums::first_product_at, crate::specs::Words::after_word, crate::specs::Words::and_then))]
+    fn first_product<'b>(
+        &self,
+        cursor: &mut Cursor<'b>,
+    ) -> Result<(i128, Option<Var>), ReadRefusal>
+        ensures { Gives (λ x. x) result cursor.new (first_product_at (names_in self.now.scope) cursor.old) }
+    {
+        if !cursor.next_is(TokenKind::Minus) {
+            let (number, variable) = self.product(cursor)?;
+            return Ok((i128::from(number), variable));
+        }
+        cursor.word(TokenKind::Minus)?;
+        let (number, variable) = self.product(cursor)?;
+        Ok((-i128::from(number), variable))
+    }
+
+    // A further product with its `+` or `-`.
+    #[tactic(auto, unfolding(crate::specs::Sums::further_product_at, crate::specs::Words::after_word, crate::specs::Words::and_then))]
+    fn further_product<'b>(
+        &self,
+        cursor: &mut Cursor<'b>,
+    ) -> Result<(i128, Option<Var>), ReadRefusal>
+        ensures { Gives (λ x. x) result cursor.new (further_product_at (names_in self.now.scope) cursor.old) }
+    {
+        if cursor.next_is(TokenKind::Plus) {
+            cursor.word(TokenKind::Plus)?;
+            let (number, variable) = self.product(cursor)?;
+            return Ok((i128::from(number), variable));
+        }
+        cursor.word(TokenKind::Minus)?;
+        let (number, variable) = self.product(cursor)?;
+        Ok((-i128::from(number), variable))
+    }
+
+    // The further products, after those that were read.
+    #[tactic(auto, using(crate::proofs::Repeated::repeats_none, crate::proofs::Repeated::repeats_more, crate::proofs::Repeated::repeats_stop, crate::proofs::Repeated::repeats_all))]
+    fn further_products<'b>(
+        &self,
+        mut terms: Vec<(i128, Option<Var>)>,
+        cursor: &mut Cursor<'b>,
+    ) -> Result<Vec<(i128, Option<Var>)>, ReadRefusal>
+        ensures { Gives (λ v. v.items) result cursor.new (with_front terms.items (while_at adds (further_product_at (names_in self.now.scope)) self.now.most cursor.old)) }
+    {
+        for _ in 0..self.most {
+            if !adds(cursor) {
+                return Ok(terms);
+            }
+            terms.push(self.further_product(cursor)?)?;
+        }
+        Ok(terms)
+    }
+
+    /// Takes a sum.
+    #[tactic(auto, unfolding(crate::specs::Sums::sum_at, crate::specs::Words::and_then))]
+    pub(crate) fn sum<'b>(&self, cursor: &mut Cursor<'b>) -> Result<Sum, ReadRefusal>
+        ensures { Gives (λ x. x) result cursor.new (sum_at (names_in self.now.scope) self.now.most cursor.old) }
+    {
+        let first = self.first_product(cursor)?;
+        let mut terms = Vec::new(self.alloc);
+        terms.push(first)?;
+        let terms = self.further_products(terms, cursor)?;
+        Ok(Sum {
+            terms: Items::from_vec(terms),
+        })
+    }
+
+    /// Takes a relation.
+    #[tactic(auto, unfolding(crate::specs::Sums::relation_at, crate::specs::Words::and_then))]
+    pub(crate) fn relation<'b>(
+        &self,
+        signs: Signs,
+        cursor: &mut Cursor<'b>,
+    ) -> Result<Relation, ReadRefusal>
+        ensures { Gives (λ x. x) result cursor.new (relation_at (signs_of signs) (names_in self.now.scope) self.now.most cursor.old) }
+    {
+        let left = self.sum(cursor)?;
+        let sign = cursor.sign(signs)?;
+        let right = self.sum(cursor)?;
+        Ok(Relation { left, sign, right })
     }
 }
