@@ -1,9 +1,10 @@
 -- Reading one after the other, as loops do: what was read, with what is still read, is all.
 use Rattle.std.proofs.Common.{◌≡◌, ℕ, zero, suc, ◌-◌, ◌+◌, ◌≤◌, ◌<◌, Bool, true, false, List, [], ◌∷◌, ◌++◌, Result, Ok, Err, refl, sym, ap, ◌∙◌, append_assoc, arith}
 use Rattle.std.proofs.lemmas.List.{append-nil}
+use Rattle.ps_text.specs.declared.token_kind.TokenKind.{TokenKind}
 use Rattle.ps_syntax.specs.declared.read_refusal.ReadRefusal.{ReadRefusal}
 use Rattle.ps_syntax.specs.declared.read_refusal.ReadRefusal.TheVariants as refusal
-use Rattle.ps_syntax.specs.Words.{At, Read, and_then, ◌>>=◌, while_at, with_front, Refuses, Gives}
+use Rattle.ps_syntax.specs.Words.{At, Word, word_at, after_word, Read, and_then, ◌>>=◌, while_at, with_front, Refuses}
 
 pub with_front-none : {A : Type 0} (read : Result (List A × At) ReadRefusal) → with_front [] read ≡ read
 unfolding and_then
@@ -51,12 +52,29 @@ err_stays goes read front n i at r lt more e =
     let k : n - i ≡ suc (n - (i + 1)) = omega arith in
     rw (k, more, e) refl
 
+-- one refusal is the other
+pub refuses_same : {A B : Type 0} (r : ReadRefusal) (x : Result A ReadRefusal) (y : Result B ReadRefusal) → (x ≡ Err r → y ≡ Err r) → Refuses r x → Refuses r y
+refuses_same (refusal.Memory m) x y same h = tt
+refuses_same (refusal.Token p) x y same h = same h
+refuses_same (refusal.Grammar p) x y same h = same h
+refuses_same (refusal.UnknownName p) x y same h = same h
+refuses_same (refusal.Twice p) x y same h = same h
+refuses_same (refusal.NotLinear p) x y same h = same h
+refuses_same (refusal.LoopInAtomic p) x y same h = same h
+refuses_same (refusal.Limit p l) x y same h = same h
+
 pub repeats_fails : {A : Type 0} (goes : At → Bool) (read : Read A) (front : List A) (n i : ℕ) (at : At) (r : ReadRefusal) (total : Result (List A × At) ReadRefusal) → Repeats goes read front (n - i) at total → i < n → goes at ≡ true → Refuses r (read at) → Refuses r total
-repeats_fails goes read front n i at (refusal.Memory m) total h lt more e = tt
-repeats_fails goes read front n i at (refusal.Token p) total h lt more e = sym h.same ∙ err_stays goes read front n i at (refusal.Token p) lt more e
-repeats_fails goes read front n i at (refusal.Grammar p) total h lt more e = sym h.same ∙ err_stays goes read front n i at (refusal.Grammar p) lt more e
-repeats_fails goes read front n i at (refusal.UnknownName p) total h lt more e = sym h.same ∙ err_stays goes read front n i at (refusal.UnknownName p) lt more e
-repeats_fails goes read front n i at (refusal.Twice p) total h lt more e = sym h.same ∙ err_stays goes read front n i at (refusal.Twice p) lt more e
-repeats_fails goes read front n i at (refusal.NotLinear p) total h lt more e = sym h.same ∙ err_stays goes read front n i at (refusal.NotLinear p) lt more e
-repeats_fails goes read front n i at (refusal.LoopInAtomic p) total h lt more e = sym h.same ∙ err_stays goes read front n i at (refusal.LoopInAtomic p) lt more e
-repeats_fails goes read front n i at (refusal.Limit p l) total h lt more e = sym h.same ∙ err_stays goes read front n i at (refusal.Limit p l) lt more e
+repeats_fails goes read front n i at r total h lt more =
+    refuses_same r (read at) total (λ e. sym h.same ∙ err_stays goes read front n i at r lt more e)
+
+-- a refusal at the word that a step begins with, or after it
+pub word_refuses : {A : Type 0} (k : TokenKind) (read : Read A) (at : At) (r : ReadRefusal) → Refuses r (word_at k at) → Refuses r (after_word k read at)
+unfolding after_word and_then
+word_refuses k read at r = refuses_same r (word_at k at) (after_word k read at) (λ e. rw e refl)
+
+pub then_refuses : {A : Type 0} (k : TokenKind) (read : Read A) (at next : At) (w : Word) (r : ReadRefusal) → word_at k at ≡ Ok (w, next) → Refuses r (read next) → Refuses r (after_word k read at)
+unfolding after_word and_then
+then_refuses k read at next w r first = refuses_same r (read next) (after_word k read at) (λ e. rw (first, e) refl)
+
+pub repeats_first : {A : Type 0} (goes : At → Bool) (read : Read A) (n : ℕ) (at : At) → Repeats goes read [] n at (while_at goes read n at)
+repeats_first goes read n at = record { same = with_front-none (while_at goes read n at) }

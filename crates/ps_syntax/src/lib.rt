@@ -1,6 +1,7 @@
 //! Programs of threads as syntax trees, and what their sums and conditions are worth.
 #![tactic(auto)]
 
+mod blocks;
 mod cond;
 mod conds;
 mod cursor;
