@@ -5,6 +5,7 @@ pub mod Within
 pub mod Seen
 pub mod Scoped
 pub mod Signed
+pub mod Steps
 pub mod Names
 pub mod Sums
 pub mod Conds

@@ -1,10 +1,11 @@
 //! A place in the words of a program text, from which one word is taken after the other.
 
-ghost use Rattle.std.specs.Prelude.{◌≡◌, Ok, IfOk};
+ghost use Rattle.std.specs.Prelude.{◌≡◌, ℕ, Ok, IfOk, if◌then◌else◌};
 ghost use Rattle.ps_text.specs.declared.token_kind.TokenKind.TheVariants.{Number};
 ghost use Rattle.ps_text.specs.Lexing.{IsNumber};
-ghost use Rattle.ps_syntax.specs.Words.{is_kind, words_of, place_at, next_is, word_at, and_then, Gives};
+ghost use Rattle.ps_syntax.specs.Words.{At, Word, is_kind, words_of, place_at, next_is, word_at, end_at, and_then, Gives, Tells};
 ghost use Rattle.ps_syntax.specs.Seen.{seen};
+ghost use Rattle.ps_syntax.specs.Items.{counted};
 ghost use Rattle.ps_syntax.specs.Within.{AreWithin};
 ghost use Rattle.ps_syntax.specs.Signed.{signs_of};
 ghost use Rattle.ps_syntax.specs.Sums.{number_value, sign_at};
@@ -118,5 +119,42 @@ impl<'a> Cursor<'a> {
             }
             None => Err(ReadRefusal::Grammar(token.place)),
         }
+    }
+
+    /// Takes the next word if it is of the kind, and says whether it was.
+    #[tactic(auto, unfolding(crate::specs::Words::word_at))]
+    pub(crate) fn passes(&mut self, kind: TokenKind) -> bool
+        ensures { (rest : At → ℕ) → counted (λ (w : Word). 0) rest (word_at kind self.old) ≡ (if result then rest self.new else 0) }
+    {
+        if self.tokens.is_empty() {
+            return false;
+        }
+        if !is_kind(self.tokens[0].kind, kind) {
+            return false;
+        }
+        let (_, rest) = self.tokens.split_at(1);
+        self.tokens = rest;
+        true
+    }
+
+    /// The same place once more.
+    pub(crate) fn fork(&self) -> Cursor<'a>
+        ensures { result ≡ self.now }
+    {
+        Cursor {
+            bytes: self.bytes,
+            tokens: self.tokens,
+            end: self.end,
+        }
+    }
+
+    /// Whether the text ends here: `Grammar` at the next word where there is one.
+    pub(crate) fn end(&self) -> Result<(), ReadRefusal>
+        ensures { Tells (λ x. x) result (end_at self.now) }
+    {
+        if self.tokens.is_empty() {
+            return Ok(());
+        }
+        Err(ReadRefusal::Grammar(self.tokens[0].place))
     }
 }

@@ -1,16 +1,18 @@
 //! What a program declares.
 
-ghost use Rattle.std.specs.Prelude.{◌≡◌, ℕ, ◌+◌, ◌<◌, ◌≤◌, List, map, option_map, length, Option};
-ghost use Rattle.ps_term.specs.declared.var.Var.TheVariants as var;
+ghost use Rattle.std.specs.Prelude.{◌≡◌, ◌<◌, ◌≤◌, [], ◌∷◌, ◌++◌, map, length, IfOk};
 ghost use Rattle.ps_syntax.specs.Names.{variable_of, position_from};
-ghost use Rattle.ps_syntax.specs.Items.{nothing_declared, names_of};
+ghost use Rattle.ps_syntax.specs.Items.{nothing_declared, names_of, with_rows};
 ghost use Rattle.ps_syntax.specs.declared.global_decl.GlobalDecl.{GlobalDecl};
 
 use crate::global_decl::GlobalDecl;
 use crate::name::Name;
+use crate::program::Program;
 use crate::relation::Relation;
+use crate::stmt::Stmt;
 use ps_term::Var;
-use std::alloc::Global;
+use sqlite_items::Items;
+use std::alloc::{AllocError, Global};
 use std::marker::Model;
 
 /// How many globals a program may have.
@@ -90,6 +92,124 @@ impl Declared {
                 Some(n) => Some(Var::Local(0, n)),
                 None => None,
             },
+        }
+    }
+
+    /// How many rows hold at the start.
+    pub(crate) fn rows(&self) -> u64
+        ensures is { result ≡ self.now.rows }
+        ensures few { result ≤ 64 }
+    {
+        self.rows
+    }
+
+    /// The same declarations with so many rows.
+    pub(crate) fn with_rows(self, rows: u64) -> Declared
+        requires { rows ≤ 64 }
+        ensures { result ≡ with_rows rows self }
+    {
+        let Declared {
+            globals,
+            locals,
+            inits,
+            rows: _,
+        } = self;
+        Declared {
+            globals,
+            locals,
+            inits,
+            rows,
+        }
+    }
+
+    /// With a further global.
+    pub(crate) fn with_global(self, global: GlobalDecl) -> Result<Declared, AllocError>
+        requires { length self.globals < 16 }
+        ensures { IfOk result (λ d. d ≡ record { globals = self.globals ++ global ∷ []; locals = self.locals; inits = self.inits; rows = self.rows }) }
+    {
+        let Declared {
+            mut globals,
+            locals,
+            inits,
+            rows,
+        } = self;
+        globals.push(global)?;
+        Ok(Declared {
+            globals,
+            locals,
+            inits,
+            rows,
+        })
+    }
+
+    /// With a further local.
+    pub(crate) fn with_local(self, local: Name) -> Result<Declared, AllocError>
+        requires { length self.locals < 8 }
+        ensures { IfOk result (λ d. d ≡ record { globals = self.globals; locals = self.locals ++ local ∷ []; inits = self.inits; rows = self.rows }) }
+    {
+        let Declared {
+            globals,
+            mut locals,
+            inits,
+            rows,
+        } = self;
+        locals.push(local)?;
+        Ok(Declared {
+            globals,
+            locals,
+            inits,
+            rows,
+        })
+    }
+
+    /// With further relations that hold at the start.
+    pub(crate) fn with_inits(self, mut relations: Vec<Relation>) -> Result<Declared, AllocError>
+        ensures { IfOk result (λ d. d ≡ record { globals = self.globals; locals = self.locals; inits = self.inits ++ relations.items; rows = self.rows }) }
+    {
+        let Declared {
+            globals,
+            locals,
+            mut inits,
+            rows,
+        } = self;
+        inits.append(&mut relations)?;
+        Ok(Declared {
+            globals,
+            locals,
+            inits,
+            rows,
+        })
+    }
+
+    /// How many globals there are.
+    pub(crate) fn count_globals(&self) -> usize
+        ensures { result ≡ length self.now.globals }
+    {
+        self.globals.len()
+    }
+
+    /// How many locals there are.
+    pub(crate) fn count_locals(&self) -> usize
+        ensures { result ≡ length self.now.locals }
+    {
+        self.locals.len()
+    }
+
+    /// The program with these declarations and this body.
+    pub(crate) fn into_program(self, body: Items<Stmt>) -> Program
+        ensures { result ≡ record { globals = self.globals; locals = self.locals; inits = self.inits; body = body } }
+    {
+        let Declared {
+            globals,
+            locals,
+            inits,
+            rows: _,
+        } = self;
+        Program {
+            globals: Items::from_vec(globals),
+            locals: Items::from_vec(locals),
+            inits: Items::from_vec(inits),
+            body,
         }
     }
 }

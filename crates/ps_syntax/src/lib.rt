@@ -7,6 +7,7 @@ mod conds;
 mod cursor;
 mod declared;
 mod global_decl;
+mod items;
 mod limit_name;
 mod name;
 mod numbers;
