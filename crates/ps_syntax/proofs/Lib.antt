@@ -1,3 +1,4 @@
 pub mod NumberValues
 pub mod Positions
 pub mod Repeated
+pub mod Declarations

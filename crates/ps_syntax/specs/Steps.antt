@@ -4,10 +4,10 @@ use Rattle.ps_text.specs.declared.token_kind.TokenKind.TheVariants as kind
 use Rattle.ps_syntax.specs.declared.read_refusal.ReadRefusal.{ReadRefusal}
 use Rattle.ps_syntax.specs.declared.relation.Relation.{Relation}
 use Rattle.ps_syntax.specs.Blocks.{ended_at}
-use Rattle.ps_syntax.specs.Items.{value_at}
+use Rattle.ps_syntax.specs.Items.{counted, value_at}
 use Rattle.ps_syntax.specs.Names.{Names}
 use Rattle.ps_syntax.specs.Sums.{init_sign_of, relation_at}
-use Rattle.ps_syntax.specs.Words.{At, Read, ◌>>=◌, after_word, next_is, while_at, word_at}
+use Rattle.ps_syntax.specs.Words.{At, Word, Read, ◌>>=◌, after_word, next_is, while_at, word_at}
 
 -- The value of a global, which stands after its name.
 unfoldable pub declared_value_at : Read (Option ℤ)
@@ -24,3 +24,7 @@ relations_at scope n at = do
 abbrev pub rows_then : Option ℕ → ℕ → ℕ
 rows_then None following = 0
 rows_then (Some rows) following = rows + following
+
+-- a number that follows a word, where it is read
+abbrev pub passed : (At → ℕ) → Result (Word × At) ReadRefusal → ℕ
+passed following read = counted (λ (w : Word). 0) following read

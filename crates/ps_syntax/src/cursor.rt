@@ -3,9 +3,9 @@
 ghost use Rattle.std.specs.Prelude.{◌≡◌, ℕ, Ok, IfOk, if◌then◌else◌};
 ghost use Rattle.ps_text.specs.declared.token_kind.TokenKind.TheVariants.{Number};
 ghost use Rattle.ps_text.specs.Lexing.{IsNumber};
-ghost use Rattle.ps_syntax.specs.Words.{At, Word, is_kind, words_of, place_at, next_is, word_at, end_at, and_then, Gives, Tells};
+ghost use Rattle.ps_syntax.specs.Words.{At, is_kind, words_of, place_at, next_is, word_at, end_at, and_then, Gives, Tells};
 ghost use Rattle.ps_syntax.specs.Seen.{seen};
-ghost use Rattle.ps_syntax.specs.Items.{counted};
+ghost use Rattle.ps_syntax.specs.Steps.{passed};
 ghost use Rattle.ps_syntax.specs.Within.{AreWithin};
 ghost use Rattle.ps_syntax.specs.Signed.{signs_of};
 ghost use Rattle.ps_syntax.specs.Sums.{number_value, sign_at};
@@ -124,7 +124,7 @@ impl<'a> Cursor<'a> {
     /// Takes the next word if it is of the kind, and says whether it was.
     #[tactic(auto, unfolding(crate::specs::Words::word_at))]
     pub(crate) fn passes(&mut self, kind: TokenKind) -> bool
-        ensures { (rest : At → ℕ) → counted (λ (w : Word). 0) rest (word_at kind self.old) ≡ (if result then rest self.new else 0) }
+        ensures { (rest : At → ℕ) → passed rest (word_at kind self.old) ≡ (if result then rest self.new else 0) }
     {
         if self.tokens.is_empty() {
             return false;

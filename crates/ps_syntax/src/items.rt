@@ -7,7 +7,7 @@ ghost use Rattle.ps_syntax.specs.Words.{At, Gives, with_front, while_at, next_is
 ghost use Rattle.ps_syntax.specs.Scoped.{names_in};
 ghost use Rattle.ps_syntax.specs.Sums.{init_sign_of, relation_at};
 ghost use Rattle.ps_syntax.specs.Steps.{declared_value_at, relations_at, rows_then};
-ghost use Rattle.ps_syntax.specs.Items.{new_name_at, number_at, value_at, rows_of_sign, counted, rows_from, rows_of_value, item_rows, global_at, local_at, init_at, counted_item_at, item_at, has_item, items_at};
+ghost use Rattle.ps_syntax.specs.Items.{new_name_at, number_at, value_at, rows_of_sign, counted, rows_from, rows_of_value, item_rows, global_at, local_at, init_at, counted_item_at, item_at, has_item, items_at, nothing_declared};
 
 use crate::cursor::Cursor;
 use crate::declared::{Declared, MOST_GLOBALS, MOST_LOCALS, MOST_ROWS};
@@ -162,4 +162,157 @@ fn item_rows<'b>(alloc: Global, most: u32, cursor: &mut Cursor<'b>) -> Result<u6
         return Ok(0);
     }
     init_rows(alloc, most, cursor)
+}
+
+// ---- items
+
+// `global NAME (= number)? ;`
+#[tactic(auto, unfolding(crate::specs::Items::global_at, crate::specs::Blocks::ended_at, crate::specs::Words::after_word, crate::specs::Words::and_then))]
+fn global<'b>(
+    alloc: Global,
+    declared: Declared,
+    cursor: &mut Cursor<'b>,
+) -> Result<Declared, ReadRefusal>
+    ensures { Gives (λ x. x) result cursor.new (global_at declared cursor.old) }
+{
+    cursor.word(TokenKind::Global)?;
+    let count = declared.count_globals();
+    let name = new_name(alloc, &declared, count, MOST_GLOBALS, LimitName::Globals, cursor)?;
+    let value = value(cursor)?;
+    cursor.word(TokenKind::Semicolon)?;
+    Ok(declared.with_global(GlobalDecl { name, value })?)
+}
+
+// `local NAME ;`
+#[tactic(auto, unfolding(crate::specs::Items::local_at, crate::specs::Blocks::ended_at, crate::specs::Words::after_word, crate::specs::Words::and_then))]
+fn local<'b>(
+    alloc: Global,
+    declared: Declared,
+    cursor: &mut Cursor<'b>,
+) -> Result<Declared, ReadRefusal>
+    ensures { Gives (λ x. x) result cursor.new (local_at declared cursor.old) }
+{
+    cursor.word(TokenKind::Local)?;
+    let count = declared.count_locals();
+    let name = new_name(alloc, &declared, count, MOST_LOCALS, LimitName::Locals, cursor)?;
+    cursor.word(TokenKind::Semicolon)?;
+    Ok(declared.with_local(name)?)
+}
+
+impl<'a> Parser<'a> {
+    // The further relations of an `init` item, after those that were read.
+    #[tactic(auto, using(crate::proofs::Repeated::repeats_none, crate::proofs::Repeated::repeats_more, crate::proofs::Repeated::repeats_stop, crate::proofs::Repeated::repeats_all), unfolding(crate::specs::Words::after_word, crate::specs::Words::and_then))]
+    fn further_relations<'b>(
+        &self,
+        mut relations: Vec<Relation>,
+        cursor: &mut Cursor<'b>,
+    ) -> Result<Vec<Relation>, ReadRefusal>
+        ensures { Gives (λ v. v.items) result cursor.new (with_front relations.items (while_at (next_is kind.And) (after_word kind.And (relation_at init_sign_of (names_in self.now.scope) self.now.most)) self.now.most cursor.old)) }
+    {
+        for _ in 0..self.most {
+            if !cursor.next_is(TokenKind::And) {
+                return Ok(relations);
+            }
+            cursor.word(TokenKind::And)?;
+            relations.push(self.relation(Signs::AtStart, cursor)?)?;
+        }
+        Ok(relations)
+    }
+
+    // The relations of an `init` item.
+    #[tactic(auto, unfolding(crate::specs::Steps::relations_at, crate::specs::Blocks::ended_at, crate::specs::Words::after_word, crate::specs::Words::and_then))]
+    fn relations<'b>(&self, cursor: &mut Cursor<'b>) -> Result<Vec<Relation>, ReadRefusal>
+        ensures { Gives (λ v. v.items) result cursor.new (relations_at (names_in self.now.scope) self.now.most cursor.old) }
+    {
+        cursor.word(TokenKind::Init)?;
+        let first = self.relation(Signs::AtStart, cursor)?;
+        let mut relations = Vec::new(self.alloc);
+        relations.push(first)?;
+        let relations = self.further_relations(relations, cursor)?;
+        cursor.word(TokenKind::Semicolon)?;
+        Ok(relations)
+    }
+}
+
+// `init rel (&& rel)* ;`
+#[tactic(auto, unfolding(crate::specs::Items::init_at, crate::specs::Steps::relations_at, crate::specs::Words::and_then))]
+fn init<'b>(
+    alloc: Global,
+    most: u32,
+    declared: Declared,
+    cursor: &mut Cursor<'b>,
+) -> Result<Declared, ReadRefusal>
+    ensures { Gives (λ x. x) result cursor.new (init_at declared most cursor.old) }
+{
+    let parser = Parser {
+        alloc,
+        scope: Scope::Known(&declared),
+        most,
+    };
+    let relations = parser.relations(cursor)?;
+    Ok(declared.with_inits(relations)?)
+}
+
+// An item, whose rows are counted.
+#[tactic(auto, unfolding(crate::specs::Items::counted_item_at))]
+fn counted_item<'b>(
+    alloc: Global,
+    most: u32,
+    declared: Declared,
+    cursor: &mut Cursor<'b>,
+) -> Result<Declared, ReadRefusal>
+    ensures { Gives (λ x. x) result cursor.new (counted_item_at declared most cursor.old) }
+{
+    if cursor.next_is(TokenKind::Global) {
+        global(alloc, declared, cursor)
+    } else if cursor.next_is(TokenKind::Local) {
+        local(alloc, declared, cursor)
+    } else {
+        init(alloc, most, declared, cursor)
+    }
+}
+
+// An item.
+#[tactic(auto, unfolding(crate::specs::Items::item_at))]
+fn item<'b>(
+    alloc: Global,
+    most: u32,
+    declared: Declared,
+    cursor: &mut Cursor<'b>,
+) -> Result<Declared, ReadRefusal>
+    ensures { Gives (λ x. x) result cursor.new (item_at declared most cursor.old) }
+{
+    let rows = declared.rows() + item_rows(alloc, most, &mut cursor.fork())?;
+    if MOST_ROWS < rows {
+        return Err(ReadRefusal::Limit(cursor.place(), LimitName::Init));
+    }
+    counted_item(alloc, most, declared.with_rows(rows), cursor)
+}
+
+// Whether an item follows.
+fn has_item<'b>(cursor: &Cursor<'b>) -> bool
+    ensures { result ≡ has_item cursor.now }
+{
+    cursor.next_is(TokenKind::Global)
+        || cursor.next_is(TokenKind::Local)
+        || cursor.next_is(TokenKind::Init)
+}
+
+/// Takes the declarations, as long as there are any.
+#[tactic(auto, using(crate::proofs::Declarations::items_more, crate::proofs::Declarations::items_stop, crate::proofs::Declarations::items_all))]
+pub(crate) fn items<'b>(
+    alloc: Global,
+    most: u32,
+    cursor: &mut Cursor<'b>,
+) -> Result<Declared, ReadRefusal>
+    ensures { Gives (λ x. x) result cursor.new (items_at most nothing_declared most cursor.old) }
+{
+    let mut declared = Declared::new(alloc);
+    for _ in 0..most {
+        if !has_item(cursor) {
+            return Ok(declared);
+        }
+        declared = item(alloc, most, declared, cursor)?;
+    }
+    Ok(declared)
 }
