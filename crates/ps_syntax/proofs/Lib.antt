@@ -1,2 +1,4 @@
 pub mod Steps
 pub mod Sequences
+pub mod Scopes
+pub mod SumLaws
