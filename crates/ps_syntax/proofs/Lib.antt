@@ -2,3 +2,5 @@ pub mod Steps
 pub mod Sequences
 pub mod Scopes
 pub mod SumLaws
+pub mod RelationLaws
+pub mod CondLaws

@@ -56,10 +56,10 @@ word_exact n k = record {
 abbrev pub IsMark : TokenKind → Type 0
 IsMark k = (t : List ℕ) → piece_of_kind k t ≡ Mark k
 
-mark_found : (n : ℕ) (k : TokenKind) → IsMark k → (at : At) → Finds (word_at k at) (λ y. Takes at.words (Mark k ∷ []) y.1.words)
+pub mark_found : (n : ℕ) (k : TokenKind) → IsMark k → (at : At) → Finds (word_at k at) (λ y. Takes at.words (Mark k ∷ []) y.1.words)
 mark_found n k marked at = found_more _ _ _ ((word_exact n k).found at) (λ y p. takes_so (ap (λ (q : Piece). q ∷ []) (marked p.text)) p.taken)
 
-mark_again : (n : ℕ) (k : TokenKind) → IsMark k → (at : At) (rest : List Piece) → Ahead n at (Mark k ∷ rest) → Gets (word_at k at) (λ y. Ahead n y.1 rest)
+pub mark_again : (n : ℕ) (k : TokenKind) → IsMark k → (at : At) (rest : List Piece) → Ahead n at (Mark k ∷ rest) → Gets (word_at k at) (λ y. Ahead n y.1 rest)
 mark_again n k marked at rest h = gets_more _ _ _ ((word_exact n k).again at [] rest tt (ahead_so (ap (λ (q : Piece). q ∷ rest) (sym (marked []))) h) tt) (λ y p. p.1)
 
 -- ---- one text as another
@@ -152,6 +152,24 @@ both_exact {n = n} {one = one} {two = two} {spell = spell} {spell' = spell'} {fi
     gets_bind _ _ _ _ (exact_again exact at c.0 (spell' c.1 ++ rest) fit.0 (ahead_so (append_assoc (spell c.0) (spell' c.1) rest) h) (joins c.1 rest fit.1 stop)) (λ x p.
     gets_bind _ _ _ _ (exact'.again x.1 c.1 rest fit.1 p.1 stop) (λ y q.
     gets_end _ _ (record { first = x.0; second = y.0; said_first = p.0; said_second = subst (λ (ps : List Place). says' c.1 ps y.0) p.2 q.0; is = refl }, q.1)));
+}
+
+-- ---- what is read, and a word after it
+
+abbrev pub closed : {A : Type 0} → TokenKind → Read A → Read A
+closed k read = both (λ x w. x) read (word_at k)
+
+pub closed_exact : {C A : Type 0} {n : ℕ} {read : Read A} {spell : C → List Piece} {fits : C → Type 0} {says : C → List Place → A → Type 0} {follows : List Piece → Type 0}
+    (k : TokenKind) → IsMark k → ((rest : List Piece) → follows (Mark k ∷ rest)) → Exact n read spell fits says follows → Exact n (closed k read) (λ c. spell c ++ Mark k ∷ []) fits says Always
+closed_exact {n = n} {spell = spell} k marked ends exact = record {
+  found = λ at.
+    found_bind _ _ _ _ (exact.found at) (λ x p.
+    found_bind _ _ _ _ (mark_found n k marked x.1) (λ w q.
+    found_end _ _ (record { text = p.text; taken = takes_then p.taken q; fit = p.fit; is = p.is })));
+  again = λ at c rest fit h _.
+    gets_bind _ _ _ _ (exact.again at c (Mark k ∷ rest) fit (ahead_so (append_assoc (spell c) (Mark k ∷ []) rest) h) (ends rest)) (λ x p.
+    gets_bind _ _ _ _ (mark_again n k marked x.1 rest p.1) (λ w q.
+    gets_end _ _ (p.0, q)));
 }
 
 -- ---- as long as it goes on
