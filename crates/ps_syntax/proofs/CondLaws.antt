@@ -29,7 +29,7 @@ use Rattle.ps_syntax.proofs.RelationLaws.{all_signs, every_sign, RelationIn, Rel
 
 -- ---- members with a word between them
 
-abbrev Is : {C A : Type 0} → (C → A) → C → List Place → A → Type 0
+abbrev pub Is : {C A : Type 0} → (C → A) → C → List Place → A → Type 0
 Is tree c ps y = y ≡ tree c
 
 abbrev members_pieces : {C : Type 0} → TokenKind → (C → List Piece) → C × List C → List Piece

@@ -4,3 +4,4 @@ pub mod Scopes
 pub mod SumLaws
 pub mod RelationLaws
 pub mod CondLaws
+pub mod StmtLaws
