@@ -5,3 +5,4 @@ pub mod SumLaws
 pub mod RelationLaws
 pub mod CondLaws
 pub mod StmtLaws
+pub mod BlockLaws

@@ -46,56 +46,56 @@ pub ended_exact : {C A : Type 0} {n : ℕ} {read : Read A} {spell : C → List P
 unfolding ended_at
 ended_exact ends exact = closed_exact kind.Semicolon (λ t. refl) ends exact
 
-assign_exact : (n : ℕ) (names : Names) → Exact n (assign_at (Some names) n) (λ (c : List ℕ × SumText). stmt_pieces (assign c.0 c.1)) (λ c. IsKnown names c.0 × SumFits names c.1) (λ c ps y. y ≡ stmt_tree names (assign c.0 c.1) ps) Always
+pub assign_exact : (n : ℕ) (names : Names) → Exact n (assign_at (Some names) n) (λ (c : List ℕ × SumText). stmt_pieces (assign c.0 c.1)) (λ c. IsKnown names c.0 × SumFits names c.1) (λ c ps y. y ≡ stmt_tree names (assign c.0 c.1) ps) Always
 unfolding assign_at
 assign_exact n names =
     exact_as _ _ _ (λ c. c) (λ c. c) (λ c. refl) (λ c. refl) (λ c h. h) (λ c h. h)
     (λ c ps y h. h.is ∙ ap (λ (v : Var). stmt.Assign v h.second) h.said_first ∙ ap (stmt.Assign (variable_named names c.0)) h.said_second)
     (both_exact stmt.Assign (variable_exact n (Some names)) (after_exact kind.Becomes (λ t. refl) (ended_exact (λ rest. (refl, refl)) (sum_exact n (Some names)))) (λ d rest fit stop. tt))
 
-havoc_exact : (n : ℕ) (names : Names) → Exact n (havoc_at (Some names)) (λ x. stmt_pieces (havoc x)) (IsKnown names) (λ x ps y. y ≡ stmt_tree names (havoc x) ps) Always
+pub havoc_exact : (n : ℕ) (names : Names) → Exact n (havoc_at (Some names)) (λ x. stmt_pieces (havoc x)) (IsKnown names) (λ x ps y. y ≡ stmt_tree names (havoc x) ps) Always
 unfolding havoc_at
 havoc_exact n names = mapped_exact _ stmt.Havoc (λ x ps y h. ap stmt.Havoc h) (after_exact kind.Havoc (λ t. refl) (ended_exact (λ rest. tt) (variable_exact n (Some names))))
 
-cond_stmt_exact : (n : ℕ) (names : Names) (levels : ℕ) (word : TokenKind) (of : Cond → StmtKind) → IsMark word
+pub cond_stmt_exact : (n : ℕ) (names : Names) (levels : ℕ) (word : TokenKind) (of : Cond → StmtKind) → IsMark word
     → Exact n (cond_stmt_at word of (Some names) n levels) (λ c. Mark word ∷ (cond_pieces c ++ Mark kind.Semicolon ∷ [])) (CondFits names levels) (λ c ps y. y ≡ of (cond_tree names c)) Always
 unfolding cond_stmt_at
 cond_stmt_exact n names levels word of marked = mapped_exact _ of (λ c ps y h. ap of h) (after_exact word marked (ended_exact (λ rest. (refl, (refl, (refl, refl)))) (cond_exact n names levels)))
 
-skip_exact : (n : ℕ) → Exact n skip_at (λ (t : List ℕ). Mark kind.Skip ∷ Mark kind.Semicolon ∷ []) Always (λ t ps y. y ≡ stmt.Skip) Always
+pub skip_exact : (n : ℕ) → Exact n skip_at (λ (t : List ℕ). Mark kind.Skip ∷ Mark kind.Semicolon ∷ []) Always (λ t ps y. y ≡ stmt.Skip) Always
 unfolding skip_at
 skip_exact n = mapped_exact _ (λ _. stmt.Skip) (λ t ps y h. refl) (after_exact kind.Skip (λ t. refl) (word_exact n kind.Semicolon))
 
 -- ---- statements with blocks
 
-atomic_exact : (n : ℕ) (names : Names) (levels : ℕ) (block : Read (List Stmt)) → BlockExact n names levels true block
+pub atomic_exact : (n : ℕ) (names : Names) (levels : ℕ) (block : Read (List Stmt)) → BlockExact n names levels true block
     → Exact n (atomic_at block) (λ b. stmt_pieces (atomic b)) (BlockFits names levels true) (λ b ps y. y ≡ stmt_tree names (atomic b) ps) Always
 unfolding atomic_at
 atomic_exact n names levels block exact =
     mapped_exact _ stmt.Atomic (λ b ps y h. ap stmt.Atomic (h ∙ ap (block_trees names b) (drop-drop 1 1 ps))) (after_exact kind.Atomic (λ t. refl) exact)
 
-while_exact' : (n : ℕ) (names : Names) (levels : ℕ) (inside : Bool) (block : Read (List Stmt)) → BlockExact n names levels inside block
+held_place : (k : ℕ) (ps : List Place) → drop 1 (drop (suc k) ps) ≡ drop (k + 2) ps
+held_place k ps =
+    let e : suc k + 1 ≡ k + 2 = omega arith in
+    drop-drop 1 (suc k) ps ∙ ap (λ (m : ℕ). drop m ps) e
+
+pub while_do_exact : (n : ℕ) (names : Names) (levels : ℕ) (inside : Bool) (block : Read (List Stmt)) → BlockExact n names levels inside block
     → Exact n (both stmt.While (after_word kind.While (parens_at (Some names) n levels)) block) (λ (c : TestText × BlockText). stmt_pieces (while_do c.0 c.1)) (λ c. TestFits names levels c.0 × BlockFits names levels inside c.1) (λ c ps y. y ≡ stmt_tree names (while_do c.0 c.1) ps) Always
-while_exact' n names levels inside block exact =
+while_do_exact n names levels inside block exact =
     exact_as _ _ _ (λ c. c) (λ c. c) (λ c. refl) (λ c. refl) (λ c h. h) (λ c h. h)
-    (λ c ps y h. h.is ∙ ap (λ (t : Test). stmt.While t h.second) h.said_first ∙ ap (stmt.While (test_tree names c.0)) (h.said_second ∙ ap (block_trees names c.1) (far (length (test_pieces c.0)) ps)))
+    (λ c ps y h. h.is ∙ ap (λ (t : Test). stmt.While t h.second) h.said_first ∙ ap (stmt.While (test_tree names c.0)) (h.said_second ∙ ap (block_trees names c.1) (held_place (length (test_pieces c.0)) ps)))
     (both_exact stmt.While (after_exact kind.While (λ t. refl) (parens_exact n names levels)) exact (λ d rest fit stop. tt))
-  where
-    far : (k : ℕ) (ps : List Place) → drop 1 (drop (suc k) ps) ≡ drop (k + 2) ps
-    far k ps =
-        let e : suc k + 1 ≡ k + 2 = omega arith in
-        drop-drop 1 (suc k) ps ∙ ap (λ (m : ℕ). drop m ps) e
 
 -- `else` and a block, or nothing
-abbrev else_pieces : Option BlockText → List Piece
+abbrev pub else_pieces : Option BlockText → List Piece
 else_pieces None = []
 else_pieces (Some b) = Mark kind.Else ∷ block_pieces b
 
-abbrev ElseFits : Names → ℕ → Bool → Option BlockText → Type 0
+abbrev pub ElseFits : Names → ℕ → Bool → Option BlockText → Type 0
 ElseFits names levels inside None = Unit {0}
 ElseFits names levels inside (Some b) = BlockFits names levels inside b
 
-abbrev ElseIs : Names → Option BlockText → List Place → List Stmt → Type 0
+abbrev pub ElseIs : Names → Option BlockText → List Place → List Stmt → Type 0
 ElseIs names None ps y = y ≡ []
 ElseIs names (Some b) ps y = y ≡ block_trees names b (drop 1 (drop 1 ps))
 
@@ -117,18 +117,18 @@ else_exact n names levels inside block exact = record {
   again = else_again n names levels inside block exact;
 }
 
-record IfText : Type 0 where
+pub record IfText : Type 0 where
   pub test : TestText
   pub held : BlockText
   pub failed : Option BlockText
 
-abbrev if_pieces : IfText → List Piece
+abbrev pub if_pieces : IfText → List Piece
 if_pieces c = (Mark kind.If ∷ test_pieces c.test) ++ (block_pieces c.held ++ else_pieces c.failed)
 
-abbrev IfFits : Names → ℕ → Bool → IfText → Type 0
+abbrev pub IfFits : Names → ℕ → Bool → IfText → Type 0
 IfFits names levels inside c = TestFits names levels c.test × BlockFits names levels inside c.held × ElseFits names levels inside c.failed
 
-record IfIs (names : Names) (c : IfText) (ps : List Place) (y : StmtKind) : Type 0 where
+pub record IfIs (names : Names) (c : IfText) (ps : List Place) (y : StmtKind) : Type 0 where
   pub failed : List Stmt
   pub said : ElseIs names c.failed (drop (length (block_pieces c.held)) (drop (suc (length (test_pieces c.test))) ps)) failed
   pub is : y ≡ stmt.If (test_tree names c.test) (block_trees names c.held (drop 1 (drop (suc (length (test_pieces c.test))) ps))) failed
@@ -141,7 +141,7 @@ make_if names c ps t held failed a b d = record {
   is = ap (λ (u : Test). stmt.If u held failed) a ∙ ap (λ (us : List Stmt). stmt.If (test_tree names c.test) us failed) b;
 }
 
-if_exact : (n : ℕ) (names : Names) (levels : ℕ) (inside : Bool) (block : Read (List Stmt)) → BlockExact n names levels inside block → Exact n (if_at block (Some names) n levels) if_pieces (IfFits names levels inside) (IfIs names) (Not kind.Else)
+pub if_exact : (n : ℕ) (names : Names) (levels : ℕ) (inside : Bool) (block : Read (List Stmt)) → BlockExact n names levels inside block → Exact n (if_at block (Some names) n levels) if_pieces (IfFits names levels inside) (IfIs names) (Not kind.Else)
 unfolding if_at
 if_exact n names levels inside block exact = record {
   found = λ at.
@@ -176,16 +176,16 @@ if_exact n names levels inside block exact = record {
 abbrev pub StmtIs : Names → StmtText → List Place → StmtKind → Type 0
 StmtIs names s ps y = y ≡ stmt_tree names s ps
 
-if_of : IfText → StmtText
+pub if_of : IfText → StmtText
 if_of c = elim c.failed as (λ _. StmtText) [ None ↦ if_then c.test c.held | Some b ↦ if_else c.test c.held b ]
 
-found_as : {C D A : Type 0} {spell : C → List Piece} {fits : C → Type 0} {says : C → List Place → A → Type 0} (spell' : D → List Piece) (fits' : D → Type 0) (says' : D → List Place → A → Type 0) (f : C → D)
+pub found_as : {C D A : Type 0} {spell : C → List Piece} {fits : C → Type 0} {says : C → List Place → A → Type 0} (spell' : D → List Piece) (fits' : D → Type 0) (says' : D → List Place → A → Type 0) (f : C → D)
     → ((c : C) → spell c ≡ spell' (f c)) → ((c : C) → fits c → fits' (f c)) → ((c : C) (ps : List Place) (y : A) → says c ps y → says' (f c) ps y)
     → (at : At) (r : Result (A × At) ReadRefusal) → Finds r (Spelled spell fits says at) → Finds r (Spelled spell' fits' says' at)
 found_as spell' fits' says' f spelled fit said at r h =
     found_more _ _ _ h (λ y p. record { text = f p.text; taken = takes_so (spelled p.text) p.taken; fit = fit p.text p.fit; is = said p.text (places at.words) y.0 p.is })
 
-if_spelled : (c : IfText) → if_pieces c ≡ stmt_pieces (if_of c)
+pub if_spelled : (c : IfText) → if_pieces c ≡ stmt_pieces (if_of c)
 unfolding if_of
 if_spelled c = by_else c.failed
   where
@@ -193,7 +193,7 @@ if_spelled c = by_else c.failed
     by_else None = ap (λ (ps : List Piece). (Mark kind.If ∷ test_pieces c.test) ++ ps) (append-nil (block_pieces c.held))
     by_else (Some b) = refl
 
-if_fit : (names : Names) (levels : ℕ) (inside : Bool) (c : IfText) → IfFits names levels inside c → StmtFits names levels inside (if_of c)
+pub if_fit : (names : Names) (levels : ℕ) (inside : Bool) (c : IfText) → IfFits names levels inside c → StmtFits names levels inside (if_of c)
 unfolding if_of
 if_fit names levels inside c h = by_else c.failed h.2
   where
@@ -201,17 +201,12 @@ if_fit names levels inside c h = by_else c.failed h.2
     by_else None g = (h.0, h.1.0, h.1.1)
     by_else (Some b) g = (h.0, h.1.0, h.1.1, g.1)
 
-held_place : (k : ℕ) (ps : List Place) → drop 1 (drop (suc k) ps) ≡ drop (k + 2) ps
-held_place k ps =
-    let e : suc k + 1 ≡ k + 2 = omega arith in
-    drop-drop 1 (suc k) ps ∙ ap (λ (m : ℕ). drop m ps) e
-
 failed_place : (j k : ℕ) (ps : List Place) → drop 1 (drop 1 (drop (suc j) (drop (suc k) ps))) ≡ drop (j + (k + 4)) ps
 failed_place j k ps =
     let e : suc k + suc j + 1 + 1 ≡ j + (k + 4) = omega arith in
     ap (λ (qs : List Place). drop 1 (drop 1 qs)) (drop-drop (suc j) (suc k) ps) ∙ ap (λ (qs : List Place). drop 1 qs) (drop-drop 1 (suc k + suc j) ps) ∙ drop-drop 1 (suc k + suc j + 1) ps ∙ ap (λ (m : ℕ). drop m ps) e
 
-if_said : (names : Names) (c : IfText) (ps : List Place) (y : StmtKind) → IfIs names c ps y → StmtIs names (if_of c) ps y
+pub if_said : (names : Names) (c : IfText) (ps : List Place) (y : StmtKind) → IfIs names c ps y → StmtIs names (if_of c) ps y
 unfolding if_of
 if_said names c ps y h = by_else c.failed h.failed h.said h.is
   where
@@ -225,3 +220,15 @@ if_said names c ps y h = by_else c.failed h.failed h.said h.is
     by_else (Some b) failed g e =
         e ∙ ap (λ (us : List Stmt). stmt.If (test_tree names c.test) (block_trees names c.held (drop 1 (drop (suc (length (test_pieces c.test))) ps))) us) (g ∙ ap (block_trees names b) (failed_place (length (rest_pieces c.held)) (length (test_pieces c.test)) ps))
         ∙ ap (λ (qs : List Place). stmt.If (test_tree names c.test) (block_trees names c.held qs) (block_trees names b (drop (length (rest_pieces c.held) + (length (test_pieces c.test) + 4)) ps))) (held_place (length (test_pieces c.test)) ps)
+
+pub then_spelled : (t : TestText) (b : BlockText) → if_pieces (record { test = t; held = b; failed = None }) ≡ stmt_pieces (if_then t b)
+unfolding if_of
+then_spelled t b = if_spelled (record { test = t; held = b; failed = None })
+
+pub then_said : (names : Names) (t : TestText) (b : BlockText) (ps : List Place) (y : StmtKind) → IfIs names (record { test = t; held = b; failed = None }) ps y → StmtIs names (if_then t b) ps y
+unfolding if_of
+then_said names t b ps y h = if_said names (record { test = t; held = b; failed = None }) ps y h
+
+pub else_said : (names : Names) (t : TestText) (b c : BlockText) (ps : List Place) (y : StmtKind) → IfIs names (record { test = t; held = b; failed = Some c }) ps y → StmtIs names (if_else t b c) ps y
+unfolding if_of
+else_said names t b c ps y h = if_said names (record { test = t; held = b; failed = Some c }) ps y h
