@@ -6,3 +6,4 @@ pub mod RelationLaws
 pub mod CondLaws
 pub mod StmtLaws
 pub mod BlockLaws
+pub mod DeclarationLaws
