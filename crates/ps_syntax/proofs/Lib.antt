@@ -7,3 +7,4 @@ pub mod CondLaws
 pub mod StmtLaws
 pub mod BlockLaws
 pub mod DeclarationLaws
+pub mod ProgramLaws

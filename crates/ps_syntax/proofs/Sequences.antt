@@ -115,14 +115,18 @@ same_length ps qs rest e =
     let l : length (ps ++ rest) ≡ length (qs ++ rest) = ap (λ (xs : List Piece). length xs) e in
     omega (arith, l, length-append ps rest, length-append qs rest)
 
+-- the places that are left after words that are spelled so
+pub left_places : {a b : List Word} {qs : List Piece} (ps rest : List Piece) → Takes a qs b → pieces a ≡ ps ++ rest → pieces b ≡ rest → places b ≡ drop (length ps) (places a)
+left_places {a = a} {qs = qs} ps rest p h k =
+    let e : qs ++ rest ≡ ps ++ rest = ap (λ (xs : List Piece). qs ++ xs) (sym k) ∙ sym (takes_pieces p) ∙ h in
+    takes_places p ∙ ap (λ (m : ℕ). drop m (places a)) (same_length qs ps rest e)
+
 -- what is read again is left where its spelling ends
 pub exact_again : {C A : Type 0} {n : ℕ} {read : Read A} {spell : C → List Piece} {fits : C → Type 0} {says : C → List Place → A → Type 0} {follows : List Piece → Type 0}
     → Exact n read spell fits says follows → (at : At) (c : C) (rest : List Piece) → fits c → Ahead n at (spell c ++ rest) → follows rest
     → Gets (read at) (λ y. says c (places at.words) y.0 × Ahead n y.1 rest × (places y.1.words ≡ drop (length (spell c)) (places at.words)))
 exact_again {spell = spell} exact at c rest fit h stop =
-    gets_more _ _ _ (gets_found _ _ _ (exact.again at c rest fit h stop) (exact.found at)) (λ y p.
-    let e : spell p.1.text ++ rest ≡ spell c ++ rest = ap (λ (ps : List Piece). spell p.1.text ++ ps) (sym p.0.1.is) ∙ sym (takes_pieces p.1.taken) ∙ h.is in
-    (p.0.0, p.0.1, takes_places p.1.taken ∙ ap (λ (k : ℕ). drop k (places at.words)) (same_length (spell p.1.text) (spell c) rest e)))
+    gets_more _ _ _ (gets_found _ _ _ (exact.again at c rest fit h stop) (exact.found at)) (λ y p. (p.0.0, p.0.1, left_places (spell c) rest p.1.taken h.is p.0.1.is))
 
 -- ---- one and then another
 

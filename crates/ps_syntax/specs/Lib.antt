@@ -10,3 +10,4 @@ pub mod Grammar
 pub mod Spelling
 pub mod Trees
 pub mod Fits
+pub mod Reads
