@@ -2,3 +2,13 @@ pub mod NumberValues
 pub mod Positions
 pub mod Repeated
 pub mod Declarations
+pub mod Steps
+pub mod Sequences
+pub mod Scopes
+pub mod SumLaws
+pub mod RelationLaws
+pub mod CondLaws
+pub mod StmtLaws
+pub mod BlockLaws
+pub mod DeclarationLaws
+pub mod ProgramLaws

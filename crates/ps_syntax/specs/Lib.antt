@@ -15,3 +15,4 @@ pub mod Grammar
 pub mod Spelling
 pub mod Trees
 pub mod Fits
+pub mod Reads
