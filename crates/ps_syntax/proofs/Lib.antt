@@ -1,4 +1,3 @@
-pub mod NumberValues
 pub mod Positions
 pub mod Repeated
 pub mod Declarations
@@ -12,3 +11,5 @@ pub mod StmtLaws
 pub mod BlockLaws
 pub mod DeclarationLaws
 pub mod ProgramLaws
+pub mod WordsWithin
+pub mod TextLaws

@@ -16,3 +16,4 @@ pub mod Spelling
 pub mod Trees
 pub mod Fits
 pub mod Reads
+pub mod Texts

@@ -10,12 +10,11 @@ ghost use Rattle.ps_syntax.specs.Within.{AreWithin};
 ghost use Rattle.ps_syntax.specs.Signed.{signs_of};
 ghost use Rattle.ps_syntax.specs.Sums.{number_value, sign_at};
 
-use crate::numbers::number_value;
 use crate::read_refusal::ReadRefusal;
 use crate::relation::Sign;
 use crate::signs::Signs;
 use crate::word::Word;
-use ps_text::{Place, Token, TokenKind};
+use ps_text::{Place, Token, TokenKind, number_value, text_of};
 use std::marker::Model;
 
 /// A place in the words of a program text. A call takes no memory.
@@ -88,7 +87,7 @@ impl<'a> Cursor<'a> {
         self.tokens = rest;
         Ok(Word {
             kind: token.kind,
-            text: &bytes[token.start as usize..token.end as usize],
+            text: text_of(bytes, token),
             place: token.place,
         })
     }
@@ -99,7 +98,7 @@ impl<'a> Cursor<'a> {
         ensures { Gives (λ n. n) result self.new (and_then (word_at Number self.old) (λ w. Ok (number_value w.0.text, w.1))) }
     {
         let word = self.word(TokenKind::Number)?;
-        Ok(number_value(word.text))
+        Ok(number_value(word.text) as i64)
     }
 
     /// Takes the next word, which is a sign.

@@ -49,7 +49,7 @@ pub use splitting::lines;
 pub use token::{Token, text_of};
 pub use token_end::TokenEnd;
 pub use token_kind::TokenKind;
-pub use tokenizing::tokens;
+pub use tokenizing::{place_of_end, tokens};
 pub use until::Until;
 
 #[cfg(test)]

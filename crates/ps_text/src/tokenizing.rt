@@ -67,6 +67,14 @@ fn place_at(bytes: &[u8], from: usize, to: usize, place: Place) -> Place
     moved
 }
 
+/// Where a program text ends: just after its last byte. Looks at each byte once.
+pub fn place_of_end(bytes: &[u8]) -> Place
+    requires { length bytes.now + 1 < 2 ^ 32 }
+    ensures { result ≡ place_of bytes.now (length bytes.now) }
+{
+    place_at(bytes, 0, bytes.len(), Place { line: 1, column: 1 })
+}
+
 /// Cuts a program text into names, numbers and signs, with their places. Blanks and comments only separate them.
 /// `BadToken` stands at the first byte that starts none of these. Looks at each byte a few times, and takes memory for the tokens alone.
 pub fn tokens(alloc: Global, bytes: &[u8]) -> Result<Vec<Token>, TokenEnd>
