@@ -17,3 +17,4 @@ pub mod Trees
 pub mod Fits
 pub mod Reads
 pub mod Texts
+pub mod Refusals
