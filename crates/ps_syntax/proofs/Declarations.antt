@@ -97,10 +97,10 @@ unended {A = A} front list after r (Ok x) e stop =
 unended front list after r (Err f) e stop = absurd cc
 
 pub relations_unended : (scope : Option Names) (n : ℕ) (at first next after : At) (w : Word) (x : Relation) (front list : List Relation) (r : ReadRefusal)
-  → word_at kind.Init at ≡ Ok (w, first)
-  → relation_at init_sign_of scope n first ≡ Ok (x, next)
-  → with_front front (while_at (next_is kind.And) (after_word kind.And (relation_at init_sign_of scope n)) n next) ≡ Ok (list, after)
-  → Refuses r (word_at kind.Semicolon after) → Refuses r (relations_at scope n at)
+    → word_at kind.Init at ≡ Ok (w, first)
+    → relation_at init_sign_of scope n first ≡ Ok (x, next)
+    → with_front front (while_at (next_is kind.And) (after_word kind.And (relation_at init_sign_of scope n)) n next) ≡ Ok (list, after)
+    → Refuses r (word_at kind.Semicolon after) → Refuses r (relations_at scope n at)
 unfolding relations_at ended_at after_word and_then
 relations_unended scope n at first next after w x front list r init one more =
     refuses_same r (word_at kind.Semicolon after) (relations_at scope n at) (λ stop.

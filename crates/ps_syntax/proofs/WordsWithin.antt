@@ -51,12 +51,14 @@ rest_inside len t ts all = λ k d lt. all (suc k) d (omega (arith, lt))
 
 within_from : (bytes : List ℕ) (from : ℕ) (ts : List Token) (to : ℕ) → AreUpTo bytes from ts to → All (IsInside (length bytes)) ts → AreWithin bytes ts
 within_from bytes from [] to cut inside = tt
-within_from bytes from (t ∷ ts) to cut inside =
-    (record {
-      ordered = omega (arith, (first_inside (length bytes) t ts inside).ordered);
-      inside = (first_inside (length bytes) t ts inside).inside;
-      number = is_number t.kind _ cut.1.text.spelled;
-    }, within_from bytes t.end ts to cut.2 (rest_inside (length bytes) t ts inside))
+within_from bytes from (t ∷ ts) to cut inside = (
+  record {
+    ordered = omega (arith, (first_inside (length bytes) t ts inside).ordered);
+    inside = (first_inside (length bytes) t ts inside).inside;
+    number = is_number t.kind _ cut.1.text.spelled;
+  },
+  within_from bytes t.end ts to cut.2 (rest_inside (length bytes) t ts inside),
+)
 
 count_from : (bytes : List ℕ) (from : ℕ) (ts : List Token) (to : ℕ) → AreUpTo bytes from ts to → All (IsInside (length bytes)) ts → from + length ts ≤ to
 count_from bytes from [] to cut inside = omega (arith, cut)

@@ -177,7 +177,14 @@ fn global<'b>(
 {
     cursor.word(TokenKind::Global)?;
     let count = declared.count_globals();
-    let name = new_name(alloc, &declared, count, MOST_GLOBALS, LimitName::Globals, cursor)?;
+    let name = new_name(
+        alloc,
+        &declared,
+        count,
+        MOST_GLOBALS,
+        LimitName::Globals,
+        cursor,
+    )?;
     let value = value(cursor)?;
     cursor.word(TokenKind::Semicolon)?;
     Ok(declared.with_global(GlobalDecl { name, value })?)
@@ -194,7 +201,14 @@ fn local<'b>(
 {
     cursor.word(TokenKind::Local)?;
     let count = declared.count_locals();
-    let name = new_name(alloc, &declared, count, MOST_LOCALS, LimitName::Locals, cursor)?;
+    let name = new_name(
+        alloc,
+        &declared,
+        count,
+        MOST_LOCALS,
+        LimitName::Locals,
+        cursor,
+    )?;
     cursor.word(TokenKind::Semicolon)?;
     Ok(declared.with_local(name)?)
 }

@@ -25,11 +25,7 @@ const MOST_LEVELS: u32 = 64;
 
 // The whole text, of at most so many words.
 #[tactic(auto, unfolding(crate::specs::Items::program_at, crate::specs::Words::after_word, crate::specs::Words::and_then))]
-fn program<'b>(
-    alloc: Global,
-    most: u32,
-    cursor: &mut Cursor<'b>,
-) -> Result<Program, ReadRefusal>
+fn program<'b>(alloc: Global, most: u32, cursor: &mut Cursor<'b>) -> Result<Program, ReadRefusal>
     ensures { Tells (λ x. x) result (program_at most cursor.old) }
 {
     let declared = items(alloc, most, cursor)?;

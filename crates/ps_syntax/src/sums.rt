@@ -52,10 +52,7 @@ impl<'a> Parser<'a> {
 
     // A number, and the name that follows it and `*`.
     #[tactic(auto, unfolding(crate::specs::Sums::number_product_at, crate::specs::Words::after_word, crate::specs::Words::and_then))]
-    fn number_product<'b>(
-        &self,
-        cursor: &mut Cursor<'b>,
-    ) -> Result<(i64, Option<Var>), ReadRefusal>
+    fn number_product<'b>(&self, cursor: &mut Cursor<'b>) -> Result<(i64, Option<Var>), ReadRefusal>
         ensures { Gives (λ x. x) result cursor.new (number_product_at (names_in self.now.scope) cursor.old) }
     {
         let number = cursor.number()?;
@@ -69,10 +66,7 @@ impl<'a> Parser<'a> {
 
     // A name, and the number that follows it and `*`.
     #[tactic(auto, unfolding(crate::specs::Sums::name_product_at, crate::specs::Words::after_word, crate::specs::Words::and_then))]
-    fn name_product<'b>(
-        &self,
-        cursor: &mut Cursor<'b>,
-    ) -> Result<(i64, Option<Var>), ReadRefusal>
+    fn name_product<'b>(&self, cursor: &mut Cursor<'b>) -> Result<(i64, Option<Var>), ReadRefusal>
         ensures { Gives (λ x. x) result cursor.new (name_product_at (names_in self.now.scope) cursor.old) }
     {
         let variable = self.variable(cursor)?;
@@ -97,10 +91,7 @@ impl<'a> Parser<'a> {
 
     // The first product of a sum, which may have a `-` before it.
     #[tactic(auto, unfolding(crate::specs::Sums::first_product_at, crate::specs::Words::after_word, crate::specs::Words::and_then))]
-    fn first_product<'b>(
-        &self,
-        cursor: &mut Cursor<'b>,
-    ) -> Result<(i128, Option<Var>), ReadRefusal>
+    fn first_product<'b>(&self, cursor: &mut Cursor<'b>) -> Result<(i128, Option<Var>), ReadRefusal>
         ensures { Gives (λ x. x) result cursor.new (first_product_at (names_in self.now.scope) cursor.old) }
     {
         if !cursor.next_is(TokenKind::Minus) {
@@ -126,8 +117,8 @@ impl<'a> Parser<'a> {
             return Ok((i128::from(number), variable));
         }
         cursor.word(TokenKind::Minus)?;
-        let (number, variable) = self.product(cursor)?;
-        Ok((-i128::from(number), variable))
+        let (subtracted, variable) = self.product(cursor)?;
+        Ok((-i128::from(subtracted), variable))
     }
 
     // The further products, after those that were read.

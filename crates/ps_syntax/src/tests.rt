@@ -166,7 +166,10 @@ fn answers_on_statements(rt: HostRuntime) -> Result<(), Fail> {
         ("global x; init x != 1; thread { }", "1:18 grammar"),
         ("init ; thread { }", "1:6 grammar"),
         ("local if; thread { }", "1:7 grammar"),
-        ("local init_; local iff; local _x1; thread { havoc iff; havoc _x1; init_ := 1; }", "ok"),
+        (
+            "local init_; local iff; local _x1; thread { havoc iff; havoc _x1; init_ := 1; }",
+            "ok",
+        ),
         ("thread { if (*) { } else skip; }", "1:26 grammar"),
         ("thread { else { } }", "1:10 grammar"),
         ("thread { if (* 1) { } }", "1:16 grammar"),
@@ -179,12 +182,18 @@ fn answers_on_statements(rt: HostRuntime) -> Result<(), Fail> {
         ("thread { } }", "1:12 grammar"),
         ("thread { { } }", "1:10 grammar"),
         ("thread { atomic { while (*) { } } }", "1:19 loop in atomic"),
-        ("thread { atomic { if (*) { } else { while (*) { } } } }", "1:37 loop in atomic"),
+        (
+            "thread { atomic { if (*) { } else { while (*) { } } } }",
+            "1:37 loop in atomic",
+        ),
         ("thread { atomic { while x } }", "1:19 loop in atomic"),
         ("thread { atomic { atomic { while", "1:28 loop in atomic"),
         ("thread { atomic { skip while (*) { } } }", "1:24 grammar"),
         ("thread { atomic { skip; } while (*) { } }", "ok"),
-        ("thread { while (*) { atomic { skip; } while (*) { } } }", "ok"),
+        (
+            "thread { while (*) { atomic { skip; } while (*) { } } }",
+            "ok",
+        ),
     ];
     for (text, wanted) in &texts {
         let got = answer(rt.alloc(), text)?;
@@ -206,19 +215,34 @@ fn answers_on_names(rt: HostRuntime) -> Result<(), Fail> {
         ("thread { assume ) y > 1; }", "1:17 grammar"),
         ("global x; thread { x := y * z; }", "1:25 unknown name"),
         ("global x; thread { x := x * y; }", "1:29 not linear"),
-        ("global x; global y; thread { x := x * y; }", "1:39 not linear"),
+        (
+            "global x; global y; thread { x := x * y; }",
+            "1:39 not linear",
+        ),
         ("global x; thread { assume x * x == 1; }", "1:31 not linear"),
-        ("global x; thread { assume 1 < - x * x; y := 1; }", "1:37 not linear"),
+        (
+            "global x; thread { assume 1 < - x * x; y := 1; }",
+            "1:37 not linear",
+        ),
         ("global x; init x * x > 0; thread { }", "1:20 not linear"),
-        ("thread { y := 1; atomic { while (*) { } } }", "1:10 unknown name"),
-        ("thread { atomic { while (*) { y := 1; } } }", "1:19 loop in atomic"),
+        (
+            "thread { y := 1; atomic { while (*) { } } }",
+            "1:10 unknown name",
+        ),
+        (
+            "thread { atomic { while (*) { y := 1; } } }",
+            "1:19 loop in atomic",
+        ),
         ("global x; global x; thread { }", "1:18 name twice"),
         ("global x; local x; thread { }", "1:17 name twice"),
         ("local a; local a 1;", "1:16 name twice"),
         ("local a; global a = 9; init b > 0;", "1:17 name twice"),
         ("local a; init b > 0; global a;", "1:15 unknown name"),
         ("local a 1 local a;", "1:9 grammar"),
-        ("global x; thread { x := x * x; atomic { while", "1:29 not linear"),
+        (
+            "global x; thread { x := x * x; atomic { while",
+            "1:29 not linear",
+        ),
     ];
     for (text, wanted) in &texts {
         let got = answer(rt.alloc(), text)?;
@@ -230,24 +254,78 @@ fn answers_on_names(rt: HostRuntime) -> Result<(), Fail> {
 #[test]
 fn answers_on_limits(rt: HostRuntime) -> Result<(), Fail> {
     let texts: [(&str, &str); 18] = [
-        ("global a;\nglobal b;\nglobal c;\nglobal d;\nglobal e;\nglobal f;\nglobal g;\nglobal h;\nglobal i;\nglobal j;\nglobal k;\nglobal l;\nglobal m;\nglobal n;\nglobal o;\nglobal p;\nthread { }", "ok"),
-        ("global a;\nglobal b;\nglobal c;\nglobal d;\nglobal e;\nglobal f;\nglobal g;\nglobal h;\nglobal i;\nglobal j;\nglobal k;\nglobal l;\nglobal m;\nglobal n;\nglobal o;\nglobal p;\nglobal q;\nthread { }", "17:8 limit globals"),
-        ("global a;\nglobal b;\nglobal c;\nglobal d;\nglobal e;\nglobal f;\nglobal g;\nglobal h;\nglobal i;\nglobal j;\nglobal k;\nglobal l;\nglobal m;\nglobal n;\nglobal o;\nglobal p;\nglobal a;", "17:8 name twice"),
-        ("local a;local b;local c;local d;local e;local f;local g;local h;thread { }", "ok"),
-        ("local a;local b;local c;local d;local e;local f;local g;local h;local i = 1;", "1:71 limit locals"),
-        ("global a;init a==0;init a==0;init a==0;init a==0;init a==0;init a==0;init a==0;init a==0;init a==0;init a==0;init a==0;init a==0;init a==0;init a==0;init a==0;init a==0;init a==0;init a==0;init a==0;init a==0;init a==0;init a==0;init a==0;init a==0;init a==0;init a==0;init a==0;init a==0;init a==0;init a==0;init a==0;init a==0;thread { }", "ok"),
-        ("global a;init a==0;init a==0;init a==0;init a==0;init a==0;init a==0;init a==0;init a==0;init a==0;init a==0;init a==0;init a==0;init a==0;init a==0;init a==0;init a==0;init a==0;init a==0;init a==0;init a==0;init a==0;init a==0;init a==0;init a==0;init a==0;init a==0;init a==0;init a==0;init a==0;init a==0;init a==0;init a==0;init a > 0;", "1:330 limit init"),
-        ("global a;init a==0;init a==0;init a==0;init a==0;init a==0;init a==0;init a==0;init a==0;init a==0;init a==0;init a==0;init a==0;init a==0;init a==0;init a==0;init a==0;init a==0;init a==0;init a==0;init a==0;init a==0;init a==0;init a==0;init a==0;init a==0;init a==0;init a==0;init a==0;init a==0;init a==0;init a==0;init a==0;init a > 0 && b > 0;", "1:330 limit init"),
-        ("global a;init a==0;init a==0;init a==0;init a==0;init a==0;init a==0;init a==0;init a==0;init a==0;init a==0;init a==0;init a==0;init a==0;init a==0;init a==0;init a==0;init a==0;init a==0;init a==0;init a==0;init a==0;init a==0;init a==0;init a==0;init a==0;init a==0;init a==0;init a==0;init a==0;init a==0;init a==0;init a==0;init a > 0 && ;", "1:330 limit init"),
-        ("global a;init a==0;init a==0;init a==0;init a==0;init a==0;init a==0;init a==0;init a==0;init a==0;init a==0;init a==0;init a==0;init a==0;init a==0;init a==0;init a==0;init a==0;init a==0;init a==0;init a==0;init a==0;init a==0;init a==0;init a==0;init a==0;init a==0;init a==0;init a==0;init a==0;init a==0;init a==0;init a==0;init a > 1 1;", "1:330 limit init"),
-        ("global a;init a==0;init a==0;init a==0;init a==0;init a==0;init a==0;init a==0;init a==0;init a==0;init a==0;init a==0;init a==0;init a==0;init a==0;init a==0;init a==0;init a==0;init a==0;init a==0;init a==0;init a==0;init a==0;init a==0;init a==0;init a==0;init a==0;init a==0;init a==0;init a==0;init a==0;init a==0;init a==0;init a > 1 + ;", "1:343 grammar"),
-        ("global a;init a==0;init a==0;init a==0;init a==0;init a==0;init a==0;init a==0;init a==0;init a==0;init a==0;init a==0;init a==0;init a==0;init a==0;init a==0;init a==0;init a==0;init a==0;init a==0;init a==0;init a==0;init a==0;init a==0;init a==0;init a==0;init a==0;init a==0;init a==0;init a==0;init a==0;init a==0;init a==0;init a > a * a;", "1:343 not linear"),
-        ("global a;init a==0;init a==0;init a==0;init a==0;init a==0;init a==0;init a==0;init a==0;init a==0;init a==0;init a==0;init a==0;init a==0;init a==0;init a==0;init a==0;init a==0;init a==0;init a==0;init a==0;init a==0;init a==0;init a==0;init a==0;init a==0;init a==0;init a==0;init a==0;init a==0;init a==0;init a==0;init a==0;init b > 1 + ;", "1:335 unknown name"),
-        ("global a;init a==0;init a==0;init a==0;init a==0;init a==0;init a==0;init a==0;init a==0;init a==0;init a==0;init a==0;init a==0;init a==0;init a==0;init a==0;init a==0;init a==0;init a==0;init a==0;init a==0;init a==0;init a==0;init a==0;init a==0;init a==0;init a==0;init a==0;init a==0;init a==0;init a==0;init a==0;init a==0;global a = 1;", "1:330 limit init"),
-        ("global a;init a==0;init a==0;init a==0;init a==0;init a==0;init a==0;init a==0;init a==0;init a==0;init a==0;init a==0;init a==0;init a==0;init a==0;init a==0;init a==0;init a==0;init a==0;init a==0;init a==0;init a==0;init a==0;init a==0;init a==0;init a==0;init a==0;init a==0;init a==0;init a==0;init a==0;init a==0;init a==0;global a = ;", "1:337 name twice"),
-        ("global a;init a==0&&a==0&&a==0&&a==0&&a==0&&a==0&&a==0&&a==0&&a==0&&a==0&&a==0&&a==0&&a==0&&a==0&&a==0&&a==0&&a==0&&a==0&&a==0&&a==0&&a==0&&a==0&&a==0&&a==0&&a==0&&a==0&&a==0&&a==0&&a==0&&a==0&&a==0&&a==0&&a>0;", "1:10 limit init"),
-        ("global a = 1;init a==0;init a==0;init a==0;init a==0;init a==0;init a==0;init a==0;init a==0;init a==0;init a==0;init a==0;init a==0;init a==0;init a==0;init a==0;init a==0;init a==0;init a==0;init a==0;init a==0;init a==0;init a==0;init a==0;init a==0;init a==0;init a==0;init a==0;init a==0;init a==0;init a==0;init a==0;thread { }", "ok"),
-        ("global a = 1;init a==0;init a==0;init a==0;init a==0;init a==0;init a==0;init a==0;init a==0;init a==0;init a==0;init a==0;init a==0;init a==0;init a==0;init a==0;init a==0;init a==0;init a==0;init a==0;init a==0;init a==0;init a==0;init a==0;init a==0;init a==0;init a==0;init a==0;init a==0;init a==0;init a==0;init a==0;init a<0;", "1:324 limit init"),
+        (
+            "global a;\nglobal b;\nglobal c;\nglobal d;\nglobal e;\nglobal f;\nglobal g;\nglobal h;\nglobal i;\nglobal j;\nglobal k;\nglobal l;\nglobal m;\nglobal n;\nglobal o;\nglobal p;\nthread { }",
+            "ok",
+        ),
+        (
+            "global a;\nglobal b;\nglobal c;\nglobal d;\nglobal e;\nglobal f;\nglobal g;\nglobal h;\nglobal i;\nglobal j;\nglobal k;\nglobal l;\nglobal m;\nglobal n;\nglobal o;\nglobal p;\nglobal q;\nthread { }",
+            "17:8 limit globals",
+        ),
+        (
+            "global a;\nglobal b;\nglobal c;\nglobal d;\nglobal e;\nglobal f;\nglobal g;\nglobal h;\nglobal i;\nglobal j;\nglobal k;\nglobal l;\nglobal m;\nglobal n;\nglobal o;\nglobal p;\nglobal a;",
+            "17:8 name twice",
+        ),
+        (
+            "local a;local b;local c;local d;local e;local f;local g;local h;thread { }",
+            "ok",
+        ),
+        (
+            "local a;local b;local c;local d;local e;local f;local g;local h;local i = 1;",
+            "1:71 limit locals",
+        ),
+        (
+            "global a;init a==0;init a==0;init a==0;init a==0;init a==0;init a==0;init a==0;init a==0;init a==0;init a==0;init a==0;init a==0;init a==0;init a==0;init a==0;init a==0;init a==0;init a==0;init a==0;init a==0;init a==0;init a==0;init a==0;init a==0;init a==0;init a==0;init a==0;init a==0;init a==0;init a==0;init a==0;init a==0;thread { }",
+            "ok",
+        ),
+        (
+            "global a;init a==0;init a==0;init a==0;init a==0;init a==0;init a==0;init a==0;init a==0;init a==0;init a==0;init a==0;init a==0;init a==0;init a==0;init a==0;init a==0;init a==0;init a==0;init a==0;init a==0;init a==0;init a==0;init a==0;init a==0;init a==0;init a==0;init a==0;init a==0;init a==0;init a==0;init a==0;init a==0;init a > 0;",
+            "1:330 limit init",
+        ),
+        (
+            "global a;init a==0;init a==0;init a==0;init a==0;init a==0;init a==0;init a==0;init a==0;init a==0;init a==0;init a==0;init a==0;init a==0;init a==0;init a==0;init a==0;init a==0;init a==0;init a==0;init a==0;init a==0;init a==0;init a==0;init a==0;init a==0;init a==0;init a==0;init a==0;init a==0;init a==0;init a==0;init a==0;init a > 0 && b > 0;",
+            "1:330 limit init",
+        ),
+        (
+            "global a;init a==0;init a==0;init a==0;init a==0;init a==0;init a==0;init a==0;init a==0;init a==0;init a==0;init a==0;init a==0;init a==0;init a==0;init a==0;init a==0;init a==0;init a==0;init a==0;init a==0;init a==0;init a==0;init a==0;init a==0;init a==0;init a==0;init a==0;init a==0;init a==0;init a==0;init a==0;init a==0;init a > 0 && ;",
+            "1:330 limit init",
+        ),
+        (
+            "global a;init a==0;init a==0;init a==0;init a==0;init a==0;init a==0;init a==0;init a==0;init a==0;init a==0;init a==0;init a==0;init a==0;init a==0;init a==0;init a==0;init a==0;init a==0;init a==0;init a==0;init a==0;init a==0;init a==0;init a==0;init a==0;init a==0;init a==0;init a==0;init a==0;init a==0;init a==0;init a==0;init a > 1 1;",
+            "1:330 limit init",
+        ),
+        (
+            "global a;init a==0;init a==0;init a==0;init a==0;init a==0;init a==0;init a==0;init a==0;init a==0;init a==0;init a==0;init a==0;init a==0;init a==0;init a==0;init a==0;init a==0;init a==0;init a==0;init a==0;init a==0;init a==0;init a==0;init a==0;init a==0;init a==0;init a==0;init a==0;init a==0;init a==0;init a==0;init a==0;init a > 1 + ;",
+            "1:343 grammar",
+        ),
+        (
+            "global a;init a==0;init a==0;init a==0;init a==0;init a==0;init a==0;init a==0;init a==0;init a==0;init a==0;init a==0;init a==0;init a==0;init a==0;init a==0;init a==0;init a==0;init a==0;init a==0;init a==0;init a==0;init a==0;init a==0;init a==0;init a==0;init a==0;init a==0;init a==0;init a==0;init a==0;init a==0;init a==0;init a > a * a;",
+            "1:343 not linear",
+        ),
+        (
+            "global a;init a==0;init a==0;init a==0;init a==0;init a==0;init a==0;init a==0;init a==0;init a==0;init a==0;init a==0;init a==0;init a==0;init a==0;init a==0;init a==0;init a==0;init a==0;init a==0;init a==0;init a==0;init a==0;init a==0;init a==0;init a==0;init a==0;init a==0;init a==0;init a==0;init a==0;init a==0;init a==0;init b > 1 + ;",
+            "1:335 unknown name",
+        ),
+        (
+            "global a;init a==0;init a==0;init a==0;init a==0;init a==0;init a==0;init a==0;init a==0;init a==0;init a==0;init a==0;init a==0;init a==0;init a==0;init a==0;init a==0;init a==0;init a==0;init a==0;init a==0;init a==0;init a==0;init a==0;init a==0;init a==0;init a==0;init a==0;init a==0;init a==0;init a==0;init a==0;init a==0;global a = 1;",
+            "1:330 limit init",
+        ),
+        (
+            "global a;init a==0;init a==0;init a==0;init a==0;init a==0;init a==0;init a==0;init a==0;init a==0;init a==0;init a==0;init a==0;init a==0;init a==0;init a==0;init a==0;init a==0;init a==0;init a==0;init a==0;init a==0;init a==0;init a==0;init a==0;init a==0;init a==0;init a==0;init a==0;init a==0;init a==0;init a==0;init a==0;global a = ;",
+            "1:337 name twice",
+        ),
+        (
+            "global a;init a==0&&a==0&&a==0&&a==0&&a==0&&a==0&&a==0&&a==0&&a==0&&a==0&&a==0&&a==0&&a==0&&a==0&&a==0&&a==0&&a==0&&a==0&&a==0&&a==0&&a==0&&a==0&&a==0&&a==0&&a==0&&a==0&&a==0&&a==0&&a==0&&a==0&&a==0&&a==0&&a>0;",
+            "1:10 limit init",
+        ),
+        (
+            "global a = 1;init a==0;init a==0;init a==0;init a==0;init a==0;init a==0;init a==0;init a==0;init a==0;init a==0;init a==0;init a==0;init a==0;init a==0;init a==0;init a==0;init a==0;init a==0;init a==0;init a==0;init a==0;init a==0;init a==0;init a==0;init a==0;init a==0;init a==0;init a==0;init a==0;init a==0;init a==0;thread { }",
+            "ok",
+        ),
+        (
+            "global a = 1;init a==0;init a==0;init a==0;init a==0;init a==0;init a==0;init a==0;init a==0;init a==0;init a==0;init a==0;init a==0;init a==0;init a==0;init a==0;init a==0;init a==0;init a==0;init a==0;init a==0;init a==0;init a==0;init a==0;init a==0;init a==0;init a==0;init a==0;init a==0;init a==0;init a==0;init a==0;init a<0;",
+            "1:324 limit init",
+        ),
     ];
     for (text, wanted) in &texts {
         let got = answer(rt.alloc(), text)?;
@@ -259,18 +337,54 @@ fn answers_on_limits(rt: HostRuntime) -> Result<(), Fail> {
 #[test]
 fn answers_on_depths(rt: HostRuntime) -> Result<(), Fail> {
     let texts: [(&str, &str); 12] = [
-        ("thread{atomic{atomic{atomic{atomic{atomic{atomic{atomic{atomic{atomic{atomic{atomic{atomic{atomic{atomic{atomic{atomic{atomic{atomic{atomic{atomic{atomic{atomic{atomic{atomic{atomic{atomic{atomic{atomic{atomic{atomic{atomic{atomic{atomic{atomic{atomic{atomic{atomic{atomic{atomic{atomic{atomic{atomic{atomic{atomic{atomic{atomic{atomic{atomic{atomic{atomic{atomic{atomic{atomic{atomic{atomic{atomic{atomic{atomic{atomic{atomic{atomic{atomic{atomic{}}}}}}}}}}}}}}}}}}}}}}}}}}}}}}}}}}}}}}}}}}}}}}}}}}}}}}}}}}}}}}}}", "ok"),
-        ("thread{atomic{atomic{atomic{atomic{atomic{atomic{atomic{atomic{atomic{atomic{atomic{atomic{atomic{atomic{atomic{atomic{atomic{atomic{atomic{atomic{atomic{atomic{atomic{atomic{atomic{atomic{atomic{atomic{atomic{atomic{atomic{atomic{atomic{atomic{atomic{atomic{atomic{atomic{atomic{atomic{atomic{atomic{atomic{atomic{atomic{atomic{atomic{atomic{atomic{atomic{atomic{atomic{atomic{atomic{atomic{atomic{atomic{atomic{atomic{atomic{atomic{atomic{atomic{atomic{}}}}}}}}}}}}}}}}}}}}}}}}}}}}}}}}}}}}}}}}}}}}}}}}}}}}}}}}}}}}}}}}}", "1:455 limit depth"),
-        ("thread{atomic{atomic{atomic{atomic{atomic{atomic{atomic{atomic{atomic{atomic{atomic{atomic{atomic{atomic{atomic{atomic{atomic{atomic{atomic{atomic{atomic{atomic{atomic{atomic{atomic{atomic{atomic{atomic{atomic{atomic{atomic{atomic{atomic{atomic{atomic{atomic{atomic{atomic{atomic{atomic{atomic{atomic{atomic{atomic{atomic{atomic{atomic{atomic{atomic{atomic{atomic{atomic{atomic{atomic{atomic{atomic{atomic{atomic{atomic{atomic{atomic{atomic{atomic{if(*){}}}}}}}}}}}}}}}}}}}}}}}}}}}}}}}}}}}}}}}}}}}}}}}}}}}}}}}}}}}}}}}}}", "1:451 limit depth"),
-        ("thread{atomic{atomic{atomic{atomic{atomic{atomic{atomic{atomic{atomic{atomic{atomic{atomic{atomic{atomic{atomic{atomic{atomic{atomic{atomic{atomic{atomic{atomic{atomic{atomic{atomic{atomic{atomic{atomic{atomic{atomic{atomic{atomic{atomic{atomic{atomic{atomic{atomic{atomic{atomic{atomic{atomic{atomic{atomic{atomic{atomic{atomic{atomic{atomic{atomic{atomic{atomic{atomic{atomic{atomic{atomic{atomic{atomic{atomic{atomic{atomic{atomic{atomic{atomic{while(*){}}}}}}}}}}}}}}}}}}}}}}}}}}}}}}}}}}}}}}}}}}}}}}}}}}}}}}}}}}}}}}}}}", "1:449 loop in atomic"),
-        ("global a;thread{atomic{atomic{atomic{atomic{atomic{atomic{atomic{atomic{atomic{atomic{atomic{atomic{atomic{atomic{atomic{atomic{atomic{atomic{atomic{atomic{atomic{atomic{atomic{atomic{atomic{atomic{atomic{atomic{atomic{atomic{atomic{atomic{atomic{atomic{atomic{atomic{atomic{atomic{atomic{atomic{atomic{atomic{atomic{atomic{atomic{atomic{atomic{atomic{atomic{atomic{atomic{atomic{atomic{atomic{atomic{atomic{atomic{atomic{atomic{atomic{atomic{atomic{atomic{assume a>0;}}}}}}}}}}}}}}}}}}}}}}}}}}}}}}}}}}}}}}}}}}}}}}}}}}}}}}}}}}}}}}}}", "ok"),
-        ("global a;thread{atomic{atomic{atomic{atomic{atomic{atomic{atomic{atomic{atomic{atomic{atomic{atomic{atomic{atomic{atomic{atomic{atomic{atomic{atomic{atomic{atomic{atomic{atomic{atomic{atomic{atomic{atomic{atomic{atomic{atomic{atomic{atomic{atomic{atomic{atomic{atomic{atomic{atomic{atomic{atomic{atomic{atomic{atomic{atomic{atomic{atomic{atomic{atomic{atomic{atomic{atomic{atomic{atomic{atomic{atomic{atomic{atomic{atomic{atomic{atomic{atomic{atomic{atomic{assume !a>0;}}}}}}}}}}}}}}}}}}}}}}}}}}}}}}}}}}}}}}}}}}}}}}}}}}}}}}}}}}}}}}}}", "1:465 limit depth"),
-        ("global a;thread{atomic{atomic{atomic{atomic{atomic{atomic{atomic{atomic{atomic{atomic{atomic{atomic{atomic{atomic{atomic{atomic{atomic{atomic{atomic{atomic{atomic{atomic{atomic{atomic{atomic{atomic{atomic{atomic{atomic{atomic{atomic{atomic{atomic{atomic{atomic{atomic{atomic{atomic{atomic{atomic{atomic{atomic{atomic{atomic{atomic{atomic{atomic{atomic{atomic{atomic{atomic{atomic{atomic{atomic{atomic{atomic{atomic{atomic{atomic{atomic{atomic{atomic{atomic{assume a>0 (", "1:469 grammar"),
-        ("global a;thread{assume (((((((((((((((((((((((((((((((((((((((((((((((((((((((((((((((a>0)))))))))))))))))))))))))))))))))))))))))))))))))))))))))))))));}", "ok"),
-        ("global a;thread{assume ((((((((((((((((((((((((((((((((((((((((((((((((((((((((((((((((a>0))))))))))))))))))))))))))))))))))))))))))))))))))))))))))))))));}", "1:87 limit depth"),
-        ("global a;thread{assume !!!!!!!!!!!!!!!!!!!!!!!!!!!!!!!!!!!!!!!!!!!!!!!!!!!!!!!!!!!!!!!a>0;}", "ok"),
-        ("global a;thread{assume !!!!!!!!!!!!!!!!!!!!!!!!!!!!!!!!!!!!!!!!!!!!!!!!!!!!!!!!!!!!!!!!a>0;}", "1:87 limit depth"),
-        ("global a;thread{assume !a>0&&!a>0&&!a>0&&!a>0&&!a>0&&!a>0&&!a>0&&!a>0&&!a>0&&!a>0&&!a>0&&!a>0&&!a>0&&!a>0&&!a>0&&!a>0&&!a>0&&!a>0&&!a>0&&!a>0&&!a>0&&!a>0&&!a>0&&!a>0&&!a>0&&!a>0&&!a>0&&!a>0&&!a>0&&!a>0&&!a>0&&!a>0&&!a>0&&!a>0&&!a>0&&!a>0&&!a>0&&!a>0&&!a>0&&!a>0&&!a>0&&!a>0&&!a>0&&!a>0&&!a>0&&!a>0&&!a>0&&!a>0&&!a>0&&!a>0&&!a>0&&!a>0&&!a>0&&!a>0&&!a>0&&!a>0&&!a>0&&!a>0&&!a>0&&!a>0&&!a>0&&!a>0&&!a>0&&!a>0&&!a>0&&!a>0&&!a>0&&!a>0&&!a>0&&!a>0;}", "ok"),
+        (
+            "thread{atomic{atomic{atomic{atomic{atomic{atomic{atomic{atomic{atomic{atomic{atomic{atomic{atomic{atomic{atomic{atomic{atomic{atomic{atomic{atomic{atomic{atomic{atomic{atomic{atomic{atomic{atomic{atomic{atomic{atomic{atomic{atomic{atomic{atomic{atomic{atomic{atomic{atomic{atomic{atomic{atomic{atomic{atomic{atomic{atomic{atomic{atomic{atomic{atomic{atomic{atomic{atomic{atomic{atomic{atomic{atomic{atomic{atomic{atomic{atomic{atomic{atomic{atomic{}}}}}}}}}}}}}}}}}}}}}}}}}}}}}}}}}}}}}}}}}}}}}}}}}}}}}}}}}}}}}}}}",
+            "ok",
+        ),
+        (
+            "thread{atomic{atomic{atomic{atomic{atomic{atomic{atomic{atomic{atomic{atomic{atomic{atomic{atomic{atomic{atomic{atomic{atomic{atomic{atomic{atomic{atomic{atomic{atomic{atomic{atomic{atomic{atomic{atomic{atomic{atomic{atomic{atomic{atomic{atomic{atomic{atomic{atomic{atomic{atomic{atomic{atomic{atomic{atomic{atomic{atomic{atomic{atomic{atomic{atomic{atomic{atomic{atomic{atomic{atomic{atomic{atomic{atomic{atomic{atomic{atomic{atomic{atomic{atomic{atomic{}}}}}}}}}}}}}}}}}}}}}}}}}}}}}}}}}}}}}}}}}}}}}}}}}}}}}}}}}}}}}}}}}",
+            "1:455 limit depth",
+        ),
+        (
+            "thread{atomic{atomic{atomic{atomic{atomic{atomic{atomic{atomic{atomic{atomic{atomic{atomic{atomic{atomic{atomic{atomic{atomic{atomic{atomic{atomic{atomic{atomic{atomic{atomic{atomic{atomic{atomic{atomic{atomic{atomic{atomic{atomic{atomic{atomic{atomic{atomic{atomic{atomic{atomic{atomic{atomic{atomic{atomic{atomic{atomic{atomic{atomic{atomic{atomic{atomic{atomic{atomic{atomic{atomic{atomic{atomic{atomic{atomic{atomic{atomic{atomic{atomic{atomic{if(*){}}}}}}}}}}}}}}}}}}}}}}}}}}}}}}}}}}}}}}}}}}}}}}}}}}}}}}}}}}}}}}}}}",
+            "1:451 limit depth",
+        ),
+        (
+            "thread{atomic{atomic{atomic{atomic{atomic{atomic{atomic{atomic{atomic{atomic{atomic{atomic{atomic{atomic{atomic{atomic{atomic{atomic{atomic{atomic{atomic{atomic{atomic{atomic{atomic{atomic{atomic{atomic{atomic{atomic{atomic{atomic{atomic{atomic{atomic{atomic{atomic{atomic{atomic{atomic{atomic{atomic{atomic{atomic{atomic{atomic{atomic{atomic{atomic{atomic{atomic{atomic{atomic{atomic{atomic{atomic{atomic{atomic{atomic{atomic{atomic{atomic{atomic{while(*){}}}}}}}}}}}}}}}}}}}}}}}}}}}}}}}}}}}}}}}}}}}}}}}}}}}}}}}}}}}}}}}}}",
+            "1:449 loop in atomic",
+        ),
+        (
+            "global a;thread{atomic{atomic{atomic{atomic{atomic{atomic{atomic{atomic{atomic{atomic{atomic{atomic{atomic{atomic{atomic{atomic{atomic{atomic{atomic{atomic{atomic{atomic{atomic{atomic{atomic{atomic{atomic{atomic{atomic{atomic{atomic{atomic{atomic{atomic{atomic{atomic{atomic{atomic{atomic{atomic{atomic{atomic{atomic{atomic{atomic{atomic{atomic{atomic{atomic{atomic{atomic{atomic{atomic{atomic{atomic{atomic{atomic{atomic{atomic{atomic{atomic{atomic{atomic{assume a>0;}}}}}}}}}}}}}}}}}}}}}}}}}}}}}}}}}}}}}}}}}}}}}}}}}}}}}}}}}}}}}}}}",
+            "ok",
+        ),
+        (
+            "global a;thread{atomic{atomic{atomic{atomic{atomic{atomic{atomic{atomic{atomic{atomic{atomic{atomic{atomic{atomic{atomic{atomic{atomic{atomic{atomic{atomic{atomic{atomic{atomic{atomic{atomic{atomic{atomic{atomic{atomic{atomic{atomic{atomic{atomic{atomic{atomic{atomic{atomic{atomic{atomic{atomic{atomic{atomic{atomic{atomic{atomic{atomic{atomic{atomic{atomic{atomic{atomic{atomic{atomic{atomic{atomic{atomic{atomic{atomic{atomic{atomic{atomic{atomic{atomic{assume !a>0;}}}}}}}}}}}}}}}}}}}}}}}}}}}}}}}}}}}}}}}}}}}}}}}}}}}}}}}}}}}}}}}}",
+            "1:465 limit depth",
+        ),
+        (
+            "global a;thread{atomic{atomic{atomic{atomic{atomic{atomic{atomic{atomic{atomic{atomic{atomic{atomic{atomic{atomic{atomic{atomic{atomic{atomic{atomic{atomic{atomic{atomic{atomic{atomic{atomic{atomic{atomic{atomic{atomic{atomic{atomic{atomic{atomic{atomic{atomic{atomic{atomic{atomic{atomic{atomic{atomic{atomic{atomic{atomic{atomic{atomic{atomic{atomic{atomic{atomic{atomic{atomic{atomic{atomic{atomic{atomic{atomic{atomic{atomic{atomic{atomic{atomic{atomic{assume a>0 (",
+            "1:469 grammar",
+        ),
+        (
+            "global a;thread{assume (((((((((((((((((((((((((((((((((((((((((((((((((((((((((((((((a>0)))))))))))))))))))))))))))))))))))))))))))))))))))))))))))))));}",
+            "ok",
+        ),
+        (
+            "global a;thread{assume ((((((((((((((((((((((((((((((((((((((((((((((((((((((((((((((((a>0))))))))))))))))))))))))))))))))))))))))))))))))))))))))))))))));}",
+            "1:87 limit depth",
+        ),
+        (
+            "global a;thread{assume !!!!!!!!!!!!!!!!!!!!!!!!!!!!!!!!!!!!!!!!!!!!!!!!!!!!!!!!!!!!!!!a>0;}",
+            "ok",
+        ),
+        (
+            "global a;thread{assume !!!!!!!!!!!!!!!!!!!!!!!!!!!!!!!!!!!!!!!!!!!!!!!!!!!!!!!!!!!!!!!!a>0;}",
+            "1:87 limit depth",
+        ),
+        (
+            "global a;thread{assume !a>0&&!a>0&&!a>0&&!a>0&&!a>0&&!a>0&&!a>0&&!a>0&&!a>0&&!a>0&&!a>0&&!a>0&&!a>0&&!a>0&&!a>0&&!a>0&&!a>0&&!a>0&&!a>0&&!a>0&&!a>0&&!a>0&&!a>0&&!a>0&&!a>0&&!a>0&&!a>0&&!a>0&&!a>0&&!a>0&&!a>0&&!a>0&&!a>0&&!a>0&&!a>0&&!a>0&&!a>0&&!a>0&&!a>0&&!a>0&&!a>0&&!a>0&&!a>0&&!a>0&&!a>0&&!a>0&&!a>0&&!a>0&&!a>0&&!a>0&&!a>0&&!a>0&&!a>0&&!a>0&&!a>0&&!a>0&&!a>0&&!a>0&&!a>0&&!a>0&&!a>0&&!a>0&&!a>0&&!a>0&&!a>0&&!a>0&&!a>0&&!a>0&&!a>0&&!a>0;}",
+            "ok",
+        ),
     ];
     for (text, wanted) in &texts {
         let got = answer(rt.alloc(), text)?;
@@ -481,10 +595,16 @@ fn prints_refusals(rt: HostRuntime) -> Result<(), Fail> {
         column: 8,
     };
     if let Some(line) = refusal_line(alloc, &ReadRefusal::Limit(place, LimitName::Globals))? {
-        assert_eq!(rt; line.as_slice(), b"input: line 17 column 8: limit globals\n".as_slice());
+        assert_eq!(rt;
+            line.as_slice(),
+            b"input: line 17 column 8: limit globals\n".as_slice()
+        );
     }
     if let Some(line) = refusal_line(alloc, &ReadRefusal::Twice(place))? {
-        assert_eq!(rt; line.as_slice(), b"input: line 17 column 8: name twice\n".as_slice());
+        assert_eq!(rt;
+            line.as_slice(),
+            b"input: line 17 column 8: name twice\n".as_slice()
+        );
     }
     let memory = refusal_line(alloc, &ReadRefusal::Memory(AllocError))?;
     assert_eq!(rt; memory.is_some(), false);
