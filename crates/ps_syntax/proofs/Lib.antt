@@ -13,3 +13,4 @@ pub mod DeclarationLaws
 pub mod ProgramLaws
 pub mod WordsWithin
 pub mod TextLaws
+pub mod NoTokens

@@ -1,5 +1,5 @@
 -- What a text is read as, from what its words are.
-use Rattle.std.proofs.Common.{◌≡◌, ℕ, List, Result, Ok, Err, IfOk, refl, sym, ap, subst, ◌∙◌}
+use Rattle.std.proofs.Common.{◌≡◌, ℕ, List, Result, Ok, Err, IfOk, IfErr, refl, sym, ap, subst, ◌∙◌}
 use Rattle.ps_text.specs.declared.place.Place.{Place}
 use Rattle.ps_text.specs.declared.token.Token.{Token}
 use Rattle.ps_text.specs.declared.token_end.TokenEnd.{TokenEnd}
@@ -11,7 +11,8 @@ use Rattle.ps_syntax.specs.declared.read_refusal.ReadRefusal.{ReadRefusal}
 use Rattle.ps_syntax.specs.declared.read_refusal.ReadRefusal.TheVariants as refusal
 use Rattle.ps_syntax.specs.Words.{Tells, words_of}
 use Rattle.ps_syntax.specs.Items.{program_of}
-use Rattle.ps_syntax.specs.Texts.{IsProgram, end_of, uncut}
+use Rattle.ps_syntax.specs.Texts.{IsProgram, TokenIsBad, end_of, uncut}
+use Rattle.ps_syntax.proofs.NoTokens.{Never, program_never}
 use Rattle.ps_syntax.proofs.ProgramLaws.{program_of_found, program_of_again}
 
 -- the answer is this one, unless memory runs out
@@ -44,3 +45,20 @@ uncut_exact bytes (token.Memory e) ts answer is cut = tt
 pub uncut_bad : (bytes : List ℕ) (end : TokenEnd) (place : Place) → IsRefused bytes end → IsBadAt bytes place → Tells {A = Program} (λ (p : Program). p) (Err (uncut end)) (Err (refusal.Token place))
 uncut_bad bytes (token.BadToken other) place is bad = ap (λ (q : Place). Err (refusal.Token q)) (one_place bytes place other bad is)
 uncut_bad bytes (token.Memory e) place is bad = tt
+
+-- ---- which refusal is that of a bad byte
+
+pub uncut_token : (bytes : List ℕ) (end : TokenEnd) → IsRefused bytes end → TokenIsBad bytes (uncut end)
+uncut_token bytes (token.BadToken place) is = is
+uncut_token bytes (token.Memory e) is = tt
+
+pub cut_token : (bytes : List ℕ) (ts : List Token) (result : Result Program ReadRefusal) → Tells (λ (p : Program). p) result (program_of (words_of bytes ts) (end_of bytes)) → IfErr result (TokenIsBad bytes)
+cut_token bytes ts (Ok p) tells = tt
+cut_token bytes ts (Err (refusal.Token place)) tells = absurd ((program_never (words_of bytes ts) (end_of bytes)).is place tells)
+cut_token bytes ts (Err (refusal.Grammar place)) tells = tt
+cut_token bytes ts (Err (refusal.UnknownName place)) tells = tt
+cut_token bytes ts (Err (refusal.Twice place)) tells = tt
+cut_token bytes ts (Err (refusal.NotLinear place)) tells = tt
+cut_token bytes ts (Err (refusal.LoopInAtomic place)) tells = tt
+cut_token bytes ts (Err (refusal.Limit place l)) tells = tt
+cut_token bytes ts (Err (refusal.Memory e)) tells = tt

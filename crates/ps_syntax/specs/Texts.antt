@@ -2,7 +2,7 @@
 use Rattle.std.specs.Prelude.{ℕ, List, length}
 use Rattle.ps_text.specs.declared.place.Place.{Place}
 use Rattle.ps_text.specs.declared.token.Token.{Token}
-use Rattle.ps_text.specs.Lexing.{AreTokens, place_of}
+use Rattle.ps_text.specs.Lexing.{AreTokens, IsBadAt, place_of}
 use Rattle.ps_syntax.specs.declared.program.Program.{Program}
 use Rattle.ps_text.specs.declared.token_end.TokenEnd.{TokenEnd}
 use Rattle.ps_text.specs.declared.token_end.TokenEnd.TheVariants as token
@@ -25,3 +25,8 @@ pub record IsProgram (bytes : List ℕ) (program : Program) : Type 0 where
 abbrev pub uncut : TokenEnd → ReadRefusal
 uncut (token.BadToken place) = refusal.Token place
 uncut (token.Memory e) = refusal.Memory e
+
+-- A refusal that says a bad byte stands at the first one.
+abbrev pub TokenIsBad : List ℕ → ReadRefusal → Type 0
+TokenIsBad bytes (refusal.Token place) = IsBadAt bytes place
+TokenIsBad bytes e = Unit {0}

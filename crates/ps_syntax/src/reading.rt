@@ -1,6 +1,6 @@
 //! Reading a program, or its first refusal.
 
-ghost use Rattle.std.specs.Prelude.{◌≡◌, ◌+◌, ◌<◌, ◌^◌, List, length, IfOk, Ok, Err};
+ghost use Rattle.std.specs.Prelude.{◌≡◌, ◌+◌, ◌<◌, ◌^◌, List, length, IfOk, IfErr, Ok, Err};
 ghost use Rattle.ps_text.specs.declared.place.Place.{Place};
 ghost use Rattle.ps_text.specs.declared.token.Token.{Token};
 ghost use Rattle.ps_text.specs.Lexing.{AreTokens, IsBadAt};
@@ -9,7 +9,7 @@ ghost use Rattle.ps_syntax.specs.declared.read_refusal.ReadRefusal.TheVariants a
 ghost use Rattle.ps_syntax.specs.Within.{AreWithin};
 ghost use Rattle.ps_syntax.specs.Words.{Tells, words_of};
 ghost use Rattle.ps_syntax.specs.Items.{program_at, program_of};
-ghost use Rattle.ps_syntax.specs.Texts.{end_of, uncut, IsProgram};
+ghost use Rattle.ps_syntax.specs.Texts.{end_of, uncut, IsProgram, TokenIsBad};
 
 use crate::cursor::Cursor;
 use crate::items::items;
@@ -71,8 +71,9 @@ pub fn read_program(alloc: Global, bytes: &[u8]) -> Result<Program, ReadRefusal>
     ensures only { (program : Program) → IsProgram bytes.now program → Tells (λ x. x) result (Ok program) }
     // Which refusal it is.
     ensures exact { (list : List Token) → AreTokens bytes.now list → Tells (λ x. x) result (program_of (words_of bytes.now list) (end_of bytes.now)) }
-    // A bad byte goes before all other refusals.
+    // A bad byte goes before all other refusals, and `Token` is said of nothing else.
     ensures bad { (place : Place) → IsBadAt bytes.now place → Tells {A = Program} (λ x. x) result (Err (refusal.Token place)) }
+    ensures token { IfErr result (TokenIsBad bytes.now) }
 {
     match tokens(alloc, bytes) {
         Ok(list) => program_of(alloc, bytes, &list),
