@@ -8,3 +8,4 @@ pub mod StmtLaws
 pub mod BlockLaws
 pub mod DeclarationLaws
 pub mod ProgramLaws
+pub mod Guards
