@@ -1,10 +1,10 @@
 -- The laws of refusals, in steps. What is read of a text of the grammar isn't a fault of the grammar; and where there is
 -- one, it rests on the words before its place and the next one alone, and the words before it go on as some text.
-use Rattle.std.proofs.Common.{◌≡◌, ℕ, zero, suc, ◌+◌, ◌≤◌, Bool, true, false, List, [], ◌∷◌, ◌++◌, map, length, drop, Result, Ok, Err, refl, sym, ap, subst, ◌∙◌, arith, append_assoc, length-append}
+use Rattle.std.proofs.Common.{◌≡◌, ℕ, zero, suc, ◌+◌, ◌<◌, ◌≤◌, Bool, true, false, List, [], ◌∷◌, ◌++◌, map, length, drop, Result, Ok, Err, refl, sym, ap, subst, ◌∙◌, arith, append_assoc, length-append}
 use Rattle.std.specs.Prelude.{IfOk, if◌then◌else◌}
 use Rattle.std.specs.List.{flat_map, AllByRecursion}
 use Rattle.std.proofs.lemmas.Bool.{cond-true, cond-false}
-use Rattle.std.proofs.lemmas.List.{map-append, append-nil}
+use Rattle.std.proofs.lemmas.List.{map-append, append-nil, length-map}
 use Rattle.ps_text.specs.declared.place.Place.{Place}
 use Rattle.ps_text.specs.declared.token_kind.TokenKind.{TokenKind}
 use Rattle.ps_syntax.specs.declared.read_refusal.ReadRefusal.{ReadRefusal}
@@ -128,7 +128,7 @@ pub record Went {C A : Type 0} (n' : ℕ) (read' : Read A) (spell : C → List P
   pub split : at.words ≡ front ++ y.1.words
   pub ends : y.1.end ≡ at.end
   pub spelled : pieces front ≡ spell text
-  pub same : (at' : At) (other : List Word) → length at'.words ≤ n' → BeginAlike y.1.words other → at'.words ≡ front ++ other → Gets (read' at') (λ z. alike y.0 z.0 × (z.1.words ≡ other))
+  pub same : (at' : At) (other : List Word) → length at'.words < n' → BeginAlike y.1.words other → at'.words ≡ front ++ other → Gets (read' at') (λ z. alike y.0 z.0 × (z.1.words ≡ other))
 
 -- Where a fault is, the words before it go on as some text, and others that begin so and go on alike have it too.
 pub record Stood {C A : Type 0} (n' : ℕ) (read' : Read A) (spell : C → List Piece) (okay : C → Type 0) (at : At) (p : Place) : Type 0 where
@@ -140,12 +140,13 @@ pub record Stood {C A : Type 0} (n' : ℕ) (read' : Read A) (spell : C → List 
   pub split : at.words ≡ front ++ rest
   pub place : p ≡ place_of_next rest at.end
   pub spelled : pieces (front ++ more) ≡ spell text
-  pub same : (at' : At) (other : List Word) → length at'.words ≤ n' → BeginAlike rest other → at'.words ≡ front ++ other → Refused (read' at')
+  pub same : (at' : At) (other : List Word) → length at'.words < n' → BeginAlike rest other → at'.words ≡ front ++ other → Refused (read' at')
 
--- The laws of a reading function, and of one that is like it with another bound.
-pub record Guards {C A : Type 0} (n n' : ℕ) (read read' : Read A) (spell : C → List Piece) (okay : C → Type 0) (alike : A → A → Type 0) (follows : List Piece → Type 0) : Type 0 where
-  pub never : (at : At) (c : C) (rest : List Piece) → okay c → Ahead n' at (spell c ++ rest) → follows rest → Lets (read' at) (λ y. Ahead n' y.1 rest)
-  pub stuck : (at : At) → length at.words ≤ n → Keeps (read at) (Went n' read' spell okay alike at) (Stood n' read' spell okay at)
+-- The laws of a reading function, and of one that is like it with another bound, where fewer words are left than those
+-- numbers, and at most so many.
+pub record Guards {C A : Type 0} (n n' most : ℕ) (read read' : Read A) (spell : C → List Piece) (okay : C → Type 0) (alike : A → A → Type 0) (follows : List Piece → Type 0) : Type 0 where
+  pub never : (at : At) (c : C) (rest : List Piece) → okay c → Ahead most at (spell c ++ rest) → follows rest → Lets (read' at) (λ y. Ahead most y.1 rest)
+  pub stuck : (at : At) → length at.words < n → Keeps (read at) (Went n' read' spell okay alike at) (Stood n' read' spell okay at)
 
 abbrev pub Any : {A : Type 0} → A → A → Type 0
 Any x y = Unit {0}
@@ -166,10 +167,12 @@ pieces_both a b = map-append (λ (w : Word). piece_of_kind w.kind w.text) a b
 pub pieces_are : (a b : List Word) (ps qs : List Piece) → pieces a ≡ ps → pieces b ≡ qs → pieces (a ++ b) ≡ ps ++ qs
 pieces_are a b ps qs p q = pieces_both a b ∙ ap (λ (xs : List Piece). xs ++ pieces b) p ∙ ap (λ (xs : List Piece). ps ++ xs) q
 
-room_left : (n : ℕ) (ws front vs : List Word) → length ws ≤ n → ws ≡ front ++ vs → length vs ≤ n
-room_left n ws front vs h e =
+-- fewer words are left after a front
+pub room_left : (n m : ℕ) (ws front vs : List Word) (ps : List Piece) → length ws < n → ws ≡ front ++ vs → pieces front ≡ ps → n ≤ length ps + m → length vs < m
+room_left n m ws front vs ps h e k le =
     let l : length ws ≡ length front + length vs = ap (λ (xs : List Word). length xs) e ∙ length-append front vs in
-    omega (arith, h, l)
+    let f : length front ≡ length ps = sym (length-map front (λ (w : Word). piece_of_kind w.kind w.text)) ∙ ap (λ (xs : List Piece). length xs) k in
+    omega (arith, h, l, f, le)
 
 -- ---- words
 
@@ -209,9 +212,9 @@ word_stuck n' k (w ∷ ws) end = by_test (is_kind w.kind k) refl
       same = λ at' other room h s. subst (λ (vs : List Word). Refused (word_from k vs at'.end)) (sym s) (wrong_word k w ws other at'.end e h);
     } }
 
-pub word_guards : (n n' : ℕ) (k : TokenKind) → Guards n n' (word_at k) (word_at k) (piece_list k) Always Same Always
+pub word_guards : (n n' most : ℕ) (k : TokenKind) → Guards n n' most (word_at k) (word_at k) (piece_list k) Always Same Always
 unfolding word_at
-word_guards n n' k = record {
-  never = λ at t rest fine h _. lets_gets _ _ _ ((word_exact n' k).again at t rest tt h tt) (λ y p. p.1);
+word_guards n n' most k = record {
+  never = λ at t rest fine h _. lets_gets _ _ _ ((word_exact most k).again at t rest tt h tt) (λ y p. p.1);
   stuck = λ at room. word_stuck n' k at.words at.end;
 }

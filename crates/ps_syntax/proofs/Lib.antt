@@ -9,3 +9,4 @@ pub mod BlockLaws
 pub mod DeclarationLaws
 pub mod ProgramLaws
 pub mod Guards
+pub mod GuardSteps

@@ -235,7 +235,7 @@ while_again {n = n} {spell = spell} {says = says} {follows = follows} goes begin
     next (d ∷ ds) = subst follows (sym (append_assoc (spell d) (flat_map spell ds) rest)) (on.joins d (flat_map spell ds ++ rest))
 
 -- there are no more texts than words of them
-few : {C : Type 0} (spell : C → List Piece) → ((c : C) → 1 ≤ length (spell c)) → (cs : List C) (rest : List Piece) → length cs ≤ length (flat_map spell cs ++ rest)
+pub few : {C : Type 0} (spell : C → List Piece) → ((c : C) → 1 ≤ length (spell c)) → (cs : List C) (rest : List Piece) → length cs ≤ length (flat_map spell cs ++ rest)
 few spell some [] rest = omega arith
 few spell some (c ∷ cs) rest =
     let h : length cs ≤ length (flat_map spell cs ++ rest) = few spell some cs rest in
