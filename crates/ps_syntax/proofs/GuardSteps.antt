@@ -128,3 +128,154 @@ both_guards {n = n} {n' = n'} {m = m} {m' = m'} {one' = one'} {two' = two'} {spe
       });
 }
 
+-- three steps
+abbrev pub three : {A B C X : Type 0} → (A → B → C → X) → Read A → Read B → Read C → Read X
+three of a b c at = a at >>= λ x. b x.1 >>= λ y. c y.1 >>= λ z. Ok (of x.0 y.0 z.0, z.1)
+
+abbrev pub pair_up : {B C : Type 0} → B → C → B × C
+pair_up y z = (y, z)
+
+abbrev pub of_pair : {A B C X : Type 0} → (A → B → C → X) → A → B × C → X
+of_pair of x w = of x w.0 w.1
+
+bind_same : {A B : Type 0} (r : Result A ReadRefusal) (f g : A → Result B ReadRefusal) → ((x : A) → f x ≡ g x) → (r >>= f) ≡ (r >>= g)
+unfolding and_then
+bind_same (Ok x) f g h = h x
+bind_same (Err e) f g h = refl
+
+bind_bind : {A B C : Type 0} (r : Result A ReadRefusal) (f : A → Result B ReadRefusal) (g : B → Result C ReadRefusal) → ((r >>= f) >>= g) ≡ (r >>= λ x. f x >>= g)
+unfolding and_then
+bind_bind (Ok x) f g = refl
+bind_bind (Err e) f g = refl
+
+bind_end : {A B : Type 0} (x : A) (f : A → Result B ReadRefusal) → (Ok x >>= f) ≡ f x
+unfolding and_then
+bind_end x f = refl
+
+pub three_is : {A B C X : Type 0} (of : A → B → C → X) (a : Read A) (b : Read B) (c : Read C) (at : At) → both (of_pair of) a (both pair_up b c) at ≡ three of a b c at
+three_is of a b c at =
+    bind_same (a at) _ _ (λ x. bind_bind (b x.1) _ _ ∙ bind_same (b x.1) _ _ (λ y. bind_bind (c y.1) _ _ ∙ bind_same (c y.1) _ _ (λ z. bind_end ((y.0, z.0), z.1) _)))
+
+-- ---- a word, and then what is read
+
+pub example_after : {C : Type 0} {spell : C → List Piece} {okay : C → Type 0} (k : TokenKind) → IsMark k → Example spell okay → Example (λ c. Mark k ∷ spell c) okay
+example_after k marked e = record {
+  text = e.text; fine = e.fine; words = record { kind = k; text = []; place = record { line = 0; column = 0 } } ∷ e.words;
+  spelled = ap (λ (p : Piece). p ∷ pieces e.words) (marked []) ∙ ap (λ (ps : List Piece). Mark k ∷ ps) e.spelled;
+}
+
+pub word_then_guards : {C A : Type 0} {n n' m m' most : ℕ} {read read' : Word → Read A} {spell : C → List Piece} {okay : C → Type 0} {alike : A → A → Type 0} {follows : List Piece → Type 0}
+    (k : TokenKind) → IsMark k → n ≤ suc m → n' ≤ suc m' → ((w : Word) → Guards m m' most (read w) (read' w) spell okay alike follows) → Example spell okay
+    → Guards n n' most (λ at. word_at k at >>= λ w. read w.0 w.1) (λ at. word_at k at >>= λ w. read' w.0 w.1) (λ c. Mark k ∷ spell c) okay alike follows
+word_then_guards {n = n} {n' = n'} {m = m} {m' = m'} {most = most} {read' = read'} {spell = spell} {alike = alike} k marked low low' g example = record {
+  never = λ at c rest fine h stop.
+    lets_bind _ _ _ _ ((word_guards n n' most k).never at [] (spell c ++ rest) tt (ahead_so (ap (λ (p : Piece). p ∷ (spell c ++ rest)) (sym (marked []))) h) tt) (λ w p. (g w.0).never w.1 c rest fine p stop);
+  stuck = λ at room.
+    keeps_bind _ _ _ _ _ _ ((word_guards n n' most k).stuck at room)
+      (λ w p.
+        let piece : pieces p.front ≡ Mark k ∷ [] = p.spelled ∙ ap (λ (q : Piece). q ∷ []) (marked p.text) in
+        keeps_more _ _ _ _ _ ((g w.0).stuck w.1 (room_left n m at.words p.front w.1.words (Mark k ∷ []) room p.split piece (omega (arith, low))))
+        (λ y q. record {
+          text = q.text; fine = q.fine; front = p.front ++ q.front;
+          split = p.split ∙ ap (λ (ws : List Word). p.front ++ ws) q.split ∙ sym (append_assoc p.front q.front y.1.words);
+          ends = q.ends ∙ p.ends;
+          spelled = pieces_are p.front q.front (Mark k ∷ []) (spell q.text) piece q.spelled;
+          same = λ at' other room' s h.
+            gets_bind _ _ _ _ (p.same at' (q.front ++ other) room' (subst (λ (ws : List Word). BeginAlike ws (q.front ++ other)) (sym q.split) (alike_after q.front y.1.words other s)) (h ∙ append_assoc p.front q.front other)) (λ x' a.
+            subst (λ (v : Word). Gets (read' v x'.1) (λ z. alike y.0 z.0 × (z.1.words ≡ other))) a.0
+              (q.same x'.1 other (room_left n' m' at'.words p.front x'.1.words (Mark k ∷ []) room' (h ∙ append_assoc p.front q.front other ∙ ap (λ (ws : List Word). p.front ++ ws) (sym a.1)) piece (omega (arith, low'))) s a.1));
+        })
+        (λ e q. record {
+          text = q.text; fine = q.fine; front = p.front ++ q.front; rest = q.rest; more = q.more;
+          split = p.split ∙ ap (λ (ws : List Word). p.front ++ ws) q.split ∙ sym (append_assoc p.front q.front q.rest);
+          place = q.place ∙ ap (place_of_next q.rest) p.ends;
+          spelled = ap pieces (append_assoc p.front q.front q.more) ∙ pieces_are p.front (q.front ++ q.more) (Mark k ∷ []) (spell q.text) piece q.spelled;
+          same = λ at' other room' s h.
+            refused_after _ _ _ (p.same at' (q.front ++ other) room' (subst (λ (ws : List Word). BeginAlike ws (q.front ++ other)) (sym q.split) (alike_after q.front q.rest other s)) (h ∙ append_assoc p.front q.front other)) (λ x' a.
+            subst (λ (v : Word). Refused (read' v x'.1)) a.0
+              (q.same x'.1 other (room_left n' m' at'.words p.front x'.1.words (Mark k ∷ []) room' (h ∙ append_assoc p.front q.front other ∙ ap (λ (ws : List Word). p.front ++ ws) (sym a.1)) piece (omega (arith, low'))) s a.1));
+        }))
+      (λ e q. record {
+        text = example.text; fine = example.fine; front = q.front; rest = q.rest; more = q.more ++ example.words;
+        split = q.split; place = q.place;
+        spelled = ap pieces (sym (append_assoc q.front q.more example.words)) ∙ pieces_are (q.front ++ q.more) example.words (Mark k ∷ []) (spell example.text) (q.spelled ∙ ap (λ (r : Piece). r ∷ []) (marked q.text)) example.spelled;
+        same = λ at' other room' s h. refused_bind _ _ (q.same at' other room' s h);
+      });
+}
+
+pub after_guards : {C A : Type 0} {n n' m m' most : ℕ} {read read' : Read A} {spell : C → List Piece} {okay : C → Type 0} {alike : A → A → Type 0} {follows : List Piece → Type 0}
+    (k : TokenKind) → IsMark k → n ≤ suc m → n' ≤ suc m' → Guards m m' most read read' spell okay alike follows → Example spell okay
+    → Guards n n' most (after_word k read) (after_word k read') (λ c. Mark k ∷ spell c) okay alike follows
+unfolding after_word
+after_guards k marked low low' g example = word_then_guards k marked low low' (λ w. g) example
+
+-- a word alone
+word_alone : (n n' most : ℕ) (k : TokenKind) → IsMark k → Guards n n' most (word_at k) (word_at k) (λ (u : Unit {0}). Mark k ∷ []) Always Same Always
+word_alone n n' most k marked = guards_as _ _ (λ t. tt) (λ u. []) (λ u. refl) (λ t. ap (λ (p : Piece). p ∷ []) (marked t)) (λ t h. tt) (λ u h. tt) (word_guards n n' most k)
+
+pub mark_example : (k : TokenKind) → IsMark k → Example (λ (u : Unit {0}). Mark k ∷ []) Always
+mark_example k marked = record { text = tt; fine = tt; words = record { kind = k; text = []; place = record { line = 0; column = 0 } } ∷ []; spelled = ap (λ (p : Piece). p ∷ []) (marked []) }
+
+pub closed_guards : {C A : Type 0} {n n' most : ℕ} {read read' : Read A} {spell : C → List Piece} {okay : C → Type 0} {alike : A → A → Type 0} {follows : List Piece → Type 0}
+    (k : TokenKind) → IsMark k → ((rest : List Piece) → follows (Mark k ∷ rest)) → Guards n n' most read read' spell okay alike follows
+    → Guards n n' most (closed k read) (closed k read') (λ c. spell c ++ Mark k ∷ []) okay alike Always
+closed_guards {n = n} {n' = n'} {most = most} {spell = spell} {okay = okay} {alike = alike} k marked ends g =
+    guards_as _ _ (λ c. c.0) (λ c. (c, tt)) (λ c. refl) (λ c. refl) (λ c h. h.0) (λ c h. (h, tt))
+    (both_guards alike (λ x w. x) (λ x y z w a b. a) g (λ c. omega arith) (λ c. omega arith) (word_alone n n' most k marked) (mark_example k marked) (λ d rest h. ends rest))
+
+pub example_closed : {C : Type 0} {spell : C → List Piece} {okay : C → Type 0} (k : TokenKind) → IsMark k → Example spell okay → Example (λ c. spell c ++ Mark k ∷ []) okay
+example_closed {spell = spell} k marked e = record {
+  text = e.text; fine = e.fine; words = e.words ++ record { kind = k; text = []; place = record { line = 0; column = 0 } } ∷ [];
+  spelled = pieces_are e.words _ (spell e.text) (Mark k ∷ []) e.spelled (ap (λ (p : Piece). p ∷ []) (marked []));
+}
+
+-- ---- a test of the next word
+
+-- the pieces are those of a text of this sort, and tell the test
+pub record OfSort {C : Type 0} (begins : List Piece → Bool) (t : Bool) (spell : C → List Piece) (okay : C → Type 0) (follows : List Piece → Type 0) (ps : List Piece) : Type 0 where
+  pub text : C
+  pub fine : okay text
+  pub same : ps ≡ spell text
+  pub tells : (rest : List Piece) → follows rest → begins (ps ++ rest) ≡ t
+
+alike_two : (ws vs front rest other : List Word) → ws ≡ front ++ rest → vs ≡ front ++ other → BeginAlike rest other → BeginAlike ws vs
+alike_two ws vs front rest other e h s = subst (λ (us : List Word). BeginAlike us vs) (sym e) (subst (λ (us : List Word). BeginAlike (front ++ rest) us) (sym h) (alike_after front rest other s))
+
+pub choice_guards : {C D E A : Type 0} {n n' most : ℕ} {one one' two two' : Read A} {spell : C → List Piece} {spell' : D → List Piece} {okay : C → Type 0} {okay' : D → Type 0} {alike : A → A → Type 0} {follows follows' : List Piece → Type 0}
+    (spell'' : E → List Piece) (okay'' : E → Type 0) (follows'' : List Piece → Type 0) (goes : At → Bool) (begins : List Piece → Bool) → IsTest goes → ((at : At) (ps : List Piece) → Ahead most at ps → goes at ≡ begins ps)
+    → (f : C → E) → ((c : C) → spell c ≡ spell'' (f c)) → ((c : C) → okay c → okay'' (f c)) → (g : D → E) → ((d : D) → spell' d ≡ spell'' (g d)) → ((d : D) → okay' d → okay'' (g d))
+    → ((e : E) → okay'' e → OfSort begins true spell okay follows'' (spell'' e) ⊎ OfSort begins false spell' okay' follows'' (spell'' e))
+    → ((rest : List Piece) → follows'' rest → follows rest) → ((rest : List Piece) → follows'' rest → follows' rest)
+    → Guards n n' most one one' spell okay alike follows → Guards n n' most two two' spell' okay' alike follows'
+    → Guards n n' most (λ at. if goes at then one at else two at) (λ at. if goes at then one' at else two' at) spell'' okay'' alike follows''
+choice_guards {n = n} {n' = n'} {most = most} {one = one} {one' = one'} {two = two} {two' = two'} {alike = alike} spell'' okay'' follows'' goes begins test ahead f spelled fine g spelled' fine' sort stops stops' a b = record {
+  never = λ at e rest ok h stop.
+    elim (sort e ok) [
+      inl s ↦ lets_true (goes at) (one' at) (two' at) (λ y. Ahead most y.1 rest) (ahead at _ h ∙ s.tells rest stop) (a.never at s.text rest s.fine (ahead_so (ap (λ (ps : List Piece). ps ++ rest) s.same) h) (stops rest stop))
+      | inr s ↦ lets_false (goes at) (one' at) (two' at) (λ y. Ahead most y.1 rest) (ahead at _ h ∙ s.tells rest stop) (b.never at s.text rest s.fine (ahead_so (ap (λ (ps : List Piece). ps ++ rest) s.same) h) (stops' rest stop))
+    ];
+  stuck = λ at room. by_test at room (goes at) refl;
+}
+  where
+    by_test : (at : At) → length at.words < n → (t : Bool) → goes at ≡ t
+        → Keeps (if t then one at else two at) (Went n' (λ at'. if goes at' then one' at' else two' at') spell'' okay'' alike at) (Stood n' (λ at'. if goes at' then one' at' else two' at') spell'' okay'' at)
+    by_test at room true e =
+        keeps_more _ _ _ _ _ (a.stuck at room)
+        (λ y p. record {
+          text = f p.text; fine = fine p.text p.fine; front = p.front; split = p.split; ends = p.ends; spelled = p.spelled ∙ spelled p.text;
+          same = λ at' other room' s h. gets_true (goes at') _ _ _ (sym (test.same at at' (alike_two at.words at'.words p.front y.1.words other p.split h s)) ∙ e) (p.same at' other room' s h);
+        })
+        (λ q p. record {
+          text = f p.text; fine = fine p.text p.fine; front = p.front; rest = p.rest; more = p.more; split = p.split; place = p.place; spelled = p.spelled ∙ spelled p.text;
+          same = λ at' other room' s h. refused_true (goes at') _ _ (sym (test.same at at' (alike_two at.words at'.words p.front p.rest other p.split h s)) ∙ e) (p.same at' other room' s h);
+        })
+    by_test at room false e =
+        keeps_more _ _ _ _ _ (b.stuck at room)
+        (λ y p. record {
+          text = g p.text; fine = fine' p.text p.fine; front = p.front; split = p.split; ends = p.ends; spelled = p.spelled ∙ spelled' p.text;
+          same = λ at' other room' s h. gets_false (goes at') _ _ _ (sym (test.same at at' (alike_two at.words at'.words p.front y.1.words other p.split h s)) ∙ e) (p.same at' other room' s h);
+        })
+        (λ q p. record {
+          text = g p.text; fine = fine' p.text p.fine; front = p.front; rest = p.rest; more = p.more; split = p.split; place = p.place; spelled = p.spelled ∙ spelled' p.text;
+          same = λ at' other room' s h. refused_false (goes at') _ _ (sym (test.same at at' (alike_two at.words at'.words p.front p.rest other p.split h s)) ∙ e) (p.same at' other room' s h);
+        })
