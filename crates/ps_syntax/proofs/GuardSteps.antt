@@ -238,7 +238,7 @@ pub record OfSort {C : Type 0} (begins : List Piece → Bool) (t : Bool) (spell 
   pub same : ps ≡ spell text
   pub tells : (rest : List Piece) → follows rest → begins (ps ++ rest) ≡ t
 
-alike_two : (ws vs front rest other : List Word) → ws ≡ front ++ rest → vs ≡ front ++ other → BeginAlike rest other → BeginAlike ws vs
+pub alike_two : (ws vs front rest other : List Word) → ws ≡ front ++ rest → vs ≡ front ++ other → BeginAlike rest other → BeginAlike ws vs
 alike_two ws vs front rest other e h s = subst (λ (us : List Word). BeginAlike us vs) (sym e) (subst (λ (us : List Word). BeginAlike (front ++ rest) us) (sym h) (alike_after front rest other s))
 
 pub choice_guards : {C D E A : Type 0} {n n' most : ℕ} {one one' two two' : Read A} {spell : C → List Piece} {spell' : D → List Piece} {okay : C → Type 0} {okay' : D → Type 0} {alike : A → A → Type 0} {follows follows' : List Piece → Type 0}

@@ -10,3 +10,4 @@ pub mod DeclarationLaws
 pub mod ProgramLaws
 pub mod Guards
 pub mod GuardSteps
+pub mod GuardLoops
