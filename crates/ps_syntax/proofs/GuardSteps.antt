@@ -138,17 +138,17 @@ pair_up y z = (y, z)
 abbrev pub of_pair : {A B C X : Type 0} → (A → B → C → X) → A → B × C → X
 of_pair of x w = of x w.0 w.1
 
-bind_same : {A B : Type 0} (r : Result A ReadRefusal) (f g : A → Result B ReadRefusal) → ((x : A) → f x ≡ g x) → (r >>= f) ≡ (r >>= g)
+pub bind_same : {A B : Type 0} (r : Result A ReadRefusal) (f g : A → Result B ReadRefusal) → ((x : A) → f x ≡ g x) → (r >>= f) ≡ (r >>= g)
 unfolding and_then
 bind_same (Ok x) f g h = h x
 bind_same (Err e) f g h = refl
 
-bind_bind : {A B C : Type 0} (r : Result A ReadRefusal) (f : A → Result B ReadRefusal) (g : B → Result C ReadRefusal) → ((r >>= f) >>= g) ≡ (r >>= λ x. f x >>= g)
+pub bind_bind : {A B C : Type 0} (r : Result A ReadRefusal) (f : A → Result B ReadRefusal) (g : B → Result C ReadRefusal) → ((r >>= f) >>= g) ≡ (r >>= λ x. f x >>= g)
 unfolding and_then
 bind_bind (Ok x) f g = refl
 bind_bind (Err e) f g = refl
 
-bind_end : {A B : Type 0} (x : A) (f : A → Result B ReadRefusal) → (Ok x >>= f) ≡ f x
+pub bind_end : {A B : Type 0} (x : A) (f : A → Result B ReadRefusal) → (Ok x >>= f) ≡ f x
 unfolding and_then
 bind_end x f = refl
 

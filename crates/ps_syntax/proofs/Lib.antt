@@ -11,3 +11,4 @@ pub mod ProgramLaws
 pub mod Guards
 pub mod GuardSteps
 pub mod GuardLoops
+pub mod SumGuards

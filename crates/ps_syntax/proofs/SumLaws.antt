@@ -139,7 +139,7 @@ product_begins k a b (name x) rest = b
 product_begins k a b (number_name d x) rest = a
 product_begins k a b (name_number x d) rest = b
 
-abbrev SignedText : Type 0
+abbrev pub SignedText : Type 0
 SignedText = Bool × ProductText
 
 abbrev SignedIn : Option Names → SignedText → Type 0
@@ -148,10 +148,10 @@ SignedIn scope c = ProductIn scope c.1
 abbrev SignedSays : Option Names → SignedText → List Place → ℤ × Option Var → Type 0
 SignedSays scope c ps y = Says scope (λ names. signed c.0 (product_tree names c.1)) y
 
-abbrev first_pieces : SignedText → List Piece
+abbrev pub first_pieces : SignedText → List Piece
 first_pieces c = minus_pieces c.0 ++ product_pieces c.1
 
-abbrev further_piece : SignedText → List Piece
+abbrev pub further_piece : SignedText → List Piece
 further_piece c = Mark (plus_or_minus c.0) ∷ product_pieces c.1
 
 after_minus : (n : ℕ) (scope : Option Names) → Exact n (mapped (signed true) (after_word kind.Minus (product_at scope))) (λ c. Mark kind.Minus ∷ product_pieces c) (ProductIn scope) (λ c. SignedSays scope (true, c)) (Not kind.Star)
@@ -188,11 +188,11 @@ begins_adding ps = begins_piece kind.Plus ps || begins_piece kind.Minus ps
 abbrev pub SumEnds : List Piece → Type 0
 SumEnds = Ends begins_adding (Not kind.Star)
 
-adding : (c : SignedText) (rest : List Piece) → begins_adding (further_piece c ++ rest) ≡ true
+pub adding : (c : SignedText) (rest : List Piece) → begins_adding (further_piece c ++ rest) ≡ true
 adding (true, c) rest = refl
 adding (false, c) rest = refl
 
-not_star : (c : SignedText) (rest : List Piece) → Not kind.Star (further_piece c ++ rest)
+pub not_star : (c : SignedText) (rest : List Piece) → Not kind.Star (further_piece c ++ rest)
 not_star (true, c) rest = refl
 not_star (false, c) rest = refl
 
@@ -204,16 +204,16 @@ further_goes_on scope = record {
   some = λ c. omega arith;
 }
 
-abbrev sum_of : SignedText × List SignedText → SumText
+abbrev pub sum_of : SignedText × List SignedText → SumText
 sum_of c = record { negative = c.0.0; first = c.0.1; further = c.1 }
 
-abbrev parts_of : SumText → SignedText × List SignedText
+abbrev pub parts_of : SumText → SignedText × List SignedText
 parts_of s = ((s.negative, s.first), s.further)
 
-abbrev make_sum : ℤ × Option Var → List (ℤ × Option Var) → Sum
+abbrev pub make_sum : ℤ × Option Var → List (ℤ × Option Var) → Sum
 make_sum p ps = record { terms = p ∷ ps }
 
-further_is : (ds : List SignedText) → flat_map further_piece ds ≡ further_pieces ds
+pub further_is : (ds : List SignedText) → flat_map further_piece ds ≡ further_pieces ds
 further_is [] = refl
 further_is (d ∷ ds) = ap (λ (ps : List Piece). further_piece d ++ ps) (further_is ds)
 
@@ -256,7 +256,7 @@ sum_unfit scope s h = (
   (fits_as scope (λ names. AllFurther names s.further) _ (λ names g. all_to (λ (p : SignedText). ProductFits names p.1) s.further g) (fits_second scope (λ names. ProductFits names s.first) (λ names. AllFurther names s.further) h)),
 )
 
-further_joins : (ds : List SignedText) (rest : List Piece) → SumEnds rest → Not kind.Star (flat_map further_piece ds ++ rest)
+pub further_joins : (ds : List SignedText) (rest : List Piece) → SumEnds rest → Not kind.Star (flat_map further_piece ds ++ rest)
 further_joins [] rest stop = stop.1
 further_joins ((true, c) ∷ ds) rest stop = refl
 further_joins ((false, c) ∷ ds) rest stop = refl
