@@ -32,7 +32,7 @@ use Rattle.ps_syntax.proofs.RelationLaws.{all_signs, every_sign, RelationIn, Rel
 abbrev pub Is : {C A : Type 0} → (C → A) → C → List Place → A → Type 0
 Is tree c ps y = y ≡ tree c
 
-abbrev members_pieces : {C : Type 0} → TokenKind → (C → List Piece) → C × List C → List Piece
+abbrev pub members_pieces : {C : Type 0} → TokenKind → (C → List Piece) → C × List C → List Piece
 members_pieces between spell c = spell c.0 ++ flat_map (λ d. Mark between ∷ spell d) c.1
 
 abbrev MembersFit : {C : Type 0} → (C → Type 0) → C × List C → Type 0
@@ -74,24 +74,24 @@ gathered_is all c (d ∷ ds) = refl
 
 -- ---- `&&`
 
-conj_chain : UnaryText → List UnaryText → ConjText
+pub conj_chain : UnaryText → List UnaryText → ConjText
 conj_chain u [] = last_unary u
 conj_chain u (v ∷ vs) = and_also u (conj_chain v vs)
 
-conj_first : ConjText → UnaryText
+pub conj_first : ConjText → UnaryText
 conj_first (last_unary u) = u
 conj_first (and_also u rest) = u
 
-conj_rest : ConjText → List UnaryText
+pub conj_rest : ConjText → List UnaryText
 conj_rest (last_unary u) = []
 conj_rest (and_also u rest) = conj_first rest ∷ conj_rest rest
 
-conj_back : (c : ConjText) → conj_chain (conj_first c) (conj_rest c) ≡ c
+pub conj_back : (c : ConjText) → conj_chain (conj_first c) (conj_rest c) ≡ c
 unfolding conj_chain conj_first conj_rest
 conj_back (last_unary u) = refl
 conj_back (and_also u rest) = ap (and_also u) (conj_back rest)
 
-conj_spelled : (u : UnaryText) (us : List UnaryText) → members_pieces kind.And unary_pieces (u, us) ≡ conj_pieces (conj_chain u us)
+pub conj_spelled : (u : UnaryText) (us : List UnaryText) → members_pieces kind.And unary_pieces (u, us) ≡ conj_pieces (conj_chain u us)
 unfolding conj_chain
 conj_spelled u [] = append-nil (unary_pieces u)
 conj_spelled u (v ∷ vs) = ap (λ (ps : List Piece). unary_pieces u ++ (Mark kind.And ∷ ps)) (conj_spelled v vs)
@@ -135,24 +135,24 @@ conj_exact n names levels unary exact =
 
 -- ---- `||`
 
-cond_chain : ConjText → List ConjText → CondText
+pub cond_chain : ConjText → List ConjText → CondText
 cond_chain u [] = last_conj u
 cond_chain u (v ∷ vs) = or_else u (cond_chain v vs)
 
-cond_first : CondText → ConjText
+pub cond_first : CondText → ConjText
 cond_first (last_conj u) = u
 cond_first (or_else u rest) = u
 
-cond_rest : CondText → List ConjText
+pub cond_rest : CondText → List ConjText
 cond_rest (last_conj u) = []
 cond_rest (or_else u rest) = cond_first rest ∷ cond_rest rest
 
-cond_back : (c : CondText) → cond_chain (cond_first c) (cond_rest c) ≡ c
+pub cond_back : (c : CondText) → cond_chain (cond_first c) (cond_rest c) ≡ c
 unfolding cond_chain cond_first cond_rest
 cond_back (last_conj u) = refl
 cond_back (or_else u rest) = ap (or_else u) (cond_back rest)
 
-cond_spelled : (u : ConjText) (us : List ConjText) → members_pieces kind.Or conj_pieces (u, us) ≡ cond_pieces (cond_chain u us)
+pub cond_spelled : (u : ConjText) (us : List ConjText) → members_pieces kind.Or conj_pieces (u, us) ≡ cond_pieces (cond_chain u us)
 unfolding cond_chain
 cond_spelled u [] = append-nil (conj_pieces u)
 cond_spelled u (v ∷ vs) = ap (λ (ps : List Piece). conj_pieces u ++ (Mark kind.Or ∷ ps)) (cond_spelled v vs)
@@ -246,7 +246,7 @@ cond_exact n names levels = cond_with_exact n names levels (unary_at (Some names
 -- ---- tests
 
 -- a test without its parentheses
-abbrev inner_pieces : TestText → List Piece
+abbrev pub inner_pieces : TestText → List Piece
 inner_pieces either = Mark kind.Star ∷ []
 inner_pieces (condition c) = cond_pieces c
 
@@ -263,7 +263,7 @@ conj_begins : (c : ConjText) (rest : List Piece) → Not kind.Star (conj_pieces 
 conj_begins (last_unary u) rest = unary_begins u rest
 conj_begins (and_also u c) rest = subst (Not kind.Star) (sym (append_assoc (unary_pieces u) (Mark kind.And ∷ conj_pieces c) rest)) (unary_begins u _)
 
-cond_begins : (c : CondText) (rest : List Piece) → Not kind.Star (cond_pieces c ++ rest)
+pub cond_begins : (c : CondText) (rest : List Piece) → Not kind.Star (cond_pieces c ++ rest)
 cond_begins (last_conj c) rest = conj_begins c rest
 cond_begins (or_else c d) rest = subst (Not kind.Star) (sym (append_assoc (conj_pieces c) (Mark kind.Or ∷ cond_pieces d) rest)) (conj_begins c _)
 
@@ -290,7 +290,7 @@ inner_again n names levels at (condition c) rest fit h stop =
 inner_exact : (n : ℕ) (names : Names) (levels : ℕ) → Exact n (test_at (Some names) n levels) inner_pieces (InnerFits names levels) (Is (test_tree names)) CondEnds
 inner_exact n names levels = record { found = inner_found n names levels; again = inner_again n names levels }
 
-test_spelled : (t : TestText) → Mark kind.OpenParen ∷ (inner_pieces t ++ Mark kind.CloseParen ∷ []) ≡ test_pieces t
+pub test_spelled : (t : TestText) → Mark kind.OpenParen ∷ (inner_pieces t ++ Mark kind.CloseParen ∷ []) ≡ test_pieces t
 test_spelled either = refl
 test_spelled (condition c) = refl
 

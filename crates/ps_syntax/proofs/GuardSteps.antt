@@ -210,7 +210,7 @@ unfolding after_word
 after_guards k marked low low' g example = word_then_guards k marked low low' (λ w. g) example
 
 -- a word alone
-word_alone : (n n' most : ℕ) (k : TokenKind) → IsMark k → Guards n n' most (word_at k) (word_at k) (λ (u : Unit {0}). Mark k ∷ []) Always Same Always
+pub word_alone : (n n' most : ℕ) (k : TokenKind) → IsMark k → Guards n n' most (word_at k) (word_at k) (λ (u : Unit {0}). Mark k ∷ []) Always Same Always
 word_alone n n' most k marked = guards_as _ _ (λ t. tt) (λ u. []) (λ u. refl) (λ t. ap (λ (p : Piece). p ∷ []) (marked t)) (λ t h. tt) (λ u h. tt) (word_guards n n' most k)
 
 pub mark_example : (k : TokenKind) → IsMark k → Example (λ (u : Unit {0}). Mark k ∷ []) Always

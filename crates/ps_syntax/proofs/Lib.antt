@@ -12,3 +12,4 @@ pub mod Guards
 pub mod GuardSteps
 pub mod GuardLoops
 pub mod SumGuards
+pub mod CondGuards

@@ -262,7 +262,7 @@ further_on = record {
   some = λ c. omega arith;
 }
 
-all_always : {C : Type 0} (cs : List C) → AllByRecursion (λ (c : C). Unit {0}) cs
+pub all_always : {C : Type 0} (cs : List C) → AllByRecursion (λ (c : C). Unit {0}) cs
 all_always [] = tt
 all_always (c ∷ cs) = (tt, all_always cs)
 
