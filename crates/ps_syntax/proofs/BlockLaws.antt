@@ -171,20 +171,20 @@ stmt_exact n names levels block exact inside = record {
 
 -- ---- blocks
 
-block_of : List StmtText → BlockText
+pub block_of : List StmtText → BlockText
 block_of [] = block_end
 block_of (s ∷ ss) = block_more s (block_of ss)
 
-stmts_of : BlockText → List StmtText
+pub stmts_of : BlockText → List StmtText
 stmts_of block_end = []
 stmts_of (block_more s b) = s ∷ stmts_of b
 
-block_back : (b : BlockText) → block_of (stmts_of b) ≡ b
+pub block_back : (b : BlockText) → block_of (stmts_of b) ≡ b
 unfolding block_of stmts_of
 block_back block_end = refl
 block_back (block_more s b) = ap (block_more s) (block_back b)
 
-block_spelled : (ss : List StmtText) → flat_map stmt_pieces ss ++ Mark kind.CloseBrace ∷ [] ≡ rest_pieces (block_of ss)
+pub block_spelled : (ss : List StmtText) → flat_map stmt_pieces ss ++ Mark kind.CloseBrace ∷ [] ≡ rest_pieces (block_of ss)
 unfolding block_of
 block_spelled [] = refl
 block_spelled (s ∷ ss) = append_assoc (stmt_pieces s) (flat_map stmt_pieces ss) (Mark kind.CloseBrace ∷ []) ∙ ap (λ (ps : List Piece). stmt_pieces s ++ ps) (block_spelled ss)
@@ -206,7 +206,7 @@ block_said names [] ps (y ∷ ys) h = absurd h
 block_said names (s ∷ ss) ps [] h = absurd h
 block_said names (s ∷ ss) ps (y ∷ ys) h = ap (λ (z : Stmt). z ∷ ys) h.0 ∙ ap (λ (zs : List Stmt). record { place = first_place ps; kind = stmt_tree names s ps } ∷ zs) (block_said names ss (drop (length (stmt_pieces s)) ps) ys h.1)
 
-abbrev goes_on : List Piece → Bool
+abbrev pub goes_on : List Piece → Bool
 goes_on ps = not (begins_piece kind.CloseBrace ps)
 
 stmts_go_on : (names : Names) (levels : ℕ) (inside : Bool) → GoesOn has_more goes_on stmt_pieces (StmtFits names levels inside) (Not kind.Else)

@@ -8,10 +8,10 @@ use Rattle.ps_text.specs.declared.place.Place.{Place}
 use Rattle.ps_text.specs.declared.token_kind.TokenKind.{TokenKind}
 use Rattle.ps_syntax.specs.declared.read_refusal.ReadRefusal.{ReadRefusal}
 use Rattle.ps_syntax.specs.declared.read_refusal.ReadRefusal.TheVariants.{Grammar}
-use Rattle.ps_syntax.specs.Words.{Word, At, Read, and_then, ◌>>=◌, next_is, place_of_next, word_at, after_word, while_at}
+use Rattle.ps_syntax.specs.Words.{Word, At, Read, and_then, ◌>>=◌, next_is, place_of_next, place_at, word_at, after_word, while_at}
 use Rattle.ps_syntax.specs.Spelling.{Piece, Mark, piece_of_kind, pieces}
 use Rattle.ps_syntax.specs.Reads.{BeginAlike}
-use Rattle.ps_syntax.proofs.Steps.{Ahead, ahead_so, Always, Gets, gets_bind, gets_end, gets_true, gets_false, gets_more}
+use Rattle.ps_syntax.proofs.Steps.{Ahead, ahead_so, begins_piece, next_ahead, Always, Gets, gets_bind, gets_end, gets_true, gets_false, gets_more}
 use Rattle.ps_syntax.proofs.Sequences.{mapped, both, closed, IsMark, GoesOn, Ends, few}
 use Rattle.ps_syntax.proofs.Guards.{IsGrammar, Refused, Lets, Keeps, refused_bind, refused_after, refused_true, refused_false, lets_bind, lets_end, lets_true, lets_false, lets_gets, keeps_bind, keeps_end, keeps_more, alike_itself, alike_after, IsTest, next_test, Went, Stood, Guards, Any, Same, Example, pieces_both, pieces_are, room_left, piece_list, word_guards}
 
@@ -279,3 +279,46 @@ choice_guards {n = n} {n' = n'} {most = most} {one = one} {one' = one'} {two = t
           text = g p.text; fine = fine' p.text p.fine; front = p.front; rest = p.rest; more = p.more; split = p.split; place = p.place; spelled = p.spelled ∙ spelled' p.text;
           same = λ at' other room' s h. refused_false (goes at') _ _ (sym (test.same at at' (alike_two at.words at'.words p.front p.rest other p.split h s)) ∙ e) (p.same at' other room' s h);
         })
+
+-- a last sort: where the next word isn't its own, that is a fault
+pub last_guards : {C A : Type 0} {n n' most : ℕ} {one one' : Read A} {spell : C → List Piece} {okay : C → Type 0} {alike : A → A → Type 0} {follows : List Piece → Type 0}
+    (k : TokenKind) → ((c : C) (rest : List Piece) → okay c → begins_piece k (spell c ++ rest) ≡ true) → Example spell okay → Guards n n' most one one' spell okay alike follows
+    → Guards n n' most (λ at. if next_is k at then one at else Err (Grammar (place_at at))) (λ at. if next_is k at then one' at else Err (Grammar (place_at at))) spell okay alike follows
+last_guards {n = n} {n' = n'} {one = one} {one' = one'} {spell = spell} {okay = okay} {alike = alike} k starts example a = record {
+  never = λ at c rest fine h stop. lets_true (next_is k at) _ _ _ (next_ahead k h ∙ starts c rest fine) (a.never at c rest fine h stop);
+  stuck = λ at room. by_test at room (next_is k at) refl;
+}
+  where
+    by_test : (at : At) → length at.words < n → (t : Bool) → next_is k at ≡ t
+        → Keeps (if t then one at else Err (Grammar (place_at at))) (Went n' (λ at'. if next_is k at' then one' at' else Err (Grammar (place_at at'))) spell okay alike at) (Stood n' (λ at'. if next_is k at' then one' at' else Err (Grammar (place_at at'))) spell okay at)
+    by_test at room true e =
+        keeps_more _ _ _ _ _ (a.stuck at room)
+        (λ y p. record {
+          text = p.text; fine = p.fine; front = p.front; split = p.split; ends = p.ends; spelled = p.spelled;
+          same = λ at' other room' s h. gets_true (next_is k at') _ _ _ (sym ((next_test k).same at at' (alike_two at.words at'.words p.front y.1.words other p.split h s)) ∙ e) (p.same at' other room' s h);
+        })
+        (λ q p. record {
+          text = p.text; fine = p.fine; front = p.front; rest = p.rest; more = p.more; split = p.split; place = p.place; spelled = p.spelled;
+          same = λ at' other room' s h. refused_true (next_is k at') _ _ (sym ((next_test k).same at at' (alike_two at.words at'.words p.front p.rest other p.split h s)) ∙ e) (p.same at' other room' s h);
+        })
+    by_test at room false e = record { is = record {
+      text = example.text; fine = example.fine; front = []; rest = at.words; more = example.words; split = refl; place = refl; spelled = example.spelled;
+      same = λ at' other room' s h. refused_false (next_is k at') _ _ (sym ((next_test k).same at at' (subst (λ (ws : List Word). BeginAlike at.words ws) (sym h) s)) ∙ e) (record { is = tt });
+    } }
+
+-- the same with a value of the place and of what was read
+pub placed_guards : {C A B : Type 0} {n n' most : ℕ} {read read' : Read A} {spell : C → List Piece} {okay : C → Type 0} {alike : A → A → Type 0} {follows : List Piece → Type 0}
+    (of : At → A → B) → Guards n n' most read read' spell okay alike follows → Guards n n' most (λ at. read at >>= λ x. Ok (of at x.0, x.1)) (λ at. read' at >>= λ x. Ok (of at x.0, x.1)) spell okay Any follows
+placed_guards of g = record {
+  never = λ at c rest fine h stop. lets_bind _ _ _ _ (g.never at c rest fine h stop) (λ y p. lets_end _ _ p);
+  stuck = λ at room.
+    keeps_bind _ _ _ _ _ _ (g.stuck at room)
+      (λ y p. keeps_end _ _ _ (record {
+        text = p.text; fine = p.fine; front = p.front; split = p.split; ends = p.ends; spelled = p.spelled;
+        same = λ at' more room' s h. gets_bind _ _ _ _ (p.same at' more room' s h) (λ z q. gets_end _ _ (tt, q.1));
+      }))
+      (λ p q. record {
+        text = q.text; fine = q.fine; front = q.front; rest = q.rest; more = q.more; split = q.split; place = q.place; spelled = q.spelled;
+        same = λ at' more room' s h. refused_bind _ _ (q.same at' more room' s h);
+      });
+}

@@ -13,3 +13,4 @@ pub mod GuardSteps
 pub mod GuardLoops
 pub mod SumGuards
 pub mod CondGuards
+pub mod StmtGuards

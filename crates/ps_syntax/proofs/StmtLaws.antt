@@ -232,3 +232,12 @@ then_said names t b ps y h = if_said names (record { test = t; held = b; failed 
 pub else_said : (names : Names) (t : TestText) (b c : BlockText) (ps : List Place) (y : StmtKind) → IfIs names (record { test = t; held = b; failed = Some c }) ps y → StmtIs names (if_else t b c) ps y
 unfolding if_of
 else_said names t b c ps y h = if_said names (record { test = t; held = b; failed = Some c }) ps y h
+
+-- what holds of each `if` holds of the one with these parts
+pub if_is : (P : StmtText → Type 0) → ((t : TestText) (b : BlockText) → P (if_then t b)) → ((t : TestText) (b c : BlockText) → P (if_else t b c)) → (c : IfText) → P (if_of c)
+unfolding if_of
+if_is P h k c = by_else c.failed
+  where
+    by_else : (o : Option BlockText) → P (elim o as (λ _. StmtText) [ None ↦ if_then c.test c.held | Some b ↦ if_else c.test c.held b ])
+    by_else None = h c.test c.held
+    by_else (Some b) = k c.test c.held b

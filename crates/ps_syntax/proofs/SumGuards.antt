@@ -47,7 +47,7 @@ GuardsIn t read read' spell alike follows = Guards t.left t.left' t.most' read r
 
 -- ---- names and numbers
 
-abbrev name_piece : List ℕ → List Piece
+abbrev pub name_piece : List ℕ → List Piece
 name_piece x = NamePiece x ∷ []
 
 abbrev number_piece : List ℕ → List Piece
