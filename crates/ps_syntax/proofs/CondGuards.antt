@@ -29,13 +29,13 @@ use Rattle.ps_syntax.proofs.SumGuards.{Two, GuardsIn, all_always, relation_guard
 
 -- ---- members
 
-members_guards : {C : Type 0} (t : Two) (read read' : Read Cond) (spell : C → List Piece) (follows : List Piece → Type 0) (all : List Cond → Cond) (between : TokenKind) → IsMark between → ((rest : List Piece) → follows (Mark between ∷ rest)) → Example spell Always
-    → GuardsIn t read read' spell Any follows → GuardsIn t (members_at all between read t.most) (members_at all between read' t.most') (members_pieces between spell) Any (Ends (begins_piece between) follows)
+members_guards : {C : Type 0} (t : Two) (read : Read Cond) (read' : ℕ → Read Cond) (spell : C → List Piece) (follows : List Piece → Type 0) (all : List Cond → Cond) (between : TokenKind) → IsMark between → ((rest : List Piece) → follows (Mark between ∷ rest)) → Example spell Always
+    → GuardsIn t read read' spell Any follows → GuardsIn t (members_at all between read t.most) (λ i. members_at all between (read' i) (t.most' i)) (members_pieces between spell) Any (Ends (begins_piece between) follows)
 unfolding members_at
 members_guards {C = C} t read read' spell follows all between marked joins example g =
     guards_as (members_pieces between spell) Always (λ c. c) (λ c. c) (λ c. refl) (λ c. refl) (λ c h. tt) (λ c h. (tt, all_always c.1))
-    (both_guards Any (one_or_all all) (λ x y z w a b. tt) g (λ c. omega arith) (λ c. omega arith)
-      (while_guards (next_is between) (begins_piece between) (next_test between) on t.low t.low' (after_guards between marked (omega arith) (omega arith) g example)) (record { text = []; fine = tt; words = []; spelled = refl }) next)
+    (both_guards Any (one_or_all all) (λ x y z w a b. tt) g (λ c. omega arith) (λ i c. omega arith)
+      (while_guards (next_is between) (begins_piece between) (next_test between) on t.low t.low' (after_guards between marked (omega arith) (λ i. omega arith) g example)) (record { text = []; fine = tt; words = []; spelled = refl }) next)
   where
     on : GoesOn (next_is between) (begins_piece between) (λ (d : C). Mark between ∷ spell d) Always follows
     on = record {
@@ -61,24 +61,24 @@ conj_example = record { text = last_unary unary_example.text; fine = tt; words =
 pub cond_example : Example cond_pieces Always
 cond_example = record { text = last_conj conj_example.text; fine = tt; words = conj_example.words; spelled = conj_example.spelled }
 
-conj_guards : (t : Two) (read read' : Read Cond) → GuardsIn t read read' unary_pieces Any SumEnds → GuardsIn t (conj_with read t.most) (conj_with read' t.most') conj_pieces Any ConjEnds
+conj_guards : (t : Two) (read : Read Cond) (read' : ℕ → Read Cond) → GuardsIn t read read' unary_pieces Any SumEnds → GuardsIn t (conj_with read t.most) (λ i. conj_with (read' i) (t.most' i)) conj_pieces Any ConjEnds
 unfolding conj_with
 conj_guards t read read' g =
     guards_as conj_pieces Always (λ c. conj_chain c.0 c.1) (λ c. (conj_first c, conj_rest c)) conj_back (λ c. conj_spelled c.0 c.1) (λ c h. tt) (λ c h. tt)
     (members_guards t read read' unary_pieces SumEnds cond.And kind.And (λ u. refl) (λ rest. (refl, refl)) unary_example g)
 
-cond_with_guards : (t : Two) (read read' : Read Cond) → GuardsIn t read read' unary_pieces Any SumEnds → GuardsIn t (cond_with read t.most) (cond_with read' t.most') cond_pieces Any CondEnds
+cond_with_guards : (t : Two) (read : Read Cond) (read' : ℕ → Read Cond) → GuardsIn t read read' unary_pieces Any SumEnds → GuardsIn t (cond_with read t.most) (λ i. cond_with (read' i) (t.most' i)) cond_pieces Any CondEnds
 unfolding cond_with
 cond_with_guards t read read' g =
     guards_as cond_pieces Always (λ c. cond_chain c.0 c.1) (λ c. (cond_first c, cond_rest c)) cond_back (λ c. cond_spelled c.0 c.1) (λ c h. tt) (λ c h. tt)
-    (members_guards t (conj_with read t.most) (conj_with read' t.most') conj_pieces ConjEnds cond.Or kind.Or (λ u. refl) (λ rest. (refl, (refl, refl))) conj_example (conj_guards t read read' g))
+    (members_guards t (conj_with read t.most) (λ i. conj_with (read' i) (t.most' i)) conj_pieces ConjEnds cond.Or kind.Or (λ u. refl) (λ rest. (refl, (refl, refl))) conj_example (conj_guards t read read' g))
 
 -- ---- levels
 
 abbrev UnaryGuards : Two → ℕ → Type 0
-UnaryGuards t levels = GuardsIn t (unary_at t.scope t.most levels) (unary_at t.scope' t.most' levels) unary_pieces Any SumEnds
+UnaryGuards t levels = GuardsIn t (unary_at t.scope t.most levels) (λ i. unary_at t.scope' (t.most' i) levels) unary_pieces Any SumEnds
 
-rel_guards : (t : Two) → GuardsIn t (mapped cond.Rel (relation_at sign_of t.scope t.most)) (mapped cond.Rel (relation_at sign_of t.scope' t.most')) relation_pieces Any SumEnds
+rel_guards : (t : Two) → GuardsIn t (mapped cond.Rel (relation_at sign_of t.scope t.most)) (λ i. mapped cond.Rel (relation_at sign_of t.scope' (t.most' i))) relation_pieces Any SumEnds
 rel_guards t =
     guards_as relation_pieces Always (λ r. r) (λ r. r) (λ r. refl) (λ r. refl) (λ r h. tt) (λ r h. every_sign r.sign)
     (mapped_guards Any cond.Rel (λ x y h. tt) (relation_guards t sign_of all_signs refl))
@@ -105,7 +105,7 @@ opens_ahead n at ps h = ap (λ (t : Bool). t || next_is kind.OpenParen at) (next
 last_guards : (t : Two) → UnaryGuards t zero
 unfolding unary_at
 last_guards t =
-    choice_guards unary_pieces Always SumEnds opens_at begins_opening opens_test (opens_ahead t.most')
+    choice_guards unary_pieces Always SumEnds opens_at begins_opening opens_test opens_ahead
     (λ u. u) (λ u. refl) (λ u h. tt) relation (λ r. refl) (λ r h. tt) opening_sort (λ rest h. h) (λ rest h. h)
     (refusing_guards t.left t.left' t.most' (λ at. Limit (place_at at) limit.Depth) unary_pieces Always Any SumEnds (λ at. record { is = tt }))
     (rel_guards t)
@@ -128,21 +128,21 @@ parens_sort (relation r) ok = inr (record { text = r; fine = tt; same = refl; te
 more_guards : (t : Two) (levels : ℕ) → UnaryGuards t levels → UnaryGuards t (suc levels)
 unfolding unary_at
 more_guards t levels g =
-    choice_guards unary_pieces Always SumEnds (next_is kind.Not) (begins_piece kind.Not) (next_test kind.Not) (λ at ps h. next_ahead kind.Not h)
+    choice_guards unary_pieces Always SumEnds (next_is kind.Not) (begins_piece kind.Not) (next_test kind.Not) (λ k at ps h. next_ahead kind.Not h)
     negation (λ u. refl) (λ u h. tt) (λ u. u) (λ u. refl) (λ u h. tt) not_sort (λ rest h. h) (λ rest h. h)
-    (mapped_guards Any cond.Not (λ x y h. tt) (after_guards kind.Not (λ u. refl) (omega arith) (omega arith) g unary_example))
-    (choice_guards unary_pieces Other SumEnds (next_is kind.OpenParen) (begins_piece kind.OpenParen) (next_test kind.OpenParen) (λ at ps h. next_ahead kind.OpenParen h)
+    (mapped_guards Any cond.Not (λ x y h. tt) (after_guards kind.Not (λ u. refl) (omega arith) (λ i. omega arith) g unary_example))
+    (choice_guards unary_pieces Other SumEnds (next_is kind.OpenParen) (begins_piece kind.OpenParen) (next_test kind.OpenParen) (λ k at ps h. next_ahead kind.OpenParen h)
       in_parens (λ c. refl) (λ c h. tt) relation (λ r. refl) (λ r h. tt) parens_sort (λ rest h. tt) (λ rest h. h)
-      (closed_guards kind.CloseParen (λ u. refl) (λ rest. (refl, (refl, (refl, refl)))) (after_guards kind.OpenParen (λ u. refl) (omega arith) (omega arith) (cond_with_guards t _ _ g) cond_example))
+      (closed_guards kind.CloseParen (λ u. refl) (λ rest. (refl, (refl, (refl, refl)))) (after_guards kind.OpenParen (λ u. refl) (omega arith) (λ i. omega arith) (cond_with_guards t _ _ g) cond_example))
       (rel_guards t))
 
 unary_guards : (t : Two) (levels : ℕ) → UnaryGuards t levels
 unary_guards t zero = last_guards t
 unary_guards t (suc levels) = more_guards t levels (unary_guards t levels)
 
-pub cond_guards : (t : Two) (levels : ℕ) → GuardsIn t (cond_at t.scope t.most levels) (cond_at t.scope' t.most' levels) cond_pieces Any CondEnds
+pub cond_guards : (t : Two) (levels : ℕ) → GuardsIn t (cond_at t.scope t.most levels) (λ i. cond_at t.scope' (t.most' i) levels) cond_pieces Any CondEnds
 unfolding cond_at
-cond_guards t levels = cond_with_guards t (unary_at t.scope t.most levels) (unary_at t.scope' t.most' levels) (unary_guards t levels)
+cond_guards t levels = cond_with_guards t (unary_at t.scope t.most levels) (λ i. unary_at t.scope' (t.most' i) levels) (unary_guards t levels)
 
 -- ---- tests
 
@@ -150,10 +150,10 @@ inner_sort : (c : TestText) → Always c → OfSort (begins_piece kind.Star) tru
 inner_sort either ok = inl (record { text = tt; fine = tt; same = refl; tells = λ rest h. refl })
 inner_sort (condition c) ok = inr (record { text = c; fine = tt; same = refl; tells = λ rest h. cond_begins c rest })
 
-inner_guards : (t : Two) (levels : ℕ) → GuardsIn t (test_at t.scope t.most levels) (test_at t.scope' t.most' levels) inner_pieces Any CondEnds
+inner_guards : (t : Two) (levels : ℕ) → GuardsIn t (test_at t.scope t.most levels) (λ i. test_at t.scope' (t.most' i) levels) inner_pieces Any CondEnds
 unfolding test_at
 inner_guards t levels =
-    choice_guards inner_pieces Always CondEnds (next_is kind.Star) (begins_piece kind.Star) (next_test kind.Star) (λ at ps h. next_ahead kind.Star h)
+    choice_guards inner_pieces Always CondEnds (next_is kind.Star) (begins_piece kind.Star) (next_test kind.Star) (λ k at ps h. next_ahead kind.Star h)
     (λ u. either) (λ u. refl) (λ u h. tt) condition (λ c. refl) (λ c h. tt) inner_sort (λ rest h. tt) (λ rest h. h)
     (mapped_guards Any (λ (w : Word). test.Star) (λ x y h. tt) (word_alone t.left t.left' t.most' kind.Star (λ u. refl)))
     (mapped_guards Any test.Cond (λ x y h. tt) (cond_guards t levels))
@@ -164,16 +164,16 @@ inner_example = record { text = either; fine = tt; words = (mark_example kind.St
 abbrev after_open : TestText → List Piece
 after_open c = inner_pieces c ++ Mark kind.CloseParen ∷ []
 
-pub parens_guards : (t : Two) (levels : ℕ) → GuardsIn t (parens_at t.scope t.most levels) (parens_at t.scope' t.most' levels) test_pieces Any Always
+pub parens_guards : (t : Two) (levels : ℕ) → GuardsIn t (parens_at t.scope t.most levels) (λ i. parens_at t.scope' (t.most' i) levels) test_pieces Any Always
 unfolding parens_at after_word
 parens_guards t zero =
     guards_as test_pieces Always (λ c. c) (λ c. c) (λ c. refl) test_spelled (λ c h. h) (λ c h. h)
-    (word_then_guards kind.OpenParen (λ u. refl) (omega arith) (omega arith)
+    (word_then_guards kind.OpenParen (λ u. refl) (omega arith) (λ i. omega arith)
       (λ w. refusing_guards t.left t.left' t.most' (λ at. Limit w.place limit.Depth) after_open Always Any Always (λ at. record { is = tt }))
       (example_closed kind.CloseParen (λ u. refl) inner_example))
 parens_guards t (suc levels) =
     guards_as test_pieces Always (λ c. c) (λ c. c) (λ c. refl) test_spelled (λ c h. h) (λ c h. h)
-    (after_guards kind.OpenParen (λ u. refl) (omega arith) (omega arith) (closed_guards kind.CloseParen (λ u. refl) (λ rest. (refl, (refl, (refl, refl)))) (inner_guards t levels)) (example_closed kind.CloseParen (λ u. refl) inner_example))
+    (after_guards kind.OpenParen (λ u. refl) (omega arith) (λ i. omega arith) (closed_guards kind.CloseParen (λ u. refl) (λ rest. (refl, (refl, (refl, refl)))) (inner_guards t levels)) (example_closed kind.CloseParen (λ u. refl) inner_example))
 
 pub test_example : Example test_pieces Always
 test_example =

@@ -121,17 +121,17 @@ next_test k = record { same = λ at at' h. alike_begins k at.words at'.words h }
 -- ---- the laws
 
 -- What was read is spelled so, and is read alike of other words that begin so and go on alike.
-pub record Went {C A : Type 0} (n' : ℕ) (read' : Read A) (spell : C → List Piece) (okay : C → Type 0) (alike : A → A → Type 0) (at : At) (y : A × At) : Type 0 where
+pub record Went {C A : Type 0} (n' : ℕ → ℕ) (read' : ℕ → Read A) (spell : C → List Piece) (okay : C → Type 0) (alike : A → A → Type 0) (at : At) (y : A × At) : Type 0 where
   pub text : C
   pub fine : okay text
   pub front : List Word
   pub split : at.words ≡ front ++ y.1.words
   pub ends : y.1.end ≡ at.end
   pub spelled : pieces front ≡ spell text
-  pub same : (at' : At) (other : List Word) → length at'.words < n' → BeginAlike y.1.words other → at'.words ≡ front ++ other → Gets (read' at') (λ z. alike y.0 z.0 × (z.1.words ≡ other))
+  pub same : (i : ℕ) (at' : At) (other : List Word) → length at'.words < n' i → BeginAlike y.1.words other → at'.words ≡ front ++ other → Gets (read' i at') (λ z. alike y.0 z.0 × (z.1.words ≡ other))
 
 -- Where a fault is, the words before it go on as some text, and others that begin so and go on alike have it too.
-pub record Stood {C A : Type 0} (n' : ℕ) (read' : Read A) (spell : C → List Piece) (okay : C → Type 0) (at : At) (p : Place) : Type 0 where
+pub record Stood {C A : Type 0} (n' : ℕ → ℕ) (read' : ℕ → Read A) (spell : C → List Piece) (okay : C → Type 0) (at : At) (p : Place) : Type 0 where
   pub text : C
   pub fine : okay text
   pub front : List Word
@@ -140,12 +140,12 @@ pub record Stood {C A : Type 0} (n' : ℕ) (read' : Read A) (spell : C → List 
   pub split : at.words ≡ front ++ rest
   pub place : p ≡ place_of_next rest at.end
   pub spelled : pieces (front ++ more) ≡ spell text
-  pub same : (at' : At) (other : List Word) → length at'.words < n' → BeginAlike rest other → at'.words ≡ front ++ other → Refused (read' at')
+  pub same : (i : ℕ) (at' : At) (other : List Word) → length at'.words < n' i → BeginAlike rest other → at'.words ≡ front ++ other → Refused (read' i at')
 
 -- The laws of a reading function, and of one that is like it with another bound, where fewer words are left than those
--- numbers, and at most so many.
-pub record Guards {C A : Type 0} (n n' most : ℕ) (read read' : Read A) (spell : C → List Piece) (okay : C → Type 0) (alike : A → A → Type 0) (follows : List Piece → Type 0) : Type 0 where
-  pub never : (at : At) (c : C) (rest : List Piece) → okay c → Ahead most at (spell c ++ rest) → follows rest → Lets (read' at) (λ y. Ahead most y.1 rest)
+-- numbers, and at most so many: one like it for each number.
+pub record Guards {C A : Type 0} (n : ℕ) (n' most : ℕ → ℕ) (read : Read A) (read' : ℕ → Read A) (spell : C → List Piece) (okay : C → Type 0) (alike : A → A → Type 0) (follows : List Piece → Type 0) : Type 0 where
+  pub never : (i : ℕ) (at : At) (c : C) (rest : List Piece) → okay c → Ahead (most i) at (spell c ++ rest) → follows rest → Lets (read' i at) (λ y. Ahead (most i) y.1 rest)
   pub stuck : (at : At) → length at.words < n → Keeps (read at) (Went n' read' spell okay alike at) (Stood n' read' spell okay at)
 
 abbrev pub Any : {A : Type 0} → A → A → Type 0
@@ -190,31 +190,31 @@ wrong_word k w ws (v ∷ vs) end e h = refused_false (is_kind v.kind k) _ _ (sym
 abbrev pub piece_list : TokenKind → List ℕ → List Piece
 piece_list k t = piece_of_kind k t ∷ []
 
-word_stuck : (n' : ℕ) (k : TokenKind) (ws : List Word) (end : Place)
-    → Keeps (word_from k ws end) (Went n' (λ at. word_from k at.words at.end) (piece_list k) Always Same (record { words = ws; end = end })) (Stood n' (λ (at : At). word_from k at.words at.end) (piece_list k) Always (record { words = ws; end = end }))
+word_stuck : (n' : ℕ → ℕ) (k : TokenKind) (ws : List Word) (end : Place)
+    → Keeps (word_from k ws end) (Went n' (λ i at. word_from k at.words at.end) (piece_list k) Always Same (record { words = ws; end = end })) (Stood n' (λ (i : ℕ) (at : At). word_from k at.words at.end) (piece_list k) Always (record { words = ws; end = end }))
 unfolding word_of
 word_stuck n' k [] end = record { is = record {
   text = []; fine = tt; front = []; rest = []; more = word_of k ∷ []; split = refl; place = refl; spelled = refl;
-  same = λ at' other room h e. subst (λ (vs : List Word). Refused (word_from k vs at'.end)) (sym e) (no_word k other at'.end h);
+  same = λ i at' other room h e. subst (λ (vs : List Word). Refused (word_from k vs at'.end)) (sym e) (no_word k other at'.end h);
 } }
 word_stuck n' k (w ∷ ws) end = by_test (is_kind w.kind k) refl
   where
     by_test : (t : Bool) → is_kind w.kind k ≡ t
-        → Keeps (if t then Ok (w, record { words = ws; end = end }) else Err (Grammar w.place)) (Went n' (λ at. word_from k at.words at.end) (piece_list k) Always Same (record { words = w ∷ ws; end = end })) (Stood n' (λ (at : At). word_from k at.words at.end) (piece_list k) Always (record { words = w ∷ ws; end = end }))
+        → Keeps (if t then Ok (w, record { words = ws; end = end }) else Err (Grammar w.place)) (Went n' (λ i at. word_from k at.words at.end) (piece_list k) Always Same (record { words = w ∷ ws; end = end })) (Stood n' (λ (i : ℕ) (at : At). word_from k at.words at.end) (piece_list k) Always (record { words = w ∷ ws; end = end }))
     by_test true e = record { is = record {
       text = w.text; fine = tt; front = w ∷ []; split = refl; ends = refl;
       spelled = ap (λ (j : TokenKind). piece_of_kind j w.text ∷ []) (one_kind w.kind k e);
-      same = λ at' other room h s. subst (λ (vs : List Word). Gets (word_from k vs at'.end) (λ z. (w ≡ z.0) × (z.1.words ≡ other))) (sym s)
+      same = λ i at' other room h s. subst (λ (vs : List Word). Gets (word_from k vs at'.end) (λ z. (w ≡ z.0) × (z.1.words ≡ other))) (sym s)
         (gets_true (is_kind w.kind k) _ _ _ e (gets_end _ _ (refl, refl)));
     } }
     by_test false e = record { is = record {
       text = []; fine = tt; front = []; rest = w ∷ ws; more = word_of k ∷ []; split = refl; place = refl; spelled = refl;
-      same = λ at' other room h s. subst (λ (vs : List Word). Refused (word_from k vs at'.end)) (sym s) (wrong_word k w ws other at'.end e h);
+      same = λ i at' other room h s. subst (λ (vs : List Word). Refused (word_from k vs at'.end)) (sym s) (wrong_word k w ws other at'.end e h);
     } }
 
-pub word_guards : (n n' most : ℕ) (k : TokenKind) → Guards n n' most (word_at k) (word_at k) (piece_list k) Always Same Always
+pub word_guards : (n : ℕ) (n' most : ℕ → ℕ) (k : TokenKind) → Guards n n' most (word_at k) (λ i. word_at k) (piece_list k) Always Same Always
 unfolding word_at
 word_guards n n' most k = record {
-  never = λ at t rest fine h _. lets_gets _ _ _ ((word_exact most k).again at t rest tt h tt) (λ y p. p.1);
+  never = λ i at t rest fine h _. lets_gets _ _ _ ((word_exact (most i) k).again at t rest tt h tt) (λ y p. p.1);
   stuck = λ at room. word_stuck n' k at.words at.end;
 }

@@ -32,36 +32,36 @@ use Rattle.ps_syntax.proofs.CondGuards.{cond_guards, cond_example, parens_guards
 
 -- ---- simple statements
 
-pub ended_guards : {C A : Type 0} {n n' most : ℕ} {read read' : Read A} {spell : C → List Piece} {okay : C → Type 0} {alike : A → A → Type 0} {follows : List Piece → Type 0}
-    → ((rest : List Piece) → follows (Mark kind.Semicolon ∷ rest)) → Guards n n' most read read' spell okay alike follows → Guards n n' most (ended_at read) (ended_at read') (λ c. spell c ++ Mark kind.Semicolon ∷ []) okay alike Always
+pub ended_guards : {C A : Type 0} {n : ℕ} {n' most : ℕ → ℕ} {read : Read A} {read' : ℕ → Read A} {spell : C → List Piece} {okay : C → Type 0} {alike : A → A → Type 0} {follows : List Piece → Type 0}
+    → ((rest : List Piece) → follows (Mark kind.Semicolon ∷ rest)) → Guards n n' most read read' spell okay alike follows → Guards n n' most (ended_at read) (λ i. ended_at (read' i)) (λ c. spell c ++ Mark kind.Semicolon ∷ []) okay alike Always
 unfolding ended_at
 ended_guards ends g = closed_guards kind.Semicolon (λ u. refl) ends g
 
-assign_guards : (t : Two) → GuardsIn t (assign_at t.scope t.most) (assign_at t.scope' t.most') (λ (c : List ℕ × SumText). stmt_pieces (assign c.0 c.1)) Any Always
+assign_guards : (t : Two) → GuardsIn t (assign_at t.scope t.most) (λ i. assign_at t.scope' (t.most' i)) (λ (c : List ℕ × SumText). stmt_pieces (assign c.0 c.1)) Any Always
 unfolding assign_at
 assign_guards t =
     guards_as _ Always (λ c. c) (λ c. c) (λ c. refl) (λ c. refl) (λ c h. tt) (λ c h. (tt, tt))
-    (both_guards {m = t.left} {m' = t.left'} Any stmt.Assign (λ x y z w a b. tt) (variable_guards t) (λ c. omega arith) (λ c. omega arith)
-      (after_guards kind.Becomes (λ u. refl) (omega arith) (omega arith) (ended_guards (λ rest. (refl, refl)) (sum_guards t)) (example_closed kind.Semicolon (λ u. refl) sum_example))
+    (both_guards {m = t.left} {m' = t.left'} Any stmt.Assign (λ x y z w a b. tt) (variable_guards t) (λ c. omega arith) (λ i c. omega arith)
+      (after_guards kind.Becomes (λ u. refl) (omega arith) (λ i. omega arith) (ended_guards (λ rest. (refl, refl)) (sum_guards t)) (example_closed kind.Semicolon (λ u. refl) sum_example))
       (example_after kind.Becomes (λ u. refl) (example_closed kind.Semicolon (λ u. refl) sum_example)) (λ d rest h. tt))
 
-havoc_guards : (t : Two) → GuardsIn t (havoc_at t.scope) (havoc_at t.scope') (λ x. stmt_pieces (havoc x)) Any Always
+havoc_guards : (t : Two) → GuardsIn t (havoc_at t.scope) (λ i. havoc_at t.scope') (λ x. stmt_pieces (havoc x)) Any Always
 unfolding havoc_at
-havoc_guards t = mapped_guards Any stmt.Havoc (λ x y h. tt) (after_guards kind.Havoc (λ u. refl) (omega arith) (omega arith) (ended_guards (λ rest. tt) (variable_guards t)) (example_closed kind.Semicolon (λ u. refl) name_example))
+havoc_guards t = mapped_guards Any stmt.Havoc (λ x y h. tt) (after_guards kind.Havoc (λ u. refl) (omega arith) (λ i. omega arith) (ended_guards (λ rest. tt) (variable_guards t)) (example_closed kind.Semicolon (λ u. refl) name_example))
 
 cond_stmt_guards : (t : Two) (levels : ℕ) (word : TokenKind) (of : Cond → StmtKind) → IsMark word
-    → GuardsIn t (cond_stmt_at word of t.scope t.most levels) (cond_stmt_at word of t.scope' t.most' levels) (λ c. Mark word ∷ (cond_pieces c ++ Mark kind.Semicolon ∷ [])) Any Always
+    → GuardsIn t (cond_stmt_at word of t.scope t.most levels) (λ i. cond_stmt_at word of t.scope' (t.most' i) levels) (λ c. Mark word ∷ (cond_pieces c ++ Mark kind.Semicolon ∷ [])) Any Always
 unfolding cond_stmt_at
 cond_stmt_guards t levels word of marked =
-    mapped_guards Any of (λ x y h. tt) (after_guards word marked (omega arith) (omega arith) (ended_guards (λ rest. (refl, (refl, (refl, refl)))) (cond_guards t levels)) (example_closed kind.Semicolon (λ u. refl) cond_example))
+    mapped_guards Any of (λ x y h. tt) (after_guards word marked (omega arith) (λ i. omega arith) (ended_guards (λ rest. (refl, (refl, (refl, refl)))) (cond_guards t levels)) (example_closed kind.Semicolon (λ u. refl) cond_example))
 
-skip_guards : (t : Two) → GuardsIn t skip_at skip_at (λ (u : Unit {0}). stmt_pieces skip) Any Always
+skip_guards : (t : Two) → GuardsIn t skip_at (λ i. skip_at) (λ (u : Unit {0}). stmt_pieces skip) Any Always
 unfolding skip_at
-skip_guards t = mapped_guards Any (λ (w : Word). stmt.Skip) (λ x y h. tt) (after_guards kind.Skip (λ u. refl) (omega arith) (omega arith) (word_alone t.left t.left' t.most' kind.Semicolon (λ u. refl)) (mark_example kind.Semicolon (λ u. refl)))
+skip_guards t = mapped_guards Any (λ (w : Word). stmt.Skip) (λ x y h. tt) (after_guards kind.Skip (λ u. refl) (omega arith) (λ i. omega arith) (word_alone t.left t.left' t.most' kind.Semicolon (λ u. refl)) (mark_example kind.Semicolon (λ u. refl)))
 
 -- ---- statements with blocks
 
-abbrev BlockGuards : Two → Read (List Stmt) → Read (List Stmt) → Type 0
+abbrev BlockGuards : Two → Read (List Stmt) → (ℕ → Read (List Stmt)) → Type 0
 BlockGuards t block block' = GuardsIn t block block' block_pieces Any Always
 
 block_example : Example block_pieces Always
@@ -70,39 +70,39 @@ block_example = record {
   words = record { kind = kind.OpenBrace; text = []; place = record { line = 0; column = 0 } } ∷ record { kind = kind.CloseBrace; text = []; place = record { line = 0; column = 0 } } ∷ [];
 }
 
-atomic_guards : (t : Two) (block block' : Read (List Stmt)) → BlockGuards t block block' → GuardsIn t (atomic_at block) (atomic_at block') (λ b. stmt_pieces (atomic b)) Any Always
+atomic_guards : (t : Two) (block : Read (List Stmt)) (block' : ℕ → Read (List Stmt)) → BlockGuards t block block' → GuardsIn t (atomic_at block) (λ i. atomic_at (block' i)) (λ b. stmt_pieces (atomic b)) Any Always
 unfolding atomic_at
-atomic_guards t block block' g = mapped_guards Any stmt.Atomic (λ x y h. tt) (after_guards kind.Atomic (λ u. refl) (omega arith) (omega arith) g block_example)
+atomic_guards t block block' g = mapped_guards Any stmt.Atomic (λ x y h. tt) (after_guards kind.Atomic (λ u. refl) (omega arith) (λ i. omega arith) g block_example)
 
 abbrev while_pieces : TestText × BlockText → List Piece
 while_pieces c = stmt_pieces (while_do c.0 c.1)
 
-while_stmt_guards : (t : Two) (levels : ℕ) (inside : Bool) (block block' : Read (List Stmt)) → BlockGuards t block block'
-    → GuardsIn t (while_stmt_at inside block t.scope t.most levels) (while_stmt_at inside block' t.scope' t.most' levels) while_pieces Any Always
+while_stmt_guards : (t : Two) (levels : ℕ) (inside : Bool) (block : Read (List Stmt)) (block' : ℕ → Read (List Stmt)) → BlockGuards t block block'
+    → GuardsIn t (while_stmt_at inside block t.scope t.most levels) (λ i. while_stmt_at inside (block' i) t.scope' (t.most' i) levels) while_pieces Any Always
 unfolding while_stmt_at
 while_stmt_guards t levels true block block' g = refusing_guards t.left t.left' t.most' (λ at. LoopInAtomic (place_at at)) while_pieces Always Any Always (λ at. record { is = tt })
 while_stmt_guards t levels false block block' g =
     guards_as while_pieces Always (λ c. c) (λ c. c) (λ c. refl) (λ c. refl) (λ c h. tt) (λ c h. (tt, tt))
-    (both_guards {m = t.left} {m' = t.left'} Any stmt.While (λ x y z w a b. tt) (after_guards kind.While (λ u. refl) (omega arith) (omega arith) (parens_guards t levels) test_example) (λ c. omega arith) (λ c. omega arith) g block_example (λ d rest h. tt))
+    (both_guards {m = t.left} {m' = t.left'} Any stmt.While (λ x y z w a b. tt) (after_guards kind.While (λ u. refl) (omega arith) (λ i. omega arith) (parens_guards t levels) test_example) (λ c. omega arith) (λ i c. omega arith) g block_example (λ d rest h. tt))
 
 else_sort : (o : Option BlockText) → Always o → OfSort (begins_piece kind.Else) true (λ (b : BlockText). Mark kind.Else ∷ block_pieces b) Always (Not kind.Else) (else_pieces o) ⊎ OfSort (begins_piece kind.Else) false (λ (u : Unit {0}). []) Always (Not kind.Else) (else_pieces o)
 else_sort None ok = inr (record { text = tt; fine = tt; same = refl; tells = λ rest h. h })
 else_sort (Some b) ok = inl (record { text = b; fine = tt; same = refl; tells = λ rest h. refl })
 
-else_guards : (t : Two) (block block' : Read (List Stmt)) → BlockGuards t block block' → GuardsIn t (else_at block) (else_at block') else_pieces Any (Not kind.Else)
+else_guards : (t : Two) (block : Read (List Stmt)) (block' : ℕ → Read (List Stmt)) → BlockGuards t block block' → GuardsIn t (else_at block) (λ i. else_at (block' i)) else_pieces Any (Not kind.Else)
 unfolding else_at
 else_guards t block block' g =
-    choice_guards else_pieces Always (Not kind.Else) (next_is kind.Else) (begins_piece kind.Else) (next_test kind.Else) (λ at ps h. next_ahead kind.Else h)
+    choice_guards else_pieces Always (Not kind.Else) (next_is kind.Else) (begins_piece kind.Else) (next_test kind.Else) (λ k at ps h. next_ahead kind.Else h)
     (λ b. Some b) (λ b. refl) (λ b h. tt) (λ (u : Unit {0}). None) (λ u. refl) (λ u h. tt) else_sort (λ rest h. tt) (λ rest h. tt)
-    (after_guards kind.Else (λ u. refl) (omega arith) (omega arith) g block_example) (nothing_guards t.left t.left' t.most' [] Any tt Always)
+    (after_guards kind.Else (λ u. refl) (omega arith) (λ i. omega arith) g block_example) (nothing_guards t.left t.left' t.most' [] Any tt Always)
 
-if_guards : (t : Two) (levels : ℕ) (block block' : Read (List Stmt)) → BlockGuards t block block' → GuardsIn t (if_at block t.scope t.most levels) (if_at block' t.scope' t.most' levels) if_pieces Any (Not kind.Else)
+if_guards : (t : Two) (levels : ℕ) (block : Read (List Stmt)) (block' : ℕ → Read (List Stmt)) → BlockGuards t block block' → GuardsIn t (if_at block t.scope t.most levels) (λ i. if_at (block' i) t.scope' (t.most' i) levels) if_pieces Any (Not kind.Else)
 unfolding if_at
 if_guards t levels block block' g =
     guards_as if_pieces Always (λ c. record { test = c.0; held = c.1.0; failed = c.1.1 }) (λ c. (c.test, (c.held, c.failed))) (λ c. refl) (λ c. refl) (λ c h. tt) (λ c h. (tt, (tt, tt)))
-    (guards_same _ _ (three_is stmt.If (after_word kind.If (parens_at t.scope t.most levels)) block (else_at block)) (three_is stmt.If (after_word kind.If (parens_at t.scope' t.most' levels)) block' (else_at block'))
-    (both_guards {m = t.left} {m' = t.left'} Any (of_pair stmt.If) (λ x y z w a b. tt) (after_guards kind.If (λ u. refl) (omega arith) (omega arith) (parens_guards t levels) test_example) (λ c. omega arith) (λ c. omega arith)
-      (both_guards Any pair_up (λ x y z w a b. tt) g (λ c. omega arith) (λ c. omega arith) (else_guards t block block' g) (record { text = None; fine = tt; words = []; spelled = refl }) (λ d rest h. tt))
+    (guards_same _ _ (three_is stmt.If (after_word kind.If (parens_at t.scope t.most levels)) block (else_at block)) (λ i. three_is stmt.If (after_word kind.If (parens_at t.scope' (t.most' i) levels)) (block' i) (else_at (block' i)))
+    (both_guards {m = t.left} {m' = t.left'} Any (of_pair stmt.If) (λ x y z w a b. tt) (after_guards kind.If (λ u. refl) (omega arith) (λ i. omega arith) (parens_guards t levels) test_example) (λ c. omega arith) (λ i c. omega arith)
+      (both_guards Any pair_up (λ x y z w a b. tt) g (λ c. omega arith) (λ i c. omega arith) (else_guards t block block' g) (record { text = None; fine = tt; words = []; spelled = refl }) (λ d rest h. tt))
       (record { text = (block_example.text, None); fine = (tt, tt); words = block_example.words ++ []; spelled = pieces_are block_example.words [] (block_pieces block_example.text) [] block_example.spelled refl }) (λ d rest h. tt)))
 
 -- ---- which statement
@@ -161,29 +161,29 @@ while_example = record {
   spelled = ap (λ (ps : List Piece). Mark kind.While ∷ ps) (pieces_are test_example.words block_example.words (test_pieces test_example.text) (block_pieces block_example.text) test_example.spelled block_example.spelled);
 }
 
-kind_guards : (t : Two) (levels : ℕ) (block block' : Bool → Read (List Stmt)) → ((inside : Bool) → BlockGuards t (block inside) (block' inside)) → (inside : Bool)
-    → GuardsIn t (kind_at block inside t.scope t.most levels) (kind_at block' inside t.scope' t.most' levels) stmt_pieces Any (Not kind.Else)
+kind_guards : (t : Two) (levels : ℕ) (block : Bool → Read (List Stmt)) (block' : ℕ → Bool → Read (List Stmt)) → ((inside : Bool) → BlockGuards t (block inside) (λ i. block' i inside)) → (inside : Bool)
+    → GuardsIn t (kind_at block inside t.scope t.most levels) (λ i. kind_at (block' i) inside t.scope' (t.most' i) levels) stmt_pieces Any (Not kind.Else)
 unfolding kind_at
 kind_guards t levels block block' g inside =
     guards_as stmt_pieces Always (λ s. s) (λ s. s) (λ s. refl) (λ s. refl) (λ s h. tt) (λ s h. omega arith)
-    (choice_guards stmt_pieces (From 0) (Not kind.Else) (next_is kind.Name) (begins_piece kind.Name) (next_test kind.Name) (λ at ps h. next_ahead kind.Name h)
+    (choice_guards stmt_pieces (From 0) (Not kind.Else) (next_is kind.Name) (begins_piece kind.Name) (next_test kind.Name) (λ k at ps h. next_ahead kind.Name h)
       (λ c. assign c.0 c.1) (λ c. refl) (λ c h. omega arith) (λ s. s) (λ s. refl) (λ s h. omega arith) sort_assign (λ rest h. tt) (λ rest h. h) (assign_guards t)
-    (choice_guards stmt_pieces (From 1) (Not kind.Else) (next_is kind.Havoc) (begins_piece kind.Havoc) (next_test kind.Havoc) (λ at ps h. next_ahead kind.Havoc h)
+    (choice_guards stmt_pieces (From 1) (Not kind.Else) (next_is kind.Havoc) (begins_piece kind.Havoc) (next_test kind.Havoc) (λ k at ps h. next_ahead kind.Havoc h)
       havoc (λ c. refl) (λ c h. omega arith) (λ s. s) (λ s. refl) (λ s h. omega (arith, h)) sort_havoc (λ rest h. tt) (λ rest h. h) (havoc_guards t)
-    (choice_guards stmt_pieces (From 2) (Not kind.Else) (next_is kind.Assume) (begins_piece kind.Assume) (next_test kind.Assume) (λ at ps h. next_ahead kind.Assume h)
+    (choice_guards stmt_pieces (From 2) (Not kind.Else) (next_is kind.Assume) (begins_piece kind.Assume) (next_test kind.Assume) (λ k at ps h. next_ahead kind.Assume h)
       assume (λ c. refl) (λ c h. omega arith) (λ s. s) (λ s. refl) (λ s h. omega (arith, h)) sort_assume (λ rest h. tt) (λ rest h. h) (cond_stmt_guards t levels kind.Assume stmt.Assume (λ u. refl))
-    (choice_guards stmt_pieces (From 3) (Not kind.Else) (next_is kind.Assert) (begins_piece kind.Assert) (next_test kind.Assert) (λ at ps h. next_ahead kind.Assert h)
+    (choice_guards stmt_pieces (From 3) (Not kind.Else) (next_is kind.Assert) (begins_piece kind.Assert) (next_test kind.Assert) (λ k at ps h. next_ahead kind.Assert h)
       assert (λ c. refl) (λ c h. omega arith) (λ s. s) (λ s. refl) (λ s h. omega (arith, h)) sort_assert (λ rest h. tt) (λ rest h. h) (cond_stmt_guards t levels kind.Assert stmt.Assert (λ u. refl))
-    (choice_guards stmt_pieces (From 4) (Not kind.Else) (next_is kind.Skip) (begins_piece kind.Skip) (next_test kind.Skip) (λ at ps h. next_ahead kind.Skip h)
+    (choice_guards stmt_pieces (From 4) (Not kind.Else) (next_is kind.Skip) (begins_piece kind.Skip) (next_test kind.Skip) (λ k at ps h. next_ahead kind.Skip h)
       (λ (u : Unit {0}). skip) (λ c. refl) (λ c h. omega arith) (λ s. s) (λ s. refl) (λ s h. omega (arith, h)) sort_skip (λ rest h. tt) (λ rest h. h) (skip_guards t)
-    (choice_guards stmt_pieces (From 5) (Not kind.Else) (next_is kind.Atomic) (begins_piece kind.Atomic) (next_test kind.Atomic) (λ at ps h. next_ahead kind.Atomic h)
-      atomic (λ c. refl) (λ c h. omega arith) (λ s. s) (λ s. refl) (λ s h. omega (arith, h)) sort_atomic (λ rest h. tt) (λ rest h. h) (atomic_guards t (block true) (block' true) (g true))
-    (choice_guards stmt_pieces (From 6) (Not kind.Else) (next_is kind.If) (begins_piece kind.If) (next_test kind.If) (λ at ps h. next_ahead kind.If h)
-      if_of if_spelled (λ c h. if_is (From 6) (λ u b. omega arith) (λ u b d. omega arith) c) (λ c. while_do c.0 c.1) (λ c. refl) (λ c h. omega arith) sort_if (λ rest h. h) (λ rest h. tt) (if_guards t levels (block inside) (block' inside) (g inside))
-    (last_guards kind.While (λ c rest h. refl) while_example (while_stmt_guards t levels inside (block inside) (block' inside) (g inside))))))))))
+    (choice_guards stmt_pieces (From 5) (Not kind.Else) (next_is kind.Atomic) (begins_piece kind.Atomic) (next_test kind.Atomic) (λ k at ps h. next_ahead kind.Atomic h)
+      atomic (λ c. refl) (λ c h. omega arith) (λ s. s) (λ s. refl) (λ s h. omega (arith, h)) sort_atomic (λ rest h. tt) (λ rest h. h) (atomic_guards t (block true) (λ i. block' i true) (g true))
+    (choice_guards stmt_pieces (From 6) (Not kind.Else) (next_is kind.If) (begins_piece kind.If) (next_test kind.If) (λ k at ps h. next_ahead kind.If h)
+      if_of if_spelled (λ c h. if_is (From 6) (λ u b. omega arith) (λ u b d. omega arith) c) (λ c. while_do c.0 c.1) (λ c. refl) (λ c h. omega arith) sort_if (λ rest h. h) (λ rest h. tt) (if_guards t levels (block inside) (λ i. block' i inside) (g inside))
+    (last_guards kind.While (λ c rest h. refl) while_example (while_stmt_guards t levels inside (block inside) (λ i. block' i inside) (g inside))))))))))
 
-stmt_guards : (t : Two) (levels : ℕ) (block block' : Bool → Read (List Stmt)) → ((inside : Bool) → BlockGuards t (block inside) (block' inside)) → (inside : Bool)
-    → GuardsIn t (stmt_at block inside t.scope t.most levels) (stmt_at block' inside t.scope' t.most' levels) stmt_pieces Any (Not kind.Else)
+stmt_guards : (t : Two) (levels : ℕ) (block : Bool → Read (List Stmt)) (block' : ℕ → Bool → Read (List Stmt)) → ((inside : Bool) → BlockGuards t (block inside) (λ i. block' i inside)) → (inside : Bool)
+    → GuardsIn t (stmt_at block inside t.scope t.most levels) (λ i. stmt_at (block' i) inside t.scope' (t.most' i) levels) stmt_pieces Any (Not kind.Else)
 unfolding stmt_at
 stmt_guards t levels block block' g inside = placed_guards (λ at k. record { place = place_at at; kind = k }) (kind_guards t levels block block' g inside)
 
@@ -203,13 +203,13 @@ stmts_on = record {
 rest_example : Example rest_pieces Always
 rest_example = record { text = block_end; fine = tt; words = record { kind = kind.CloseBrace; text = []; place = record { line = 0; column = 0 } } ∷ []; spelled = refl }
 
-pub block_guards : (t : Two) (levels : ℕ) (inside : Bool) → BlockGuards t (block_at t.scope t.most levels inside) (block_at t.scope' t.most' levels inside)
+pub block_guards : (t : Two) (levels : ℕ) (inside : Bool) → BlockGuards t (block_at t.scope t.most levels inside) (λ i. block_at t.scope' (t.most' i) levels inside)
 unfolding block_at after_word
 block_guards t zero inside =
-    word_then_guards kind.OpenBrace (λ u. refl) (omega arith) (omega arith) (λ w. refusing_guards t.left t.left' t.most' (λ at. Limit w.place limit.Depth) rest_pieces Always Any Always (λ at. record { is = tt })) rest_example
+    word_then_guards kind.OpenBrace (λ u. refl) (omega arith) (λ i. omega arith) (λ w. refusing_guards t.left t.left' t.most' (λ at. Limit w.place limit.Depth) rest_pieces Always Any Always (λ at. record { is = tt })) rest_example
 block_guards t (suc levels) inside =
-    after_guards kind.OpenBrace (λ u. refl) (omega arith) (omega arith)
+    after_guards kind.OpenBrace (λ u. refl) (omega arith) (λ i. omega arith)
     (guards_as rest_pieces Always block_of stmts_of block_back block_spelled (λ ss h. tt) (λ b h. all_always (stmts_of b))
       (closed_guards kind.CloseBrace (λ u. refl) (λ rest. (refl, refl))
-        (while_guards has_more goes_on more_test stmts_on t.low t.low' (stmt_guards t levels (block_at t.scope t.most levels) (block_at t.scope' t.most' levels) (λ i. block_guards t levels i) inside))))
+        (while_guards has_more goes_on more_test stmts_on t.low t.low' (stmt_guards t levels (block_at t.scope t.most levels) (λ i. block_at t.scope' (t.most' i) levels) (λ u. block_guards t levels u) inside))))
     rest_example
