@@ -71,13 +71,13 @@ new_exact n d count most what = record {
 
 -- ---- a value
 
-abbrev number_pieces : ValueText → List Piece
+abbrev pub number_pieces : ValueText → List Piece
 number_pieces v = minus_pieces v.negative ++ NumberPiece v.digits ∷ []
 
 abbrev value_number : ValueText → ℤ
 value_number v = (signed v.negative (number_value v.digits, None)).0
 
-abbrev negated : Word → ℤ
+abbrev pub negated : Word → ℤ
 negated w = (signed true (number_value w.text, None)).0
 
 digits_exact : (n : ℕ) (of : List ℕ → ℤ) → Exact n (mapped (λ (w : Word). of w.text) (word_at kind.Number)) (λ t. NumberPiece t ∷ []) Always (Is of) Always
@@ -122,13 +122,13 @@ value_exact n = record {
 
 -- ---- declarations
 
-abbrev with_global : Declared → List ℕ → Option ℤ → Declared
+abbrev pub with_global : Declared → List ℕ → Option ℤ → Declared
 with_global d x v = record { globals = d.globals ++ record { name = x; value = v } ∷ []; locals = d.locals; inits = d.inits; rows = d.rows }
 
-abbrev with_local : Declared → List ℕ → Declared
+abbrev pub with_local : Declared → List ℕ → Declared
 with_local d x = record { globals = d.globals; locals = d.locals ++ x ∷ []; inits = d.inits; rows = d.rows }
 
-abbrev with_inits : Declared → Relation → List Relation → Declared
+abbrev pub with_inits : Declared → Relation → List Relation → Declared
 with_inits d r rs = record { globals = d.globals; locals = d.locals; inits = d.inits ++ r ∷ rs; rows = d.rows }
 
 -- what is declared after an item, its rows not counted
@@ -161,7 +161,7 @@ init_relation n d =
     (λ r h. (h.0, no_init_sign r.sign h.1)) (λ r h. (h.0, every_init_sign r.sign h.1)) (λ r ps y h. h.1)
     (relation_exact n init_sign_of init_signs (Some (names_of d)))
 
-abbrev and_pieces : RelationText → List Piece
+abbrev pub and_pieces : RelationText → List Piece
 and_pieces r = Mark kind.And ∷ relation_pieces r
 
 pub more_is : (rs : List RelationText) → flat_map and_pieces rs ≡ more_relations rs
@@ -182,7 +182,7 @@ relations_go_on d = record {
   some = λ r. omega arith;
 }
 
-relations_join : (rs : List RelationText) (rest : List Piece) → SumEnds ((flat_map and_pieces rs ++ Mark kind.Semicolon ∷ []) ++ rest)
+pub relations_join : (rs : List RelationText) (rest : List Piece) → SumEnds ((flat_map and_pieces rs ++ Mark kind.Semicolon ∷ []) ++ rest)
 relations_join [] rest = (refl, refl)
 relations_join (r ∷ rs) rest = (refl, refl)
 

@@ -14,3 +14,4 @@ pub mod GuardLoops
 pub mod SumGuards
 pub mod CondGuards
 pub mod StmtGuards
+pub mod DeclarationGuards

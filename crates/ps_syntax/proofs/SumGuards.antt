@@ -50,7 +50,7 @@ GuardsIn t read read' spell alike follows = Guards t.left t.left' t.most' read r
 abbrev pub name_piece : List ℕ → List Piece
 name_piece x = NamePiece x ∷ []
 
-abbrev number_piece : List ℕ → List Piece
+abbrev pub number_piece : List ℕ → List Piece
 number_piece d = NumberPiece d ∷ []
 
 known_lets : (o : Option Var) (p : Place) → Lets (ok_or o (UnknownName p)) Always
@@ -94,7 +94,7 @@ variable_guards t = record {
 pub name_example : Example name_piece Always
 name_example = record { text = []; fine = tt; words = record { kind = kind.Name; text = []; place = record { line = 0; column = 0 } } ∷ []; spelled = refl }
 
-number_example : Example number_piece Always
+pub number_example : Example number_piece Always
 number_example = record { text = []; fine = tt; words = record { kind = kind.Number; text = []; place = record { line = 0; column = 0 } } ∷ []; spelled = refl }
 
 digits_guards : (t : Two) → GuardsIn t (mapped (λ (w : Word). number_value w.text) (word_at kind.Number)) (λ i. mapped (λ (w : Word). number_value w.text) (word_at kind.Number)) number_piece Any Always
