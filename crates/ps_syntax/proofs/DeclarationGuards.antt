@@ -119,7 +119,7 @@ local_guards n n' most d =
 pub all_pass : (names : Names) → Widens (Some names) None
 all_pass names x v h = (Global 0, refl)
 
-pub beside : ℕ → Names → Two
+abbrev pub beside : ℕ → Names → Two
 beside n names = record { left = n; left' = λ i. i; most = n; most' = λ i. i; low = omega arith; low' = λ i. omega arith; scope = Some names; scope' = None; widens = all_pass names }
 
 abbrev InitOk : RelationText → Type 0
@@ -129,7 +129,6 @@ abbrev free_init : ℕ → Read Declared
 free_init n = mapped (λ (p : Relation × List Relation). nothing_declared) (both pair_up (after_word kind.Init (relation_at init_sign_of None n)) (ended_at (while_at (next_is kind.And) (after_word kind.And (relation_at init_sign_of None n)) n)))
 
 init_relation_guards : (n : ℕ) (names : Names) → Guards n (λ i. i) (λ i. i) (relation_at init_sign_of (Some names) n) (λ i. relation_at init_sign_of None i) relation_pieces InitOk Any SumEnds
-unfolding beside
 init_relation_guards n names = loosen (relation_guards (beside n names) init_sign_of init_signs refl)
   where
     loosen : Guards n (λ i. i) (λ i. i) (relation_at init_sign_of (Some names) n) (λ i. relation_at init_sign_of None i) relation_pieces InitOk (λ r s. r.sign ≡ s.sign) SumEnds → Guards n (λ i. i) (λ i. i) (relation_at init_sign_of (Some names) n) (λ i. relation_at init_sign_of None i) relation_pieces InitOk Any SumEnds

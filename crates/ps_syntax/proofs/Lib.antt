@@ -15,3 +15,4 @@ pub mod SumGuards
 pub mod CondGuards
 pub mod StmtGuards
 pub mod DeclarationGuards
+pub mod ProgramGuards

@@ -183,7 +183,7 @@ item_again n d at i rest fit h =
     (gets_more _ _ _ ((declaration_exact n (with_rows (d.rows + item_rows n at) d)).again at i rest named.0 h tt) (λ y p.
     (item_said d i (item_rows n at) y.0 rows p.0, p.1)))
 
-abbrev items_pieces : List ItemText → List Piece
+abbrev pub items_pieces : List ItemText → List Piece
 items_pieces is = flat_map item_pieces is
 
 abbrev ItemsSay : Declared → List ItemText → List Place → Declared → Type 0
@@ -207,16 +207,16 @@ items_found n (suc m) d at room =
     })))
     (record { is = record { text = []; taken = takes_none at.words; fit = tt; is = refl } })
 
-abbrev begins_item : List Piece → Bool
+abbrev pub begins_item : List Piece → Bool
 begins_item ps = begins_piece kind.Global ps || begins_piece kind.Local ps || begins_piece kind.Init ps
 
-item_ahead : (n : ℕ) (at : At) (ps : List Piece) → Ahead n at ps → has_item at ≡ begins_item ps
+pub item_ahead : (n : ℕ) (at : At) (ps : List Piece) → Ahead n at ps → has_item at ≡ begins_item ps
 item_ahead n at ps h =
     ap (λ (t : Bool). t || next_is kind.Local at || next_is kind.Init at) (next_ahead kind.Global h)
     ∙ ap (λ (t : Bool). begins_piece kind.Global ps || t || next_is kind.Init at) (next_ahead kind.Local h)
     ∙ ap (λ (t : Bool). begins_piece kind.Global ps || begins_piece kind.Local ps || t) (next_ahead kind.Init h)
 
-item_begins : (i : ItemText) (rest : List Piece) → begins_item (item_pieces i ++ rest) ≡ true
+pub item_begins : (i : ItemText) (rest : List Piece) → begins_item (item_pieces i ++ rest) ≡ true
 item_begins (global x v) rest = refl
 item_begins (local x) rest = refl
 item_begins (init r rs) rest = refl
@@ -238,12 +238,12 @@ items_again n (i ∷ is) (suc m) d at rest le fit h stop =
     gets_more _ _ _ (items_again n is m x.0 x.1 rest (omega (arith, le)) (subst (λ (e : Declared). ItemsFit e is) (sym p.0) fit.1) p.1 stop) (λ y q.
     (q.0 ∙ ap (λ (e : Declared). with_items e is) p.0, q.1))))
 
-item_some : (i : ItemText) → 1 ≤ length (item_pieces i)
+pub item_some : (i : ItemText) → 1 ≤ length (item_pieces i)
 item_some (global x v) = omega arith
 item_some (local x) = omega arith
 item_some (init r rs) = omega arith
 
-few_items : (is : List ItemText) (rest : List Piece) → length is ≤ length (items_pieces is ++ rest)
+pub few_items : (is : List ItemText) (rest : List Piece) → length is ≤ length (items_pieces is ++ rest)
 few_items [] rest = omega arith
 few_items (i ∷ is) rest =
     let h : length is ≤ length (items_pieces is ++ rest) = few_items is rest in
@@ -259,7 +259,7 @@ end_found at = by_words at.words
     by_words [] = record { is = refl }
     by_words (w ∷ ws) = record { is = tt }
 
-end_again : (ws : List Word) → pieces ws ≡ [] → end_from ws ≡ Ok tt
+pub end_again : (ws : List Word) → pieces ws ≡ [] → end_from ws ≡ Ok tt
 end_again [] h = refl
 end_again (w ∷ ws) h = absurd cc
 

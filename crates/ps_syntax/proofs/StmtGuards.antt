@@ -64,7 +64,7 @@ skip_guards t = mapped_guards Any (λ (w : Word). stmt.Skip) (λ x y h. tt) (aft
 abbrev BlockGuards : Two → Read (List Stmt) → (ℕ → Read (List Stmt)) → Type 0
 BlockGuards t block block' = GuardsIn t block block' block_pieces Any Always
 
-block_example : Example block_pieces Always
+pub block_example : Example block_pieces Always
 block_example = record {
   text = block_end; fine = tt; spelled = refl;
   words = record { kind = kind.OpenBrace; text = []; place = record { line = 0; column = 0 } } ∷ record { kind = kind.CloseBrace; text = []; place = record { line = 0; column = 0 } } ∷ [];
