@@ -1,6 +1,6 @@
 -- The laws of statements and blocks.
-use Rattle.std.proofs.Common.{◌≡◌, ℕ, zero, suc, ◌+◌, ◌-◌, ◌≤◌, Bool, true, false, List, [], ◌∷◌, ◌++◌, map, length, drop, Option, Some, None, Result, Ok, Err, refl, sym, ap, subst, ◌∙◌, arith, append_assoc, length-append}
-use Rattle.std.specs.Prelude.{IfOk, not, if◌then◌else◌}
+use Rattle.std.proofs.Common.{◌≡◌, ℕ, zero, suc, ◌-◌, ◌≤◌, Bool, true, false, List, [], ◌∷◌, ◌++◌, length, drop, Some, None, Result, refl, sym, ap, subst, ◌∙◌, arith, append_assoc, length-append}
+use Rattle.std.specs.Prelude.{not}
 use Rattle.std.specs.List.{flat_map, AllByRecursion}
 use Rattle.ps_text.specs.declared.place.Place.{Place}
 use Rattle.ps_text.specs.declared.token_kind.TokenKind.{TokenKind}
@@ -9,16 +9,15 @@ use Rattle.ps_syntax.specs.declared.stmt.Stmt.{Stmt}
 use Rattle.ps_syntax.specs.declared.stmt.StmtKind.{StmtKind}
 use Rattle.ps_syntax.specs.declared.stmt.StmtKind.TheVariants as stmt
 use Rattle.ps_syntax.specs.declared.read_refusal.ReadRefusal.{ReadRefusal}
-use Rattle.ps_syntax.specs.declared.read_refusal.ReadRefusal.TheVariants.{Grammar, LoopInAtomic}
 use Rattle.ps_syntax.specs.Grammar.{StmtText, assign, havoc, assume, assert, skip, atomic, if_then, if_else, while_do, BlockText, block_end, block_more}
-use Rattle.ps_syntax.specs.Words.{Word, At, Read, and_then, ◌>>=◌, is_kind, next_is, place_of_next, place_at, word_at, after_word, while_at}
+use Rattle.ps_syntax.specs.Words.{Word, At, Read, is_kind, next_is, place_of_next, place_at, after_word}
 use Rattle.ps_syntax.specs.Names.{Names}
-use Rattle.ps_syntax.specs.Blocks.{while_stmt_at, kind_at, stmt_at, has_more, block_at, assign_at, havoc_at, cond_stmt_at, skip_at, atomic_at, if_at}
-use Rattle.ps_syntax.specs.Spelling.{Piece, Mark, pieces, test_pieces, stmt_pieces, rest_pieces, block_pieces}
+use Rattle.ps_syntax.specs.Blocks.{while_stmt_at, kind_at, stmt_at, has_more, block_at}
+use Rattle.ps_syntax.specs.Spelling.{Piece, Mark, pieces, stmt_pieces, rest_pieces, block_pieces}
 use Rattle.ps_syntax.specs.Trees.{first_place, stmt_tree, block_trees}
-use Rattle.ps_syntax.specs.Fits.{TestFits, StmtFits, RestFits}
-use Rattle.ps_syntax.proofs.Steps.{places, Takes, takes_then, takes_pieces, Ahead, ahead_so, begins_piece, next_ahead, Not, Always, Finds, Gets, found_bind, found_end, found_if, found_more, gets_bind, gets_end, gets_true, gets_false, gets_more, Spelled, Exact}
-use Rattle.ps_syntax.proofs.Sequences.{mark_found, exact_as, after_exact, closed_exact, ListSays, GoesOn, Ends, while_exact}
+use Rattle.ps_syntax.specs.Fits.{StmtFits, RestFits}
+use Rattle.ps_syntax.proofs.Steps.{places, takes_pieces, Ahead, ahead_so, begins_piece, next_ahead, Not, Finds, Gets, found_bind, found_end, found_if, gets_bind, gets_end, gets_true, gets_false, gets_more, Spelled, Exact}
+use Rattle.ps_syntax.proofs.Sequences.{mark_found, exact_as, after_exact, closed_exact, ListSays, GoesOn, while_exact}
 use Rattle.ps_syntax.proofs.StmtLaws.{BlockFits, BlockIs, BlockExact, assign_exact, havoc_exact, cond_stmt_exact, skip_exact, atomic_exact, while_do_exact, if_exact, IfText, if_of, if_spelled, if_fit, if_said, then_spelled, then_said, else_said, found_as, StmtIs}
 
 -- ---- what a statement begins with

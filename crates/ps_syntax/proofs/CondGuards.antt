@@ -1,29 +1,25 @@
 -- The laws of refusals of conditions and tests.
-use Rattle.std.proofs.Common.{◌≡◌, ℕ, zero, suc, ◌+◌, ◌<◌, ◌≤◌, Bool, true, false, ◌||◌, ◌⊎◌, inl, inr, List, [], ◌∷◌, ◌++◌, map, length, Option, Some, None, Result, Ok, Err, refl, sym, ap, subst, ◌∙◌, arith, append_assoc}
-use Rattle.std.specs.Prelude.{IfOk, if◌then◌else◌}
-use Rattle.std.specs.List.{flat_map, AllByRecursion}
+use Rattle.std.proofs.Common.{◌≡◌, ℕ, zero, suc, Bool, true, false, ◌||◌, ◌⊎◌, inl, inr, List, [], ◌∷◌, ◌++◌, refl, ap, ◌∙◌, arith}
+use Rattle.std.specs.List.{flat_map}
 use Rattle.ps_text.specs.declared.token_kind.TokenKind.{TokenKind}
 use Rattle.ps_text.specs.declared.token_kind.TokenKind.TheVariants as kind
 use Rattle.ps_syntax.specs.declared.cond.Cond.{Cond}
 use Rattle.ps_syntax.specs.declared.cond.Cond.TheVariants as cond
-use Rattle.ps_syntax.specs.declared.cond.Test.{Test}
 use Rattle.ps_syntax.specs.declared.cond.Test.TheVariants as test
 use Rattle.ps_syntax.specs.declared.limit_name.LimitName.TheVariants as limit
-use Rattle.ps_syntax.specs.declared.read_refusal.ReadRefusal.{ReadRefusal}
 use Rattle.ps_syntax.specs.declared.read_refusal.ReadRefusal.TheVariants.{Limit}
-use Rattle.ps_syntax.specs.declared.relation.Relation.{Relation}
-use Rattle.ps_syntax.specs.Grammar.{RelationText, CondText, last_conj, or_else, ConjText, last_unary, and_also, UnaryText, negation, in_parens, relation, TestText, either, condition}
-use Rattle.ps_syntax.specs.Words.{Word, At, Read, and_then, ◌>>=◌, is_kind, next_is, place_at, word_at, after_word, while_at}
+use Rattle.ps_syntax.specs.Grammar.{CondText, last_conj, last_unary, UnaryText, negation, in_parens, relation, TestText, either, condition}
+use Rattle.ps_syntax.specs.Words.{Word, At, Read, next_is, place_at, after_word}
 use Rattle.ps_syntax.specs.Sums.{sign_of, relation_at}
 use Rattle.ps_syntax.specs.Conds.{one_or_all, members_at, conj_with, cond_with, opens_at, unary_at, cond_at, test_at, parens_at}
-use Rattle.ps_syntax.specs.Spelling.{Piece, Mark, pieces, relation_pieces, cond_pieces, conj_pieces, unary_pieces, test_pieces}
-use Rattle.ps_syntax.proofs.Steps.{same_kind, Ahead, ahead_so, begins_piece, next_ahead, Not, Always}
-use Rattle.ps_syntax.proofs.Sequences.{IsMark, mapped, both, closed, GoesOn, Ends}
+use Rattle.ps_syntax.specs.Spelling.{Piece, Mark, relation_pieces, cond_pieces, conj_pieces, unary_pieces, test_pieces}
+use Rattle.ps_syntax.proofs.Steps.{same_kind, Ahead, begins_piece, next_ahead, Always}
+use Rattle.ps_syntax.proofs.Sequences.{IsMark, mapped, GoesOn, Ends}
 use Rattle.ps_syntax.proofs.SumLaws.{SumEnds}
 use Rattle.ps_syntax.proofs.RelationLaws.{all_signs, every_sign, SignIn, relation_begins}
 use Rattle.ps_syntax.proofs.CondLaws.{members_pieces, conj_chain, conj_first, conj_rest, conj_back, conj_spelled, ConjEnds, cond_chain, cond_first, cond_rest, cond_back, cond_spelled, CondEnds, inner_pieces, cond_begins, test_spelled}
-use Rattle.ps_syntax.proofs.Guards.{Lets, IsTest, next_test, Guards, Any, Same, Example, word_guards}
-use Rattle.ps_syntax.proofs.GuardSteps.{guards_same, guards_as, mapped_guards, refusing_guards, both_guards, after_guards, word_then_guards, word_alone, mark_example, closed_guards, example_after, example_closed, OfSort, choice_guards}
+use Rattle.ps_syntax.proofs.Guards.{IsTest, next_test, Any, Example}
+use Rattle.ps_syntax.proofs.GuardSteps.{guards_as, mapped_guards, refusing_guards, both_guards, after_guards, word_then_guards, word_alone, mark_example, closed_guards, example_after, example_closed, OfSort, choice_guards}
 use Rattle.ps_syntax.proofs.GuardLoops.{while_guards}
 use Rattle.ps_syntax.proofs.SumGuards.{Two, GuardsIn, all_always, relation_guards, relation_example}
 

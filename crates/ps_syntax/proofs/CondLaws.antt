@@ -1,6 +1,5 @@
 -- The laws of conditions and tests.
-use Rattle.std.proofs.Common.{◌≡◌, ℕ, zero, suc, ◌-◌, ◌≤◌, Bool, true, false, ◌||◌, List, [], ◌∷◌, ◌++◌, map, length, drop, Option, Some, None, Result, Ok, Err, refl, sym, ap, subst, ◌∙◌, arith, append_assoc}
-use Rattle.std.specs.Prelude.{IfOk, if◌then◌else◌}
+use Rattle.std.proofs.Common.{◌≡◌, ℕ, zero, suc, ◌-◌, Bool, ◌||◌, List, [], ◌∷◌, ◌++◌, map, length, drop, Some, refl, sym, ap, subst, ◌∙◌, arith, append_assoc}
 use Rattle.std.specs.List.{flat_map, AllByRecursion}
 use Rattle.std.proofs.lemmas.List.{append-nil}
 use Rattle.ps_text.specs.declared.place.Place.{Place}
@@ -8,24 +7,19 @@ use Rattle.ps_text.specs.declared.token_kind.TokenKind.{TokenKind}
 use Rattle.ps_text.specs.declared.token_kind.TokenKind.TheVariants as kind
 use Rattle.ps_syntax.specs.declared.cond.Cond.{Cond}
 use Rattle.ps_syntax.specs.declared.cond.Cond.TheVariants as cond
-use Rattle.ps_syntax.specs.declared.cond.Test.{Test}
 use Rattle.ps_syntax.specs.declared.cond.Test.TheVariants as test
-use Rattle.ps_syntax.specs.declared.limit_name.LimitName.TheVariants as limit
-use Rattle.ps_syntax.specs.declared.read_refusal.ReadRefusal.{ReadRefusal}
-use Rattle.ps_syntax.specs.declared.read_refusal.ReadRefusal.TheVariants.{Limit}
-use Rattle.ps_syntax.specs.declared.relation.Relation.{Relation}
-use Rattle.ps_syntax.specs.Grammar.{RelationText, CondText, last_conj, or_else, ConjText, last_unary, and_also, UnaryText, negation, in_parens, relation, TestText, either, condition}
-use Rattle.ps_syntax.specs.Words.{Word, At, Read, and_then, ◌>>=◌, is_kind, next_is, place_at, word_at, after_word, while_at}
+use Rattle.ps_syntax.specs.Grammar.{CondText, last_conj, or_else, ConjText, last_unary, and_also, UnaryText, negation, in_parens, relation, TestText, either, condition}
+use Rattle.ps_syntax.specs.Words.{At, Read, next_is, after_word}
 use Rattle.ps_syntax.specs.Names.{Names}
 use Rattle.ps_syntax.specs.Sums.{sign_of, relation_at}
 use Rattle.ps_syntax.specs.Conds.{one_or_all, members_at, conj_with, cond_with, opens_at, unary_at, cond_at, test_at, parens_at}
 use Rattle.ps_syntax.specs.Spelling.{Piece, Mark, relation_pieces, cond_pieces, conj_pieces, unary_pieces, test_pieces}
 use Rattle.ps_syntax.specs.Trees.{relation_tree, gathered, cond_members, conj_members, unary_tree, cond_tree, test_tree}
-use Rattle.ps_syntax.specs.Fits.{RelationFits, CondFits, ConjFits, UnaryFits, TestFits}
-use Rattle.ps_syntax.proofs.Steps.{places, same_kind, Takes, takes_then, takes_so, Ahead, ahead_so, begins_piece, next_ahead, Not, Always, Finds, Gets, found_bind, found_end, found_if, found_more, gets_bind, gets_end, gets_true, gets_false, gets_more, Spelled, Exact}
-use Rattle.ps_syntax.proofs.Sequences.{IsMark, mark_found, mark_again, exact_as, mapped, mapped_exact, after_exact, both, BothSay, both_exact, closed, closed_exact, ListSays, GoesOn, Ends, while_exact}
+use Rattle.ps_syntax.specs.Fits.{CondFits, ConjFits, UnaryFits, TestFits}
+use Rattle.ps_syntax.proofs.Steps.{same_kind, Ahead, begins_piece, next_ahead, Not, Always, Finds, Gets, found_bind, found_end, found_if, found_more, gets_bind, gets_end, gets_true, gets_false, Spelled, Exact}
+use Rattle.ps_syntax.proofs.Sequences.{IsMark, mark_found, mark_again, exact_as, mapped, mapped_exact, after_exact, both_exact, closed, closed_exact, ListSays, GoesOn, Ends, while_exact}
 use Rattle.ps_syntax.proofs.SumLaws.{SumEnds}
-use Rattle.ps_syntax.proofs.RelationLaws.{all_signs, every_sign, RelationIn, RelationSays, relation_exact, relation_begins}
+use Rattle.ps_syntax.proofs.RelationLaws.{all_signs, every_sign, RelationIn, relation_exact, relation_begins}
 
 -- ---- members with a word between them
 

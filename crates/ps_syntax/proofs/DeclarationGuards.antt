@@ -1,34 +1,30 @@
 -- The laws of refusals of declarations, beside a reading of them that asks nothing of names.
-use Rattle.std.proofs.Common.{◌≡◌, ◌≢◌, ℕ, zero, suc, ◌+◌, ◌<◌, ◌≤◌, ℤ, Bool, true, false, ◌⊎◌, inl, inr, List, [], ◌∷◌, ◌++◌, length, Option, Some, None, Result, Ok, Err, refl, sym, ap, subst, ◌∙◌, arith, append_assoc}
-use Rattle.std.specs.Prelude.{IfOk, nat_lt, nat_le, if◌then◌else◌}
-use Rattle.std.specs.List.{flat_map, All, AllByRecursion}
-use Rattle.std.proofs.lemmas.List.Elements.{All-cons, All-head, All-tail}
-use Rattle.ps_text.specs.declared.place.Place.{Place}
-use Rattle.ps_text.specs.declared.token_kind.TokenKind.{TokenKind}
+use Rattle.std.proofs.Common.{◌≡◌, ◌≢◌, ℕ, suc, ◌+◌, ◌<◌, ℤ, Bool, true, false, ◌⊎◌, inl, inr, List, [], ◌∷◌, ◌++◌, length, Option, Some, None, Err, refl, ap, arith}
+use Rattle.std.specs.Prelude.{nat_lt, nat_le, if◌then◌else◌}
+use Rattle.std.specs.List.{All, AllByRecursion}
+use Rattle.std.proofs.lemmas.List.Elements.{All-head, All-tail}
 use Rattle.ps_text.specs.declared.token_kind.TokenKind.TheVariants as kind
-use Rattle.ps_term.specs.declared.var.Var.{Var}
 use Rattle.ps_term.specs.declared.var.Var.TheVariants.{Global}
 use Rattle.ps_syntax.specs.declared.limit_name.LimitName.{LimitName}
 use Rattle.ps_syntax.specs.declared.limit_name.LimitName.TheVariants as limit
 use Rattle.ps_syntax.specs.declared.relation.Relation.{Relation}
 use Rattle.ps_syntax.specs.declared.relation.Sign.TheVariants as sign
-use Rattle.ps_syntax.specs.declared.read_refusal.ReadRefusal.{ReadRefusal}
 use Rattle.ps_syntax.specs.declared.read_refusal.ReadRefusal.TheVariants.{Limit}
 use Rattle.ps_syntax.specs.Grammar.{RelationText, ValueText, ItemText, global, local, init}
-use Rattle.ps_syntax.specs.Words.{Word, At, Read, and_then, ◌>>=◌, is_kind, next_is, place_at, word_at, after_word, while_at}
-use Rattle.ps_syntax.specs.Names.{Names, variable_of, variable_in}
+use Rattle.ps_syntax.specs.Words.{Word, At, Read, next_is, place_at, word_at, after_word, while_at}
+use Rattle.ps_syntax.specs.Names.{Names, variable_of}
 use Rattle.ps_syntax.specs.Sums.{number_value, init_sign_of, relation_at}
 use Rattle.ps_syntax.specs.Blocks.{ended_at}
 use Rattle.ps_syntax.specs.Items.{Declared, most_globals, most_locals, most_rows, nothing_declared, names_of, is_declared, refused_name, new_name_at, number_at, value_at, global_at, local_at, init_at, item_rows, counted_item_at, with_rows, item_at}
-use Rattle.ps_syntax.specs.Spelling.{Piece, NumberPiece, Mark, pieces, relation_pieces, value_pieces, more_relations, item_pieces}
+use Rattle.ps_syntax.specs.Spelling.{Piece, Mark, relation_pieces, value_pieces, item_pieces}
 use Rattle.ps_syntax.specs.Reads.{HasInitSigns}
-use Rattle.ps_syntax.proofs.Steps.{Ahead, ahead_so, begins_piece, next_ahead, Not, Always, gets_bind, gets_end, gets_more}
-use Rattle.ps_syntax.proofs.Sequences.{mapped, both, GoesOn, Ends}
-use Rattle.ps_syntax.proofs.SumLaws.{SumEnds, all_from, all_to}
+use Rattle.ps_syntax.proofs.Steps.{begins_piece, next_ahead, Not, Always, gets_bind, gets_end, gets_more}
+use Rattle.ps_syntax.proofs.Sequences.{mapped, both, GoesOn}
+use Rattle.ps_syntax.proofs.SumLaws.{SumEnds, all_from}
 use Rattle.ps_syntax.proofs.RelationLaws.{init_signs, every_init_sign, no_init_sign, SignIn}
 use Rattle.ps_syntax.proofs.DeclarationLaws.{number_pieces, negated, with_global, with_local, with_inits, and_pieces, more_is, relations_join}
-use Rattle.ps_syntax.proofs.Guards.{Keeps, refused_bind, lets_bind, lets_end, keeps_bind, keeps_end, keeps_more, IsTest, next_test, Went, Stood, Guards, Any, Same, Example, word_guards}
-use Rattle.ps_syntax.proofs.GuardSteps.{guards_same, guards_as, mapped_guards, mapped_any, paired, pair_up, refusing_guards, nothing_guards, both_guards, after_guards, example_after, example_closed, OfSort, choice_guards}
+use Rattle.ps_syntax.proofs.Guards.{Keeps, refused_bind, lets_bind, lets_end, keeps_bind, keeps_end, keeps_more, next_test, Went, Stood, Guards, Any, Same, Example, word_guards}
+use Rattle.ps_syntax.proofs.GuardSteps.{guards_same, guards_as, mapped_guards, mapped_any, paired, pair_up, nothing_guards, both_guards, after_guards, example_closed, OfSort, choice_guards}
 use Rattle.ps_syntax.proofs.GuardLoops.{while_guards}
 use Rattle.ps_syntax.proofs.SumGuards.{Two, Widens, name_piece, name_example, number_piece, number_example, relation_guards, relation_example}
 use Rattle.ps_syntax.proofs.StmtGuards.{ended_guards}

@@ -1,32 +1,28 @@
 -- The laws of declarations, apart from how many rows hold at the start.
-use Rattle.std.proofs.Common.{◌≡◌, ◌≢◌, ℕ, ◌+◌, ◌<◌, ◌≤◌, ℤ, Bool, true, false, List, [], ◌∷◌, ◌++◌, map, length, drop, Option, Some, None, Result, Ok, Err, refl, sym, ap, subst, ◌∙◌, arith, append_assoc}
-use Rattle.std.specs.Prelude.{IfOk, nat_le, if◌then◌else◌}
-use Rattle.std.specs.List.{flat_map, All, AllByRecursion}
+use Rattle.std.proofs.Common.{◌≡◌, ◌≢◌, ℕ, ◌<◌, ℤ, Bool, true, false, List, [], ◌∷◌, ◌++◌, map, length, drop, Option, Some, None, Ok, refl, sym, ap, subst, ◌∙◌, arith}
+use Rattle.std.specs.Prelude.{nat_le}
+use Rattle.std.specs.List.{flat_map, All}
 use Rattle.std.proofs.lemmas.Bool.{leb-false, lt-leb}
 use Rattle.std.proofs.lemmas.List.Elements.{All-cons, All-head, All-tail}
 use Rattle.ps_text.specs.declared.place.Place.{Place}
-use Rattle.ps_text.specs.declared.token_kind.TokenKind.{TokenKind}
 use Rattle.ps_text.specs.declared.token_kind.TokenKind.TheVariants as kind
 use Rattle.ps_term.specs.declared.var.Var.{Var}
-use Rattle.ps_syntax.specs.declared.global_decl.GlobalDecl.{GlobalDecl}
 use Rattle.ps_syntax.specs.declared.limit_name.LimitName.{LimitName}
 use Rattle.ps_syntax.specs.declared.limit_name.LimitName.TheVariants as limit
 use Rattle.ps_syntax.specs.declared.relation.Relation.{Relation}
 use Rattle.ps_syntax.specs.declared.relation.Sign.TheVariants as sign
-use Rattle.ps_syntax.specs.declared.read_refusal.ReadRefusal.{ReadRefusal}
 use Rattle.ps_syntax.specs.Grammar.{RelationText, ValueText, ItemText, global, local, init}
-use Rattle.ps_syntax.specs.Words.{Word, At, Read, and_then, ◌>>=◌, is_kind, next_is, word_at, after_word, while_at}
+use Rattle.ps_syntax.specs.Words.{Word, At, next_is, word_at, after_word}
 use Rattle.ps_syntax.specs.Names.{Names, variable_of}
 use Rattle.ps_syntax.specs.Sums.{number_value, signed, init_sign_of, relation_at}
-use Rattle.ps_syntax.specs.Blocks.{ended_at}
 use Rattle.ps_syntax.specs.Items.{Declared, most_globals, most_locals, names_of, is_declared, refused_name, new_name_at, number_at, value_at, global_at, local_at, init_at, counted_item_at, with_rows}
 use Rattle.ps_syntax.specs.Spelling.{Piece, NamePiece, NumberPiece, Mark, minus_pieces, relation_pieces, value_pieces, more_relations, item_pieces}
 use Rattle.ps_syntax.specs.Trees.{relation_tree, value_of, with_item}
 use Rattle.ps_syntax.specs.Fits.{RelationFits, IsNew}
-use Rattle.ps_syntax.proofs.Steps.{places, Takes, takes_none, takes_then, takes_so, Ahead, ahead_so, begins_piece, next_ahead, Not, Always, Finds, Gets, found_bind, found_end, found_if, found_more, gets_bind, gets_end, gets_true, gets_false, gets_more, Spelled, Exact}
-use Rattle.ps_syntax.proofs.Sequences.{word_exact, exact_as, mapped, mapped_exact, after_exact, both, BothSay, both_exact, ListSays, GoesOn, Ends, while_exact}
+use Rattle.ps_syntax.proofs.Steps.{places, Takes, takes_none, takes_so, Ahead, begins_piece, next_ahead, Not, Always, Finds, Gets, found_bind, found_end, found_if, found_more, gets_bind, gets_end, gets_true, gets_false, Spelled, Exact}
+use Rattle.ps_syntax.proofs.Sequences.{word_exact, exact_as, mapped, mapped_exact, after_exact, both_exact, ListSays, GoesOn, while_exact}
 use Rattle.ps_syntax.proofs.SumLaws.{SumEnds, all_from, all_to}
-use Rattle.ps_syntax.proofs.RelationLaws.{init_signs, every_init_sign, no_init_sign, RelationIn, RelationSays, relation_exact}
+use Rattle.ps_syntax.proofs.RelationLaws.{init_signs, every_init_sign, no_init_sign, relation_exact}
 use Rattle.ps_syntax.proofs.CondLaws.{Is}
 use Rattle.ps_syntax.proofs.StmtLaws.{ended_exact, found_as}
 

@@ -1,17 +1,16 @@
 -- The laws of refusals of what is read as long as it goes on.
-use Rattle.std.proofs.Common.{◌≡◌, ℕ, zero, suc, ◌+◌, ◌-◌, ◌<◌, ◌≤◌, Bool, true, false, List, [], ◌∷◌, ◌++◌, length, Result, Ok, Err, refl, sym, ap, subst, ◌∙◌, arith, append_assoc, length-append}
-use Rattle.std.specs.Prelude.{IfOk, if◌then◌else◌}
+use Rattle.std.proofs.Common.{◌≡◌, ℕ, zero, suc, ◌-◌, ◌<◌, ◌≤◌, Bool, true, false, List, [], ◌∷◌, ◌++◌, length, Result, Ok, refl, sym, ap, subst, ◌∙◌, arith, append_assoc}
+use Rattle.std.specs.Prelude.{if◌then◌else◌}
 use Rattle.std.specs.List.{flat_map, AllByRecursion}
-use Rattle.std.proofs.lemmas.Bool.{cond-false}
-use Rattle.std.proofs.lemmas.List.{append-nil, length-map}
+use Rattle.std.proofs.lemmas.List.{append-nil}
 use Rattle.ps_text.specs.declared.place.Place.{Place}
 use Rattle.ps_syntax.specs.declared.read_refusal.ReadRefusal.{ReadRefusal}
-use Rattle.ps_syntax.specs.Words.{Word, At, Read, and_then, ◌>>=◌, place_of_next, while_at}
-use Rattle.ps_syntax.specs.Spelling.{Piece, piece_of_kind, pieces}
+use Rattle.ps_syntax.specs.Words.{Word, At, Read, ◌>>=◌, place_of_next, while_at}
+use Rattle.ps_syntax.specs.Spelling.{Piece, pieces}
 use Rattle.ps_syntax.specs.Reads.{BeginAlike}
-use Rattle.ps_syntax.proofs.Steps.{Ahead, ahead_so, Always, Gets, gets_bind, gets_end, gets_true, gets_false, gets_more}
+use Rattle.ps_syntax.proofs.Steps.{Ahead, ahead_so, Gets, gets_bind, gets_end, gets_true, gets_false}
 use Rattle.ps_syntax.proofs.Sequences.{GoesOn, Ends, few}
-use Rattle.ps_syntax.proofs.Guards.{Refused, Lets, Keeps, refused_bind, refused_after, refused_true, refused_false, lets_bind, lets_end, lets_true, lets_false, keeps_bind, keeps_end, keeps_more, alike_after, IsTest, Went, Stood, Guards, Any, pieces_are, room_left}
+use Rattle.ps_syntax.proofs.Guards.{Refused, Lets, Keeps, refused_bind, refused_after, refused_true, lets_bind, lets_end, lets_true, lets_false, keeps_bind, keeps_end, alike_after, IsTest, Went, Stood, Guards, Any, pieces_are, room_left}
 use Rattle.ps_syntax.proofs.GuardSteps.{alike_two}
 
 -- one turn

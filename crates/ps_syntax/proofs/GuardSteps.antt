@@ -1,19 +1,16 @@
 -- The laws of refusals of what is read of several steps.
-use Rattle.std.proofs.Common.{◌≡◌, ℕ, zero, suc, ◌+◌, ◌-◌, ◌<◌, ◌≤◌, Bool, true, false, ◌⊎◌, inl, inr, List, [], ◌∷◌, ◌++◌, length, Result, Ok, Err, refl, sym, ap, subst, ◌∙◌, arith, append_assoc, length-append}
-use Rattle.std.specs.Prelude.{IfOk, if◌then◌else◌}
-use Rattle.std.specs.List.{flat_map, AllByRecursion}
-use Rattle.std.proofs.lemmas.Bool.{cond-false}
-use Rattle.std.proofs.lemmas.List.{append-nil}
+use Rattle.std.proofs.Common.{◌≡◌, ℕ, suc, ◌+◌, ◌<◌, ◌≤◌, Bool, true, false, ◌⊎◌, inl, inr, List, [], ◌∷◌, ◌++◌, length, Result, Ok, Err, refl, sym, ap, subst, ◌∙◌, arith, append_assoc}
+use Rattle.std.specs.Prelude.{if◌then◌else◌}
 use Rattle.ps_text.specs.declared.place.Place.{Place}
 use Rattle.ps_text.specs.declared.token_kind.TokenKind.{TokenKind}
 use Rattle.ps_syntax.specs.declared.read_refusal.ReadRefusal.{ReadRefusal}
 use Rattle.ps_syntax.specs.declared.read_refusal.ReadRefusal.TheVariants.{Grammar}
-use Rattle.ps_syntax.specs.Words.{Word, At, Read, and_then, ◌>>=◌, next_is, place_of_next, place_at, word_at, after_word, while_at}
-use Rattle.ps_syntax.specs.Spelling.{Piece, Mark, piece_of_kind, pieces}
+use Rattle.ps_syntax.specs.Words.{Word, At, Read, and_then, ◌>>=◌, next_is, place_of_next, place_at, word_at, after_word}
+use Rattle.ps_syntax.specs.Spelling.{Piece, Mark, pieces}
 use Rattle.ps_syntax.specs.Reads.{BeginAlike}
-use Rattle.ps_syntax.proofs.Steps.{Ahead, ahead_so, begins_piece, next_ahead, Always, Gets, gets_bind, gets_end, gets_true, gets_false, gets_more}
-use Rattle.ps_syntax.proofs.Sequences.{mapped, both, closed, IsMark, GoesOn, Ends, few}
-use Rattle.ps_syntax.proofs.Guards.{IsGrammar, Refused, Lets, Keeps, refused_bind, refused_after, refused_true, refused_false, lets_bind, lets_end, lets_true, lets_false, lets_gets, keeps_bind, keeps_end, keeps_more, alike_itself, alike_after, IsTest, next_test, Went, Stood, Guards, Any, Same, Example, pieces_both, pieces_are, room_left, piece_list, word_guards}
+use Rattle.ps_syntax.proofs.Steps.{Ahead, ahead_so, begins_piece, next_ahead, Always, Gets, gets_bind, gets_end, gets_true, gets_false}
+use Rattle.ps_syntax.proofs.Sequences.{mapped, both, closed, IsMark}
+use Rattle.ps_syntax.proofs.Guards.{Refused, Lets, Keeps, refused_bind, refused_after, refused_true, refused_false, lets_bind, lets_end, lets_true, lets_false, keeps_bind, keeps_end, keeps_more, alike_after, IsTest, next_test, Went, Stood, Guards, Any, Same, Example, pieces_are, room_left, word_guards}
 
 -- ---- the same function, and the same texts otherwise
 

@@ -1,19 +1,18 @@
 -- The laws of refusals, in steps. What is read of a text of the grammar isn't a fault of the grammar; and where there is
 -- one, it rests on the words before its place and the next one alone, and the words before it go on as some text.
-use Rattle.std.proofs.Common.{◌≡◌, ℕ, zero, suc, ◌+◌, ◌<◌, ◌≤◌, Bool, true, false, List, [], ◌∷◌, ◌++◌, map, length, drop, Result, Ok, Err, refl, sym, ap, subst, ◌∙◌, arith, append_assoc, length-append}
-use Rattle.std.specs.Prelude.{IfOk, if◌then◌else◌}
-use Rattle.std.specs.List.{flat_map, AllByRecursion}
+use Rattle.std.proofs.Common.{◌≡◌, ℕ, ◌+◌, ◌<◌, ◌≤◌, Bool, true, false, List, [], ◌∷◌, ◌++◌, length, Result, Ok, Err, refl, sym, ap, subst, ◌∙◌, arith, length-append}
+use Rattle.std.specs.Prelude.{if◌then◌else◌}
 use Rattle.std.proofs.lemmas.Bool.{cond-true, cond-false}
-use Rattle.std.proofs.lemmas.List.{map-append, append-nil, length-map}
+use Rattle.std.proofs.lemmas.List.{map-append, length-map}
 use Rattle.ps_text.specs.declared.place.Place.{Place}
 use Rattle.ps_text.specs.declared.token_kind.TokenKind.{TokenKind}
 use Rattle.ps_syntax.specs.declared.read_refusal.ReadRefusal.{ReadRefusal}
 use Rattle.ps_syntax.specs.declared.read_refusal.ReadRefusal.TheVariants.{Grammar}
-use Rattle.ps_syntax.specs.Words.{Word, At, Read, and_then, ◌>>=◌, is_kind, begins_with, next_is, place_of_next, word_from, word_at, after_word, while_at}
-use Rattle.ps_syntax.specs.Spelling.{Piece, Mark, piece_of_kind, pieces}
+use Rattle.ps_syntax.specs.Words.{Word, At, Read, and_then, ◌>>=◌, is_kind, begins_with, next_is, place_of_next, word_from, word_at}
+use Rattle.ps_syntax.specs.Spelling.{Piece, piece_of_kind, pieces}
 use Rattle.ps_syntax.specs.Reads.{BeginAlike}
-use Rattle.ps_syntax.proofs.Steps.{one_kind, kind_of, kind_of_piece, Ahead, ahead_so, begins_piece, Always, Gets, gets_bind, gets_end, gets_true, gets_false, gets_more}
-use Rattle.ps_syntax.proofs.Sequences.{word_exact, mapped, both, closed, IsMark}
+use Rattle.ps_syntax.proofs.Steps.{one_kind, kind_of, kind_of_piece, Ahead, Always, Gets, gets_end, gets_true}
+use Rattle.ps_syntax.proofs.Sequences.{word_exact}
 
 -- ---- faults of the grammar
 

@@ -1,27 +1,26 @@
 -- The law of refusals of whole programs: a fault of the grammar stands at the first word that no text of it goes on with.
-use Rattle.std.proofs.Common.{◌≡◌, ◌≢◌, ℕ, zero, suc, ◌+◌, ◌-◌, ◌<◌, ◌≤◌, Bool, true, false, ◌||◌, List, [], ◌∷◌, ◌++◌, length, Option, Some, None, Result, Ok, Err, refl, sym, ap, subst, ◌∙◌, arith, append_assoc, length-append}
-use Rattle.std.specs.Prelude.{IfOk, if◌then◌else◌}
-use Rattle.std.specs.List.{flat_map, All, AllByRecursion}
+use Rattle.std.proofs.Common.{◌≡◌, ℕ, zero, suc, ◌-◌, ◌<◌, ◌≤◌, Bool, true, false, ◌||◌, List, [], ◌∷◌, ◌++◌, length, Some, None, Result, Ok, Err, refl, sym, ap, subst, ◌∙◌, arith, append_assoc}
+use Rattle.std.specs.Prelude.{if◌then◌else◌}
+use Rattle.std.specs.List.{AllByRecursion}
 use Rattle.std.proofs.lemmas.Bool.{cond-true, cond-false}
 use Rattle.std.proofs.lemmas.List.{append-nil, length-map}
 use Rattle.ps_text.specs.declared.place.Place.{Place}
-use Rattle.ps_text.specs.declared.token_kind.TokenKind.{TokenKind}
 use Rattle.ps_text.specs.declared.token_kind.TokenKind.TheVariants as kind
 use Rattle.ps_syntax.specs.declared.program.Program.{Program}
 use Rattle.ps_syntax.specs.declared.stmt.Stmt.{Stmt}
 use Rattle.ps_syntax.specs.declared.read_refusal.ReadRefusal.{ReadRefusal}
 use Rattle.ps_syntax.specs.declared.read_refusal.ReadRefusal.TheVariants.{Grammar}
-use Rattle.ps_syntax.specs.Grammar.{ItemText, global, local, init, BlockText, block_end, ProgramText}
-use Rattle.ps_syntax.specs.Words.{Word, At, Read, and_then, ◌>>=◌, next_is, place_of_next, word_at, after_word, end_from, end_at}
+use Rattle.ps_syntax.specs.Grammar.{ItemText, BlockText, ProgramText}
+use Rattle.ps_syntax.specs.Words.{Word, At, Read, ◌>>=◌, next_is, place_of_next, after_word, end_from, end_at}
 use Rattle.ps_syntax.specs.Names.{Names}
 use Rattle.ps_syntax.specs.Blocks.{block_at}
 use Rattle.ps_syntax.specs.Items.{Declared, most_levels, nothing_declared, names_of, item_at, has_item, items_at, program_at, program_of}
 use Rattle.ps_syntax.specs.Spelling.{Piece, Mark, piece_of_kind, pieces, item_pieces, block_pieces, program_pieces}
 use Rattle.ps_syntax.specs.Reads.{HasInitSigns, IsText, BeginAlike, IsFirstFault}
-use Rattle.ps_syntax.proofs.Steps.{Ahead, ahead_so, begins_piece, Always, Gets, gets_bind, gets_end}
+use Rattle.ps_syntax.proofs.Steps.{Ahead, ahead_so, Always, Gets, gets_bind}
 use Rattle.ps_syntax.proofs.SumLaws.{all_from, all_to}
 use Rattle.ps_syntax.proofs.ProgramLaws.{items_pieces, begins_item, item_ahead, item_begins, few_items, item_some, end_again}
-use Rattle.ps_syntax.proofs.Guards.{IsGrammar, Refused, Lets, Keeps, refused_bind, refused_after, refused_true, refused_false, lets_bind, lets_end, lets_true, lets_false, keeps_bind, keeps_end, keeps_more, alike_after, IsTest, next_test, Went, Stood, Guards, Any, Example, pieces_are, room_left}
+use Rattle.ps_syntax.proofs.Guards.{Refused, Lets, Keeps, refused_bind, refused_after, lets_bind, lets_end, lets_true, lets_false, keeps_bind, keeps_end, keeps_more, alike_after, IsTest, next_test, Went, Stood, Guards, Any, Example, pieces_are, room_left}
 use Rattle.ps_syntax.proofs.GuardSteps.{after_guards, alike_two, example_after}
 use Rattle.ps_syntax.proofs.StmtGuards.{block_guards, block_example}
 use Rattle.ps_syntax.proofs.DeclarationGuards.{beside, free_item, item_guards}

@@ -1,5 +1,5 @@
 -- The laws of items with their rows, and of whole programs: a text is read as a program exactly where it is one.
-use Rattle.std.proofs.Common.{◌≡◌, ◌≢◌, ℕ, zero, suc, ◌+◌, ◌-◌, ◌<◌, ◌≤◌, ℤ, Bool, true, false, ◌||◌, List, [], ◌∷◌, ◌++◌, map, length, drop, Option, Some, None, Result, Ok, Err, refl, sym, ap, subst, ◌∙◌, arith, append_assoc, length-append}
+use Rattle.std.proofs.Common.{◌≡◌, ◌≢◌, ℕ, zero, suc, ◌+◌, ◌-◌, ◌≤◌, Bool, true, false, ◌||◌, List, [], ◌∷◌, ◌++◌, length, drop, Some, None, Result, Ok, Err, refl, sym, ap, subst, ◌∙◌, arith, append_assoc, length-append}
 use Rattle.std.specs.Prelude.{IfOk, nat_lt, if◌then◌else◌}
 use Rattle.std.specs.List.{flat_map, All, AllByRecursion}
 use Rattle.std.proofs.lemmas.Bool.{ltb-false, le-ltb, cond-true, cond-false}
@@ -10,28 +10,26 @@ use Rattle.ps_text.specs.declared.token_kind.TokenKind.{TokenKind}
 use Rattle.ps_text.specs.declared.token_kind.TokenKind.TheVariants as kind
 use Rattle.ps_syntax.specs.declared.limit_name.LimitName.TheVariants as limit
 use Rattle.ps_syntax.specs.declared.program.Program.{Program}
-use Rattle.ps_syntax.specs.declared.relation.Relation.{Relation}
-use Rattle.ps_syntax.specs.declared.relation.Sign.{Sign}
 use Rattle.ps_syntax.specs.declared.relation.Sign.TheVariants as sign
 use Rattle.ps_syntax.specs.declared.stmt.Stmt.{Stmt}
 use Rattle.ps_syntax.specs.declared.read_refusal.ReadRefusal.{ReadRefusal}
-use Rattle.ps_syntax.specs.declared.read_refusal.ReadRefusal.TheVariants.{Grammar, Limit}
-use Rattle.ps_syntax.specs.Grammar.{RelationText, ValueText, ItemText, global, local, init, BlockText, ProgramText}
-use Rattle.ps_syntax.specs.Words.{Word, At, Read, and_then, ◌>>=◌, is_kind, begins_with, next_is, place_at, word_from, word_at, after_word, end_from, end_at}
+use Rattle.ps_syntax.specs.declared.read_refusal.ReadRefusal.TheVariants.{Limit}
+use Rattle.ps_syntax.specs.Grammar.{RelationText, ItemText, global, local, init, BlockText, ProgramText}
+use Rattle.ps_syntax.specs.Words.{Word, At, begins_with, next_is, place_at, word_from, word_at, after_word, end_from, end_at}
 use Rattle.ps_syntax.specs.Names.{Names}
-use Rattle.ps_syntax.specs.Sums.{init_sign_of, relation_at}
+use Rattle.ps_syntax.specs.Sums.{init_sign_of}
 use Rattle.ps_syntax.specs.Blocks.{block_at}
-use Rattle.ps_syntax.specs.Items.{Declared, most_rows, most_levels, nothing_declared, names_of, value_at, rows_of_sign, counted, rows_from, rows_of_value, item_rows, counted_item_at, with_rows, item_at, has_item, items_at, program_at, program_of}
+use Rattle.ps_syntax.specs.Items.{Declared, most_rows, most_levels, nothing_declared, names_of, rows_of_sign, counted, rows_from, rows_of_value, item_rows, counted_item_at, with_rows, item_at, has_item, items_at, program_at, program_of}
 use Rattle.ps_syntax.specs.Spelling.{Piece, NamePiece, Mark, piece_of_kind, pieces, relation_pieces, value_pieces, more_relations, item_pieces, block_pieces, program_pieces}
 use Rattle.ps_syntax.specs.Trees.{block_trees, value_of, rows_of_relations, with_item, with_items, program_tree}
 use Rattle.ps_syntax.specs.Fits.{RelationFits, RestFits, ItemFits, ItemsFit, ProgramFits}
 use Rattle.ps_syntax.specs.Reads.{IsProgramText}
-use Rattle.ps_syntax.proofs.Steps.{places, Takes, takes_none, takes_then, takes_so, takes_pieces, takes_places, Ahead, ahead_so, begins_piece, next_ahead, Not, Always, Finds, Gets, found_bind, found_end, found_if, found_more, gets_bind, gets_end, gets_true, gets_false, gets_more, gets_found, Spelled, Exact}
-use Rattle.ps_syntax.proofs.Sequences.{word_exact, mark_found, mark_again, after_exact, exact_again, left_places}
+use Rattle.ps_syntax.proofs.Steps.{places, Takes, takes_none, takes_then, takes_pieces, takes_places, Ahead, ahead_so, begins_piece, next_ahead, Not, Always, Finds, Gets, found_bind, found_end, found_if, found_more, gets_bind, gets_end, gets_true, gets_false, gets_more, gets_found, Spelled, Exact}
+use Rattle.ps_syntax.proofs.Sequences.{word_exact, mark_again, after_exact, left_places}
 use Rattle.ps_syntax.proofs.SumLaws.{SumEnds}
-use Rattle.ps_syntax.proofs.RelationLaws.{init_signs, every_init_sign, RelationSays, relation_exact}
+use Rattle.ps_syntax.proofs.RelationLaws.{init_signs, every_init_sign, relation_exact}
 use Rattle.ps_syntax.proofs.BlockLaws.{block_exact}
-use Rattle.ps_syntax.proofs.DeclarationLaws.{value_exact, Declares, DeclaredFits, declaration_exact}
+use Rattle.ps_syntax.proofs.DeclarationLaws.{value_exact, DeclaredFits, declaration_exact}
 
 -- ---- the rows of an item
 

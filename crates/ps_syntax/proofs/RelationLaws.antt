@@ -1,25 +1,24 @@
 -- The laws of signs and relations.
-use Rattle.std.proofs.Common.{◌≡◌, ◌≢◌, ℕ, ◌≤◌, Bool, true, false, List, [], ◌∷◌, ◌++◌, Option, Some, None, Result, Ok, Err, refl, sym, ap, subst, ◌∙◌, arith, append_assoc}
-use Rattle.std.specs.Prelude.{IfOk, ok_or}
+use Rattle.std.proofs.Common.{◌≡◌, ◌≢◌, ℕ, ◌≤◌, Bool, true, false, List, [], ◌∷◌, ◌++◌, Option, Some, None, refl, sym, ap, subst, ◌∙◌, arith, append_assoc}
+use Rattle.std.specs.Prelude.{ok_or}
 use Rattle.ps_text.specs.declared.place.Place.{Place}
 use Rattle.ps_text.specs.declared.token_kind.TokenKind.{TokenKind}
 use Rattle.ps_text.specs.declared.token_kind.TokenKind.TheVariants as kind
-use Rattle.ps_syntax.specs.declared.read_refusal.ReadRefusal.{ReadRefusal}
 use Rattle.ps_syntax.specs.declared.read_refusal.ReadRefusal.TheVariants.{Grammar}
 use Rattle.ps_syntax.specs.declared.relation.Relation.{Relation}
 use Rattle.ps_syntax.specs.declared.relation.Sign.{Sign}
 use Rattle.ps_syntax.specs.declared.relation.Sign.TheVariants as sign
 use Rattle.ps_syntax.specs.declared.sum.Sum.{Sum}
-use Rattle.ps_syntax.specs.Grammar.{SumText, RelationText}
-use Rattle.ps_syntax.specs.Words.{Word, At, Read, and_then, ◌>>=◌, is_kind}
+use Rattle.ps_syntax.specs.Grammar.{RelationText}
+use Rattle.ps_syntax.specs.Words.{Word, is_kind}
 use Rattle.ps_syntax.specs.Names.{Names}
-use Rattle.ps_syntax.specs.Sums.{sum_at, sign_of, init_sign_of, sign_from, sign_at, relation_at}
+use Rattle.ps_syntax.specs.Sums.{sign_of, init_sign_of, sign_from, sign_at, relation_at}
 use Rattle.ps_syntax.specs.Spelling.{Piece, Mark, piece_of_kind, pieces, minus_pieces, product_pieces, further_pieces, sum_pieces, sign_kind, relation_pieces}
 use Rattle.ps_syntax.specs.Trees.{sum_tree, relation_tree}
 use Rattle.ps_syntax.specs.Fits.{SumFits, RelationFits}
-use Rattle.ps_syntax.proofs.Steps.{places, kind_of, kind_of_piece, Takes, takes_then, takes_so, Ahead, ahead_so, Not, Always, Finds, Gets, found_bind, found_end, found_more, gets_bind, gets_end, gets_more, Spelled, Exact}
+use Rattle.ps_syntax.proofs.Steps.{places, kind_of, kind_of_piece, takes_then, ahead_so, Not, Always, Finds, Gets, found_bind, found_end, gets_bind, gets_end, gets_more, Spelled, Exact}
 use Rattle.ps_syntax.proofs.Scopes.{FitsIn, Says, fits_both, fits_first, fits_second, says_two}
-use Rattle.ps_syntax.proofs.SumLaws.{SumIn, SumSays, SumEnds, sum_exact, product_begins}
+use Rattle.ps_syntax.proofs.SumLaws.{SumSays, SumEnds, sum_exact, product_begins}
 
 -- ---- signs
 

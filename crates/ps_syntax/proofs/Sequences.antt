@@ -1,15 +1,14 @@
 -- The laws of what is read of several steps: a word, one after the other, as long as it goes on, and read as another text.
-use Rattle.std.proofs.Common.{◌≡◌, ℕ, zero, suc, ◌+◌, ◌≤◌, Bool, true, false, List, [], ◌∷◌, ◌++◌, map, length, drop, Result, Ok, Err, refl, sym, ap, subst, ◌∙◌, arith, append_assoc, length-append}
+use Rattle.std.proofs.Common.{◌≡◌, ℕ, zero, suc, ◌+◌, ◌≤◌, Bool, true, false, List, [], ◌∷◌, ◌++◌, length, drop, Ok, Err, refl, sym, ap, subst, ◌∙◌, arith, append_assoc, length-append}
 use Rattle.std.proofs.lemmas.Bool.{cond-false}
-use Rattle.std.specs.Prelude.{IfOk, if◌then◌else◌}
+use Rattle.std.specs.Prelude.{if◌then◌else◌}
 use Rattle.std.specs.List.{flat_map, AllByRecursion}
 use Rattle.ps_text.specs.declared.place.Place.{Place}
 use Rattle.ps_text.specs.declared.token_kind.TokenKind.{TokenKind}
-use Rattle.ps_syntax.specs.declared.read_refusal.ReadRefusal.{ReadRefusal}
 use Rattle.ps_syntax.specs.declared.read_refusal.ReadRefusal.TheVariants.{Grammar}
-use Rattle.ps_syntax.specs.Words.{Word, At, Read, and_then, ◌>>=◌, is_kind, word_from, word_at, after_word, while_at}
-use Rattle.ps_syntax.specs.Spelling.{Piece, NamePiece, NumberPiece, Mark, piece_of_kind, pieces}
-use Rattle.ps_syntax.proofs.Steps.{one_kind, same_kind, kind_of, text_of, kind_of_piece, places, Takes, takes_none, takes_then, takes_so, takes_pieces, takes_places, Ahead, ahead_so, Always, Finds, Gets, found_bind, found_end, found_if, found_more, gets_bind, gets_end, gets_true, gets_false, gets_more, gets_found, Spelled, Exact}
+use Rattle.ps_syntax.specs.Words.{Word, At, Read, ◌>>=◌, is_kind, word_from, word_at, after_word, while_at}
+use Rattle.ps_syntax.specs.Spelling.{Piece, Mark, piece_of_kind, pieces}
+use Rattle.ps_syntax.proofs.Steps.{one_kind, same_kind, kind_of, text_of, kind_of_piece, places, Takes, takes_none, takes_then, takes_so, takes_pieces, takes_places, Ahead, ahead_so, Always, Finds, Gets, found_bind, found_end, found_if, found_more, gets_bind, gets_end, gets_true, gets_more, gets_found, Spelled, Exact}
 
 -- ---- a word
 

@@ -1,8 +1,6 @@
 -- The laws of refusals of statements and blocks.
-use Rattle.std.proofs.Common.{◌≡◌, ℕ, zero, suc, ◌+◌, ◌<◌, ◌≤◌, Bool, true, false, ◌⊎◌, inl, inr, List, [], ◌∷◌, ◌++◌, length, Option, Some, None, Result, Ok, Err, refl, sym, ap, subst, ◌∙◌, arith, append_assoc}
-use Rattle.std.specs.Prelude.{IfOk, not, if◌then◌else◌}
-use Rattle.std.specs.List.{flat_map, AllByRecursion}
-use Rattle.ps_text.specs.declared.place.Place.{Place}
+use Rattle.std.proofs.Common.{ℕ, zero, suc, ◌≤◌, Bool, true, false, ◌⊎◌, inl, inr, List, [], ◌∷◌, ◌++◌, Option, Some, None, refl, sym, ap, arith}
+use Rattle.std.specs.Prelude.{not}
 use Rattle.ps_text.specs.declared.token_kind.TokenKind.{TokenKind}
 use Rattle.ps_text.specs.declared.token_kind.TokenKind.TheVariants as kind
 use Rattle.ps_syntax.specs.declared.cond.Cond.{Cond}
@@ -10,24 +8,20 @@ use Rattle.ps_syntax.specs.declared.limit_name.LimitName.TheVariants as limit
 use Rattle.ps_syntax.specs.declared.stmt.Stmt.{Stmt}
 use Rattle.ps_syntax.specs.declared.stmt.StmtKind.{StmtKind}
 use Rattle.ps_syntax.specs.declared.stmt.StmtKind.TheVariants as stmt
-use Rattle.ps_syntax.specs.declared.read_refusal.ReadRefusal.{ReadRefusal}
-use Rattle.ps_syntax.specs.declared.read_refusal.ReadRefusal.TheVariants.{Grammar, Limit, LoopInAtomic}
-use Rattle.ps_syntax.specs.Grammar.{SumText, CondText, TestText, StmtText, assign, havoc, assume, assert, skip, atomic, if_then, if_else, while_do, BlockText, block_end, block_more}
-use Rattle.ps_syntax.specs.Words.{Word, At, Read, and_then, ◌>>=◌, is_kind, next_is, place_at, word_at, after_word, while_at}
-use Rattle.ps_syntax.specs.Names.{variable_at}
-use Rattle.ps_syntax.specs.Sums.{sum_at}
-use Rattle.ps_syntax.specs.Conds.{cond_at, parens_at}
+use Rattle.ps_syntax.specs.declared.read_refusal.ReadRefusal.TheVariants.{Limit, LoopInAtomic}
+use Rattle.ps_syntax.specs.Grammar.{SumText, TestText, StmtText, assign, havoc, assume, assert, skip, atomic, if_then, if_else, while_do, BlockText, block_end}
+use Rattle.ps_syntax.specs.Words.{Word, Read, next_is, place_at, after_word}
+use Rattle.ps_syntax.specs.Conds.{parens_at}
 use Rattle.ps_syntax.specs.Blocks.{ended_at, assign_at, havoc_at, cond_stmt_at, skip_at, atomic_at, else_at, if_at, while_stmt_at, kind_at, stmt_at, has_more, block_at}
-use Rattle.ps_syntax.specs.Spelling.{Piece, NamePiece, Mark, pieces, sum_pieces, cond_pieces, test_pieces, stmt_pieces, rest_pieces, block_pieces}
-use Rattle.ps_syntax.proofs.Steps.{Ahead, ahead_so, begins_piece, next_ahead, Not, Always}
-use Rattle.ps_syntax.proofs.Sequences.{IsMark, mapped, both, closed, GoesOn, Ends}
-use Rattle.ps_syntax.proofs.CondLaws.{CondEnds}
-use Rattle.ps_syntax.proofs.StmtLaws.{else_pieces, IfText, if_pieces, if_of, if_spelled, if_is, then_spelled}
+use Rattle.ps_syntax.specs.Spelling.{Piece, Mark, cond_pieces, test_pieces, stmt_pieces, rest_pieces, block_pieces}
+use Rattle.ps_syntax.proofs.Steps.{begins_piece, next_ahead, Not, Always}
+use Rattle.ps_syntax.proofs.Sequences.{IsMark, GoesOn}
+use Rattle.ps_syntax.proofs.StmtLaws.{else_pieces, if_pieces, if_of, if_spelled, if_is, then_spelled}
 use Rattle.ps_syntax.proofs.BlockLaws.{stmt_begins, stmt_some, block_of, stmts_of, block_back, block_spelled, goes_on}
-use Rattle.ps_syntax.proofs.Guards.{Lets, IsTest, next_test, Guards, Any, Same, Example, pieces_are, word_guards}
-use Rattle.ps_syntax.proofs.GuardSteps.{guards_same, guards_as, mapped_guards, placed_guards, refusing_guards, nothing_guards, both_guards, three, three_is, pair_up, of_pair, after_guards, word_then_guards, word_alone, mark_example, closed_guards, example_after, example_closed, OfSort, choice_guards, last_guards}
+use Rattle.ps_syntax.proofs.Guards.{IsTest, next_test, Guards, Any, Example, pieces_are}
+use Rattle.ps_syntax.proofs.GuardSteps.{guards_same, guards_as, mapped_guards, placed_guards, refusing_guards, nothing_guards, both_guards, three_is, pair_up, of_pair, after_guards, word_then_guards, word_alone, mark_example, closed_guards, example_after, example_closed, OfSort, choice_guards, last_guards}
 use Rattle.ps_syntax.proofs.GuardLoops.{while_guards}
-use Rattle.ps_syntax.proofs.SumGuards.{Two, GuardsIn, all_always, name_piece, name_example, variable_guards, sum_guards, sum_example}
+use Rattle.ps_syntax.proofs.SumGuards.{Two, GuardsIn, all_always, name_example, variable_guards, sum_guards, sum_example}
 use Rattle.ps_syntax.proofs.CondGuards.{cond_guards, cond_example, parens_guards, test_example}
 
 -- ---- simple statements

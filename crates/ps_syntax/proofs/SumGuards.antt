@@ -1,6 +1,6 @@
 -- The laws of refusals of sums and relations, in two scopes of which the second lets more names pass.
-use Rattle.std.proofs.Common.{◌≡◌, ℕ, zero, suc, ◌+◌, ◌<◌, ◌≤◌, ℤ, pos, Bool, true, false, ◌||◌, ◌⊎◌, inl, inr, List, [], ◌∷◌, ◌++◌, map, length, Option, Some, None, Result, Ok, Err, refl, sym, ap, subst, ◌∙◌, arith, append_assoc}
-use Rattle.std.specs.Prelude.{IfOk, ok_or, if◌then◌else◌}
+use Rattle.std.proofs.Common.{◌≡◌, ℕ, ◌≤◌, ℤ, pos, Bool, true, false, ◌||◌, ◌⊎◌, inl, inr, List, [], ◌∷◌, ◌++◌, Option, Some, None, Result, Ok, refl, sym, ap, subst, ◌∙◌, arith, append_assoc}
+use Rattle.std.specs.Prelude.{ok_or, if◌then◌else◌}
 use Rattle.std.specs.List.{flat_map, AllByRecursion}
 use Rattle.ps_text.specs.declared.place.Place.{Place}
 use Rattle.ps_text.specs.declared.token_kind.TokenKind.{TokenKind}
@@ -12,18 +12,18 @@ use Rattle.ps_syntax.specs.declared.relation.Relation.{Relation}
 use Rattle.ps_syntax.specs.declared.relation.Sign.{Sign}
 use Rattle.ps_syntax.specs.declared.relation.Sign.TheVariants as sign
 use Rattle.ps_syntax.specs.declared.sum.Sum.{Sum}
-use Rattle.ps_syntax.specs.Grammar.{ProductText, number, name, number_name, name_number, SumText, RelationText}
-use Rattle.ps_syntax.specs.Words.{Word, At, Read, and_then, ◌>>=◌, is_kind, next_is, place_of_next, place_at, word_at, after_word, while_at}
+use Rattle.ps_syntax.specs.Grammar.{ProductText, number, name, number_name, name_number, SumText}
+use Rattle.ps_syntax.specs.Words.{Word, At, Read, ◌>>=◌, next_is, place_at, word_at, after_word}
 use Rattle.ps_syntax.specs.Names.{Names, variable_in, variable_at}
 use Rattle.ps_syntax.specs.Sums.{number_value, factor_at, number_product_at, name_product_at, product_at, signed, first_product_at, further_product_at, adds, sum_at, sign_from, sign_at, relation_at}
-use Rattle.ps_syntax.specs.Spelling.{Piece, NamePiece, NumberPiece, Mark, piece_of_kind, pieces, product_pieces, minus_pieces, sum_pieces, sign_kind, relation_pieces}
+use Rattle.ps_syntax.specs.Spelling.{Piece, NamePiece, NumberPiece, Mark, piece_of_kind, product_pieces, minus_pieces, sum_pieces, relation_pieces}
 use Rattle.ps_syntax.specs.Reads.{BeginAlike}
-use Rattle.ps_syntax.proofs.Steps.{same_kind, kind_of, kind_of_piece, Ahead, ahead_so, begins_piece, next_ahead, Not, Always, Gets, gets_bind, gets_end, gets_true, gets_false, gets_more}
-use Rattle.ps_syntax.proofs.Sequences.{IsMark, mapped, both, GoesOn, Ends}
+use Rattle.ps_syntax.proofs.Steps.{same_kind, kind_of, kind_of_piece, begins_piece, next_ahead, Not, Always, Gets, gets_bind, gets_end}
+use Rattle.ps_syntax.proofs.Sequences.{IsMark, mapped, both, GoesOn}
 use Rattle.ps_syntax.proofs.SumLaws.{SumEnds, SignedText, first_pieces, further_piece, begins_adding, adding, not_star, further_joins, sum_of, parts_of, make_sum, further_is, product_begins}
-use Rattle.ps_syntax.proofs.RelationLaws.{AreSigns, SignIn, sign_piece, sign_mark, sign_exact, sign_ends, make_relation}
-use Rattle.ps_syntax.proofs.Guards.{Refused, Lets, Keeps, refused_bind, lets_bind, lets_end, lets_gets, keeps_bind, keeps_end, keeps_more, alike_after, IsTest, next_test, Went, Stood, Guards, Any, Same, Example, pieces_are, word_guards}
-use Rattle.ps_syntax.proofs.GuardSteps.{guards_same, guards_as, mapped_guards, refusing_guards, nothing_guards, both_guards, three, three_is, pair_up, of_pair, bind_same, bind_bind, bind_end, after_guards, OfSort, choice_guards}
+use Rattle.ps_syntax.proofs.RelationLaws.{AreSigns, SignIn, sign_piece, sign_mark, sign_exact, sign_ends}
+use Rattle.ps_syntax.proofs.Guards.{Refused, Lets, Keeps, refused_bind, lets_bind, lets_end, lets_gets, keeps_bind, keeps_end, IsTest, next_test, Went, Stood, Guards, Any, Same, Example, pieces_are, word_guards}
+use Rattle.ps_syntax.proofs.GuardSteps.{guards_same, guards_as, mapped_guards, refusing_guards, nothing_guards, both_guards, three_is, pair_up, of_pair, bind_same, bind_bind, bind_end, after_guards, OfSort, choice_guards}
 use Rattle.ps_syntax.proofs.GuardLoops.{while_guards}
 
 -- what passes in one scope passes in the other

@@ -1,28 +1,22 @@
 -- The laws of sums and relations.
-use Rattle.std.proofs.Common.{◌≡◌, ◌≢◌, ℕ, ℤ, pos, Bool, true, false, ◌||◌, List, [], ◌∷◌, ◌++◌, map, length, drop, Option, Some, None, Result, Ok, Err, refl, sym, ap, subst, ◌∙◌, arith, append_assoc}
-use Rattle.std.specs.Prelude.{IfOk, ok_or, if◌then◌else◌}
+use Rattle.std.proofs.Common.{◌≡◌, ℕ, ℤ, pos, Bool, true, false, ◌||◌, List, [], ◌∷◌, ◌++◌, map, Option, Some, None, refl, sym, ap, subst, ◌∙◌, arith, append_assoc}
 use Rattle.std.specs.List.{flat_map, All, AllByRecursion}
 use Rattle.std.proofs.lemmas.List.Elements.{All-nil, All-cons, All-head, All-tail}
 use Rattle.ps_text.specs.declared.place.Place.{Place}
 use Rattle.ps_text.specs.declared.token_kind.TokenKind.{TokenKind}
 use Rattle.ps_text.specs.declared.token_kind.TokenKind.TheVariants as kind
 use Rattle.ps_term.specs.declared.var.Var.{Var}
-use Rattle.ps_syntax.specs.declared.read_refusal.ReadRefusal.{ReadRefusal}
-use Rattle.ps_syntax.specs.declared.read_refusal.ReadRefusal.TheVariants.{Grammar, NotLinear}
-use Rattle.ps_syntax.specs.declared.relation.Relation.{Relation}
-use Rattle.ps_syntax.specs.declared.relation.Sign.{Sign}
-use Rattle.ps_syntax.specs.declared.relation.Sign.TheVariants as sign
 use Rattle.ps_syntax.specs.declared.sum.Sum.{Sum}
-use Rattle.ps_syntax.specs.Grammar.{ProductText, number, name, number_name, name_number, SumText, RelationText}
-use Rattle.ps_syntax.specs.Words.{Word, At, Read, and_then, ◌>>=◌, is_kind, next_is, place_at, word_at, after_word, while_at}
-use Rattle.ps_syntax.specs.Names.{Names, variable_at}
-use Rattle.ps_syntax.specs.Sums.{number_value, factor_at, number_product_at, name_product_at, product_at, signed, first_product_at, further_product_at, adds, sum_at, sign_of, init_sign_of, sign_from, sign_at, relation_at}
-use Rattle.ps_syntax.specs.Spelling.{Piece, NamePiece, NumberPiece, Mark, piece_of_kind, product_pieces, minus_pieces, plus_or_minus, further_pieces, sum_pieces, sign_kind, relation_pieces}
-use Rattle.ps_syntax.specs.Trees.{variable_named, product_tree, sum_tree, relation_tree}
-use Rattle.ps_syntax.specs.Fits.{ProductFits, SumFits, RelationFits}
-use Rattle.ps_syntax.proofs.Steps.{places, kind_of, Takes, takes_then, takes_so, Ahead, ahead_so, begins_piece, next_ahead, Not, Always, Finds, Gets, found_bind, found_end, found_if, found_more, gets_bind, gets_end, gets_true, gets_false, gets_more, Spelled, Exact}
-use Rattle.ps_syntax.proofs.Sequences.{word_exact, exact_as, mapped, mapped_exact, after_exact, both, BothSay, both_exact, ListSays, GoesOn, Ends, while_exact}
-use Rattle.ps_syntax.proofs.Scopes.{FitsIn, Says, fits_both, fits_first, fits_second, fits_as, fits_all, fits_each, says_const, says_of, says_two, KnownIn, VariableSays, variable_exact}
+use Rattle.ps_syntax.specs.Grammar.{ProductText, number, name, number_name, name_number, SumText}
+use Rattle.ps_syntax.specs.Words.{At, is_kind, next_is, after_word}
+use Rattle.ps_syntax.specs.Names.{Names}
+use Rattle.ps_syntax.specs.Sums.{number_value, factor_at, number_product_at, name_product_at, product_at, signed, first_product_at, further_product_at, adds, sum_at}
+use Rattle.ps_syntax.specs.Spelling.{Piece, NamePiece, NumberPiece, Mark, product_pieces, minus_pieces, plus_or_minus, further_pieces, sum_pieces}
+use Rattle.ps_syntax.specs.Trees.{variable_named, product_tree, sum_tree}
+use Rattle.ps_syntax.specs.Fits.{ProductFits, SumFits}
+use Rattle.ps_syntax.proofs.Steps.{places, Takes, takes_then, takes_so, Ahead, begins_piece, next_ahead, Not, Always, Finds, Gets, found_bind, found_end, found_if, found_more, gets_bind, gets_end, gets_true, gets_false, Spelled, Exact}
+use Rattle.ps_syntax.proofs.Sequences.{word_exact, exact_as, mapped, mapped_exact, after_exact, both_exact, ListSays, GoesOn, Ends, while_exact}
+use Rattle.ps_syntax.proofs.Scopes.{FitsIn, Says, fits_both, fits_first, fits_second, fits_as, fits_all, fits_each, says_const, says_of, says_two, KnownIn, variable_exact}
 
 -- ---- products
 
