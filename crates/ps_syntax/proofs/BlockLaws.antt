@@ -18,6 +18,7 @@ use Rattle.ps_syntax.specs.Trees.{first_place, stmt_tree, block_trees}
 use Rattle.ps_syntax.specs.Fits.{StmtFits, RestFits}
 use Rattle.ps_syntax.proofs.Steps.{places, takes_pieces, Ahead, ahead_so, begins_piece, next_ahead, Not, Finds, Gets, found_bind, found_end, found_if, gets_bind, gets_end, gets_true, gets_false, gets_more, Spelled, Exact}
 use Rattle.ps_syntax.proofs.Sequences.{mark_found, exact_as, after_exact, closed_exact, ListSays, GoesOn, while_exact}
+use Rattle.ps_syntax.proofs.CondLaws.{one_less}
 use Rattle.ps_syntax.proofs.StmtLaws.{BlockFits, BlockIs, BlockExact, assign_exact, havoc_exact, cond_stmt_exact, skip_exact, atomic_exact, while_do_exact, if_exact, IfText, if_of, if_spelled, if_fit, if_said, then_spelled, then_said, else_said, found_as, StmtIs}
 
 -- ---- what a statement begins with
@@ -208,16 +209,13 @@ block_said names (s ∷ ss) ps (y ∷ ys) h = ap (λ (z : Stmt). z ∷ ys) h.0 �
 abbrev pub goes_on : List Piece → Bool
 goes_on ps = not (begins_piece kind.CloseBrace ps)
 
-stmts_go_on : (names : Names) (levels : ℕ) (inside : Bool) → GoesOn has_more goes_on stmt_pieces (StmtFits names levels inside) (Not kind.Else)
-stmts_go_on names levels inside = record {
+pub stmts_go_on : GoesOn has_more goes_on stmt_pieces (Not kind.Else)
+stmts_go_on = record {
   same = λ n at ps h. ap not (next_ahead kind.CloseBrace h);
   starts = λ s rest. ap not (stmt_begins kind.CloseBrace refl refl refl refl refl refl refl refl s rest);
   joins = λ s rest. stmt_begins kind.Else refl refl refl refl refl refl refl refl s rest;
   some = stmt_some;
 }
-
-pred : (levels : ℕ) → suc levels - 1 ≡ levels
-pred levels = omega arith
 
 pub block_exact : (n : ℕ) (names : Names) (levels : ℕ) (inside : Bool) → BlockExact n names levels inside (block_at (Some names) n levels inside)
 unfolding block_at after_word
@@ -228,8 +226,8 @@ block_exact n names zero inside = record {
 block_exact n names (suc levels) inside =
     exact_as block_pieces (BlockFits names (suc levels) inside) (BlockIs names) block_of stmts_of block_back
     (λ ss. ap (λ (ps : List Piece). Mark kind.OpenBrace ∷ ps) (block_spelled ss))
-    (λ ss h. (omega arith, subst (λ (l : ℕ). RestFits names l inside (block_of ss)) (sym (pred levels)) (block_fit names levels inside ss h)))
-    (λ b h. block_unfit names levels inside b (subst (λ (l : ℕ). RestFits names l inside b) (pred levels) h.1))
+    (λ ss h. (omega arith, subst (λ (l : ℕ). RestFits names l inside (block_of ss)) (sym (one_less levels)) (block_fit names levels inside ss h)))
+    (λ b h. block_unfit names levels inside b (subst (λ (l : ℕ). RestFits names l inside b) (one_less levels) h.1))
     (λ ss ps y h. block_said names ss (drop 1 ps) y h)
     (after_exact kind.OpenBrace (λ t. refl) (closed_exact kind.CloseBrace (λ t. refl) (λ rest. (refl, refl))
-      (while_exact has_more goes_on (stmts_go_on names levels inside) (stmt_exact n names levels (block_at (Some names) n levels) (λ t. block_exact n names levels t) inside))))
+      (while_exact has_more goes_on stmts_go_on (stmt_exact n names levels (block_at (Some names) n levels) (λ t. block_exact n names levels t) inside))))

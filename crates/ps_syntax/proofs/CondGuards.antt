@@ -17,7 +17,7 @@ use Rattle.ps_syntax.proofs.Steps.{same_kind, Ahead, begins_piece, next_ahead, A
 use Rattle.ps_syntax.proofs.Sequences.{IsMark, mapped, GoesOn, Ends}
 use Rattle.ps_syntax.proofs.SumLaws.{SumEnds}
 use Rattle.ps_syntax.proofs.RelationLaws.{all_signs, every_sign, SignIn, relation_begins}
-use Rattle.ps_syntax.proofs.CondLaws.{members_pieces, conj_chain, conj_first, conj_rest, conj_back, conj_spelled, ConjEnds, cond_chain, cond_first, cond_rest, cond_back, cond_spelled, CondEnds, inner_pieces, cond_begins, test_spelled}
+use Rattle.ps_syntax.proofs.CondLaws.{members_go_on, members_pieces, conj_chain, conj_first, conj_rest, conj_back, conj_spelled, ConjEnds, cond_chain, cond_first, cond_rest, cond_back, cond_spelled, CondEnds, inner_pieces, cond_begins, test_spelled}
 use Rattle.ps_syntax.proofs.Guards.{IsTest, next_test, Any, Example}
 use Rattle.ps_syntax.proofs.GuardSteps.{guards_as, mapped_guards, refusing_guards, both_guards, after_guards, word_then_guards, word_alone, mark_example, closed_guards, example_after, example_closed, OfSort, choice_guards}
 use Rattle.ps_syntax.proofs.GuardLoops.{while_guards}
@@ -31,16 +31,8 @@ unfolding members_at
 members_guards {C = C} t read read' spell follows all between marked joins example g =
     guards_as (members_pieces between spell) Always (λ c. c) (λ c. c) (λ c. refl) (λ c. refl) (λ c h. tt) (λ c h. (tt, all_always c.1))
     (both_guards Any (one_or_all all) (λ x y z w a b. tt) g (λ c. omega arith) (λ i c. omega arith)
-      (while_guards (next_is between) (begins_piece between) (next_test between) on t.low t.low' (after_guards between marked (omega arith) (λ i. omega arith) g example)) (record { text = []; fine = tt; words = []; spelled = refl }) next)
+      (while_guards (next_is between) (begins_piece between) (next_test between) (members_go_on between spell follows joins) t.low t.low' (after_guards between marked (omega arith) (λ i. omega arith) g example)) (record { text = []; fine = tt; words = []; spelled = refl }) next)
   where
-    on : GoesOn (next_is between) (begins_piece between) (λ (d : C). Mark between ∷ spell d) Always follows
-    on = record {
-      same = λ m at ps h. next_ahead between h;
-      starts = λ c rest. same_kind between between refl;
-      joins = λ c rest. joins (spell c ++ rest);
-      some = λ c. omega arith;
-    }
-
     next : (ds : List C) (rest : List Piece) → Ends (begins_piece between) follows rest → follows (flat_map (λ d. Mark between ∷ spell d) ds ++ rest)
     next [] rest stop = stop.1
     next (d ∷ ds) rest stop = joins _

@@ -41,6 +41,15 @@ listed spell tree [] ps (y ∷ ys) h = absurd h
 listed spell tree (c ∷ cs) ps [] h = absurd h
 listed {A = A} spell tree (c ∷ cs) ps (y ∷ ys) h = ap (λ (z : A). z ∷ ys) h.0 ∙ ap (λ (zs : List A). tree c ∷ zs) (listed spell tree cs (drop (length (spell c)) ps) ys h.1)
 
+-- a word between goes on
+pub members_go_on : {C : Type 0} (between : TokenKind) (spell : C → List Piece) (follows : List Piece → Type 0) → ((rest : List Piece) → follows (Mark between ∷ rest)) → GoesOn (next_is between) (begins_piece between) (λ (d : C). Mark between ∷ spell d) follows
+members_go_on between spell follows joins = record {
+  same = λ m at ps h. next_ahead between h;
+  starts = λ c rest. same_kind between between refl;
+  joins = λ c rest. joins (spell c ++ rest);
+  some = λ c. omega arith;
+}
+
 members_exact : {C : Type 0} (n : ℕ) (read : Read Cond) (spell : C → List Piece) (fits : C → Type 0) (tree : C → Cond) (follows : List Piece → Type 0) (all : List Cond → Cond) (between : TokenKind)
     → IsMark between → ((rest : List Piece) → follows (Mark between ∷ rest)) → Exact n read spell fits (Is tree) follows
     → Exact n (members_at all between read n) (members_pieces between spell) (MembersFit fits) (Is (members_tree all tree)) (Ends (begins_piece between) follows)
@@ -48,16 +57,8 @@ unfolding members_at
 members_exact {C = C} n read spell fits tree follows all between marked joins exact =
     exact_as (members_pieces between spell) (MembersFit fits) (Is (members_tree all tree)) (λ c. c) (λ c. c) (λ c. refl) (λ c. refl) (λ c h. h) (λ c h. h)
     (λ c ps y h. h.is ∙ ap (λ (z : Cond). one_or_all all z h.second) h.said_first ∙ ap (one_or_all all (tree c.0)) (listed (λ d. Mark between ∷ spell d) tree c.1 _ h.second h.said_second))
-    (both_exact (one_or_all all) exact (while_exact (next_is between) (begins_piece between) on (after_exact between marked exact)) next)
+    (both_exact (one_or_all all) exact (while_exact (next_is between) (begins_piece between) (members_go_on between spell follows joins) (after_exact between marked exact)) next)
   where
-    on : GoesOn (next_is between) (begins_piece between) (λ (d : C). Mark between ∷ spell d) fits follows
-    on = record {
-      same = λ m at ps h. next_ahead between h;
-      starts = λ c rest. same_kind between between refl;
-      joins = λ c rest. joins (spell c ++ rest);
-      some = λ c. omega arith;
-    }
-
     next : (ds : List C) (rest : List Piece) → AllByRecursion fits ds → Ends (begins_piece between) follows rest → follows (flat_map (λ d. Mark between ∷ spell d) ds ++ rest)
     next [] rest fit stop = stop.1
     next (d ∷ ds) rest fit stop = joins _
@@ -175,8 +176,8 @@ cond_with_exact n names levels unary exact =
 
 -- ---- levels
 
-pred : (levels : ℕ) → suc levels - 1 ≡ levels
-pred levels = omega arith
+pub one_less : (levels : ℕ) → suc levels - 1 ≡ levels
+one_less levels = omega arith
 
 rel_exact : (n : ℕ) (names : Names) → Exact n (mapped cond.Rel (relation_at sign_of (Some names) n)) relation_pieces (RelationIn sign_of (Some names)) (Is (λ r. cond.Rel (relation_tree names r))) SumEnds
 rel_exact n names = mapped_exact _ cond.Rel (λ r ps y h. ap cond.Rel h.1) (relation_exact n sign_of all_signs (Some names))
@@ -195,11 +196,11 @@ unfolding unary_at
 unary_found n names levels exact at =
     found_if (next_is kind.Not at) _ _ _
     (found_more _ _ _ ((not_exact n names levels (unary_at (Some names) n levels) exact).found at) (λ y p. record {
-      text = negation p.text; taken = p.taken; fit = (omega arith, subst (λ (l : ℕ). UnaryFits names l p.text) (sym (pred levels)) p.fit); is = p.is;
+      text = negation p.text; taken = p.taken; fit = (omega arith, subst (λ (l : ℕ). UnaryFits names l p.text) (sym (one_less levels)) p.fit); is = p.is;
     }))
     (found_if (next_is kind.OpenParen at) _ _ _
     (found_more _ _ _ ((in_parens_exact n names levels (unary_at (Some names) n levels) exact).found at) (λ y p. record {
-      text = in_parens p.text; taken = p.taken; fit = (omega arith, subst (λ (l : ℕ). CondFits names l p.text) (sym (pred levels)) p.fit); is = p.is;
+      text = in_parens p.text; taken = p.taken; fit = (omega arith, subst (λ (l : ℕ). CondFits names l p.text) (sym (one_less levels)) p.fit); is = p.is;
     }))
     (rel_found n names (suc levels) at))
 
@@ -207,11 +208,11 @@ unary_again : (n : ℕ) (names : Names) (levels : ℕ) → UnaryExact n names le
 unfolding unary_at
 unary_again n names levels exact at (negation u) rest fit h stop =
     gets_true (next_is kind.Not at) _ _ _ (next_ahead kind.Not h)
-    ((not_exact n names levels (unary_at (Some names) n levels) exact).again at u rest (subst (λ (l : ℕ). UnaryFits names l u) (pred levels) fit.1) h stop)
+    ((not_exact n names levels (unary_at (Some names) n levels) exact).again at u rest (subst (λ (l : ℕ). UnaryFits names l u) (one_less levels) fit.1) h stop)
 unary_again n names levels exact at (in_parens c) rest fit h stop =
     gets_false (next_is kind.Not at) _ _ _ (next_ahead kind.Not h)
     (gets_true (next_is kind.OpenParen at) _ _ _ (next_ahead kind.OpenParen h)
-    ((in_parens_exact n names levels (unary_at (Some names) n levels) exact).again at c rest (subst (λ (l : ℕ). CondFits names l c) (pred levels) fit.1) h tt))
+    ((in_parens_exact n names levels (unary_at (Some names) n levels) exact).again at c rest (subst (λ (l : ℕ). CondFits names l c) (one_less levels) fit.1) h tt))
 unary_again n names levels exact at (relation r) rest fit h stop =
     gets_false (next_is kind.Not at) _ _ _ (next_ahead kind.Not h ∙ relation_begins kind.Not refl refl refl r rest)
     (gets_false (next_is kind.OpenParen at) _ _ _ (next_ahead kind.OpenParen h ∙ relation_begins kind.OpenParen refl refl refl r rest)
@@ -290,11 +291,11 @@ test_spelled (condition c) = refl
 
 test_fit : (names : Names) (levels : ℕ) (t : TestText) → InnerFits names levels t → TestFits names (suc levels) t
 test_fit names levels either h = omega arith
-test_fit names levels (condition c) h = (omega arith, subst (λ (l : ℕ). CondFits names l c) (sym (pred levels)) h)
+test_fit names levels (condition c) h = (omega arith, subst (λ (l : ℕ). CondFits names l c) (sym (one_less levels)) h)
 
 test_unfit : (names : Names) (levels : ℕ) (t : TestText) → TestFits names (suc levels) t → InnerFits names levels t
 test_unfit names levels either h = tt
-test_unfit names levels (condition c) h = subst (λ (l : ℕ). CondFits names l c) (pred levels) h.1
+test_unfit names levels (condition c) h = subst (λ (l : ℕ). CondFits names l c) (one_less levels) h.1
 
 no_test : (names : Names) (t : TestText) → TestFits names zero t → ⊥
 no_test names either h = omega (arith, h)

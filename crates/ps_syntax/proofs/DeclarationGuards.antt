@@ -20,13 +20,14 @@ use Rattle.ps_syntax.specs.Spelling.{Piece, Mark, relation_pieces, value_pieces,
 use Rattle.ps_syntax.specs.Reads.{HasInitSigns}
 use Rattle.ps_syntax.proofs.Steps.{begins_piece, next_ahead, Not, Always, gets_bind, gets_end, gets_more}
 use Rattle.ps_syntax.proofs.Sequences.{mapped, both, GoesOn}
-use Rattle.ps_syntax.proofs.SumLaws.{SumEnds, all_from}
+use Rattle.ps_syntax.proofs.SumLaws.{number_piece, SumEnds, all_from}
 use Rattle.ps_syntax.proofs.RelationLaws.{init_signs, every_init_sign, no_init_sign, SignIn}
-use Rattle.ps_syntax.proofs.DeclarationLaws.{number_pieces, negated, with_global, with_local, with_inits, and_pieces, more_is, relations_join}
+use Rattle.ps_syntax.proofs.DeclarationLaws.{relations_go_on, number_pieces, negated, with_global, with_local, with_inits, and_pieces, more_is, relations_join}
 use Rattle.ps_syntax.proofs.Guards.{Keeps, refused_bind, lets_bind, lets_end, keeps_bind, keeps_end, keeps_more, next_test, Went, Stood, Guards, Any, Same, Example, word_guards}
 use Rattle.ps_syntax.proofs.GuardSteps.{guards_same, guards_as, mapped_guards, mapped_any, paired, pair_up, nothing_guards, both_guards, after_guards, example_closed, OfSort, choice_guards}
 use Rattle.ps_syntax.proofs.GuardLoops.{while_guards}
-use Rattle.ps_syntax.proofs.SumGuards.{Two, Widens, name_piece, name_example, number_piece, number_example, relation_guards, relation_example}
+use Rattle.ps_syntax.proofs.SumGuards.{Two, Widens, name_example, number_example, relation_guards, relation_example}
+use Rattle.ps_syntax.proofs.Scopes.{name_piece}
 use Rattle.ps_syntax.proofs.StmtGuards.{ended_guards}
 
 -- ---- names
@@ -138,14 +139,6 @@ init_relation_guards n names = loosen (relation_guards (beside n names) init_sig
 init_example : Example relation_pieces InitOk
 init_example = relation_example init_sign_of refl
 
-init_on : GoesOn (next_is kind.And) (begins_piece kind.And) and_pieces InitOk SumEnds
-init_on = record {
-  same = λ n at ps h. next_ahead kind.And h;
-  starts = λ r rest. refl;
-  joins = λ r rest. (refl, refl);
-  some = λ r. omega arith;
-}
-
 abbrev IsInitSign : RelationText → Type 0
 IsInitSign s = s.sign ≢ sign.NotEqual
 
@@ -160,7 +153,7 @@ init_guards n d =
     (mapped_any (λ (p : Relation × List Relation). with_inits d p.0 p.1) (λ (p : Relation × List Relation). nothing_declared)
       (both_guards {m = n} {m' = λ i. i} Any pair_up (λ x y z w a b. tt) (after_guards {m = n} {m' = λ i. i} kind.Init (λ u. refl) (omega arith) (λ i. omega arith) (init_relation_guards n (names_of d)) init_example)
         (λ c. omega arith) (λ i c. omega arith)
-        (ended_guards (λ rest. (refl, (refl, refl))) (while_guards (next_is kind.And) (begins_piece kind.And) (next_test kind.And) init_on (omega arith) (λ i. omega arith) (after_guards {m = n} {m' = λ i. i} kind.And (λ u. refl) (omega arith) (λ i. omega arith) (init_relation_guards n (names_of d)) init_example)))
+        (ended_guards (λ rest. (refl, (refl, refl))) (while_guards (next_is kind.And) (begins_piece kind.And) (next_test kind.And) relations_go_on (omega arith) (λ i. omega arith) (after_guards {m = n} {m' = λ i. i} kind.And (λ u. refl) (omega arith) (λ i. omega arith) (init_relation_guards n (names_of d)) init_example)))
         (record { text = []; fine = tt; words = record { kind = kind.Semicolon; text = []; place = record { line = 0; column = 0 } } ∷ []; spelled = refl })
         (λ rs rest h. relations_join rs rest))))
   where

@@ -21,15 +21,13 @@ use Rattle.ps_syntax.specs.Trees.{relation_tree, value_of, with_item}
 use Rattle.ps_syntax.specs.Fits.{RelationFits, IsNew}
 use Rattle.ps_syntax.proofs.Steps.{places, Takes, takes_none, takes_so, Ahead, begins_piece, next_ahead, Not, Always, Finds, Gets, found_bind, found_end, found_if, found_more, gets_bind, gets_end, gets_true, gets_false, Spelled, Exact}
 use Rattle.ps_syntax.proofs.Sequences.{word_exact, exact_as, mapped, mapped_exact, after_exact, both_exact, ListSays, GoesOn, while_exact}
+use Rattle.ps_syntax.proofs.Scopes.{name_piece}
 use Rattle.ps_syntax.proofs.SumLaws.{SumEnds, all_from, all_to}
 use Rattle.ps_syntax.proofs.RelationLaws.{init_signs, every_init_sign, no_init_sign, relation_exact}
 use Rattle.ps_syntax.proofs.CondLaws.{Is}
 use Rattle.ps_syntax.proofs.StmtLaws.{ended_exact, found_as}
 
 -- ---- a new name
-
-abbrev name_piece : List ℕ → List Piece
-name_piece x = NamePiece x ∷ []
 
 abbrev NewFits : Declared → ℕ → ℕ → List ℕ → Type 0
 NewFits d count most x = IsNew d x × (count < most)
@@ -170,8 +168,8 @@ relations_said names [] ps (y ∷ ys) h = absurd h
 relations_said names (r ∷ rs) ps [] h = absurd h
 relations_said names (r ∷ rs) ps (y ∷ ys) h = ap (λ (z : Relation). z ∷ ys) h.0 ∙ ap (λ (zs : List Relation). relation_tree names r ∷ zs) (relations_said names rs (drop (length (and_pieces r)) ps) ys h.1)
 
-relations_go_on : (d : Declared) → GoesOn (next_is kind.And) (begins_piece kind.And) and_pieces (InitFits d) SumEnds
-relations_go_on d = record {
+pub relations_go_on : GoesOn (next_is kind.And) (begins_piece kind.And) and_pieces SumEnds
+relations_go_on = record {
   same = λ n at ps h. next_ahead kind.And h;
   starts = λ r rest. refl;
   joins = λ r rest. (refl, refl);
@@ -191,7 +189,7 @@ init_exact n d =
     (λ c h. (All-head (InitFits d) c.0 c.1 h, all_to (InitFits d) c.1 (All-tail (InitFits d) c.0 c.1 h)))
     (λ c ps y h. h.is ∙ ap (λ (r : Relation). with_inits d r h.second) h.said_first ∙ ap (with_inits d (relation_tree (names_of d) c.0)) (relations_said (names_of d) c.1 _ h.second h.said_second))
     (both_exact (with_inits d) (after_exact kind.Init (λ t. refl) (init_relation n d))
-      (ended_exact (λ rest. (refl, (refl, refl))) (while_exact (next_is kind.And) (begins_piece kind.And) (relations_go_on d) (after_exact kind.And (λ t. refl) (init_relation n d))))
+      (ended_exact (λ rest. (refl, (refl, refl))) (while_exact (next_is kind.And) (begins_piece kind.And) relations_go_on (after_exact kind.And (λ t. refl) (init_relation n d))))
       (λ rs rest fit stop. relations_join rs rest))
 
 item_found : (n : ℕ) (d : Declared) (at : At) → Finds (counted_item_at d n at) (Spelled item_pieces (DeclaredFits d) (Declares d) at)

@@ -25,7 +25,7 @@ turned goes read (suc m) at h =
     ap (λ (k : ℕ). turn goes read k at) e
 
 while_never : {C A : Type 0} {n : ℕ} {n' most : ℕ → ℕ} {read : Read A} {read' : ℕ → Read A} {spell : C → List Piece} {okay : C → Type 0} {alike : A → A → Type 0} {follows : List Piece → Type 0}
-    (goes : At → Bool) (begins : List Piece → Bool) → GoesOn goes begins spell okay follows → Guards n n' most read read' spell okay alike follows
+    (goes : At → Bool) (begins : List Piece → Bool) → GoesOn goes begins spell follows → Guards n n' most read read' spell okay alike follows
     → (i : ℕ) (cs : List C) (m : ℕ) (at : At) (rest : List Piece) → length cs ≤ m → AllByRecursion okay cs → Ahead (most i) at (flat_map spell cs ++ rest) → Ends begins follows rest
     → Lets (while_at goes (read' i) m at) (λ y. Ahead (most i) y.1 rest)
 unfolding while_at
@@ -125,7 +125,7 @@ while_stuck {A = A} {n = n} {n' = n'} {read = read} {read' = read'} {spell = spe
     by_test false e more = keeps_end _ _ _ (turn_stops read' spell okay goes test m' l' a' at e)
 
 pub while_guards : {C A : Type 0} {n m : ℕ} {n' m' : ℕ → ℕ} {read : Read A} {read' : ℕ → Read A} {spell : C → List Piece} {okay : C → Type 0} {alike : A → A → Type 0} {follows : List Piece → Type 0}
-    (goes : At → Bool) (begins : List Piece → Bool) → IsTest goes → GoesOn goes begins spell okay follows → n ≤ m → ((i : ℕ) → n' i ≤ m' i) → Guards n n' m' read read' spell okay alike follows
+    (goes : At → Bool) (begins : List Piece → Bool) → IsTest goes → GoesOn goes begins spell follows → n ≤ m → ((i : ℕ) → n' i ≤ m' i) → Guards n n' m' read read' spell okay alike follows
     → Guards n n' m' (while_at goes read m) (λ i. while_at goes (read' i) (m' i)) (flat_map spell) (AllByRecursion okay) Any (Ends begins follows)
 while_guards {n = n} {m = m} {n' = n'} {m' = m'} {spell = spell} goes begins test on low low' g = record {
   never = λ i at cs rest fine h stop.

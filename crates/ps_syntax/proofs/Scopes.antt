@@ -68,7 +68,7 @@ says_two (Some names) of t u y z h k = ap (λ x. of x z) h ∙ ap (of (t names))
 
 -- ---- variables
 
-abbrev name_piece : List ℕ → List Piece
+abbrev pub name_piece : List ℕ → List Piece
 name_piece x = NamePiece x ∷ []
 
 abbrev pub KnownIn : Option Names → List ℕ → Type 0

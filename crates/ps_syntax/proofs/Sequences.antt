@@ -185,7 +185,7 @@ ListSays spell says (c ∷ cs) ps [] = ⊥
 ListSays spell says (c ∷ cs) ps (y ∷ ys) = says c ps y × ListSays spell says cs (drop (length (spell c)) ps) ys
 
 -- A repetition goes on where a text that fits begins, which is of a word at least, and a text may follow another.
-pub record GoesOn {C : Type 0} (goes : At → Bool) (begins : List Piece → Bool) (spell : C → List Piece) (fits : C → Type 0) (follows : List Piece → Type 0) : Type 0 where
+pub record GoesOn {C : Type 0} (goes : At → Bool) (begins : List Piece → Bool) (spell : C → List Piece) (follows : List Piece → Type 0) : Type 0 where
   pub same : (n : ℕ) (at : At) (ps : List Piece) → Ahead n at ps → goes at ≡ begins ps
   pub starts : (c : C) (rest : List Piece) → begins (spell c ++ rest) ≡ true
   pub joins : (c : C) (rest : List Piece) → follows (spell c ++ rest)
@@ -215,7 +215,7 @@ while_stops goes read zero at h = refl
 while_stops goes read (suc m) at h = cond-false _ _ _ h
 
 while_again : {C A : Type 0} {n : ℕ} {read : Read A} {spell : C → List Piece} {fits : C → Type 0} {says : C → List Place → A → Type 0} {follows : List Piece → Type 0}
-    (goes : At → Bool) (begins : List Piece → Bool) → GoesOn goes begins spell fits follows → Exact n read spell fits says follows
+    (goes : At → Bool) (begins : List Piece → Bool) → GoesOn goes begins spell follows → Exact n read spell fits says follows
     → (cs : List C) (m : ℕ) (at : At) (rest : List Piece) → length cs ≤ m → AllByRecursion fits cs → Ahead n at (flat_map spell cs ++ rest) → Ends begins follows rest
     → Gets (while_at goes read m at) (λ y. ListSays spell says cs (places at.words) y.0 × Ahead n y.1 rest)
 unfolding while_at
@@ -242,7 +242,7 @@ few spell some (c ∷ cs) rest =
     omega (arith, h, l, some c)
 
 pub while_exact : {C A : Type 0} {n : ℕ} {read : Read A} {spell : C → List Piece} {fits : C → Type 0} {says : C → List Place → A → Type 0} {follows : List Piece → Type 0}
-    (goes : At → Bool) (begins : List Piece → Bool) → GoesOn goes begins spell fits follows → Exact n read spell fits says follows
+    (goes : At → Bool) (begins : List Piece → Bool) → GoesOn goes begins spell follows → Exact n read spell fits says follows
     → Exact n (while_at goes read n) (flat_map spell) (AllByRecursion fits) (ListSays spell says) (Ends begins follows)
 while_exact {n = n} {spell = spell} goes begins on exact = record {
   found = while_found goes exact n;

@@ -17,7 +17,7 @@ use Rattle.ps_syntax.specs.Spelling.{Piece, Mark, cond_pieces, test_pieces, stmt
 use Rattle.ps_syntax.proofs.Steps.{begins_piece, next_ahead, Not, Always}
 use Rattle.ps_syntax.proofs.Sequences.{IsMark, GoesOn}
 use Rattle.ps_syntax.proofs.StmtLaws.{else_pieces, if_pieces, if_of, if_spelled, if_is, then_spelled}
-use Rattle.ps_syntax.proofs.BlockLaws.{stmt_begins, stmt_some, block_of, stmts_of, block_back, block_spelled, goes_on}
+use Rattle.ps_syntax.proofs.BlockLaws.{stmts_go_on, stmt_begins, stmt_some, block_of, stmts_of, block_back, block_spelled, goes_on}
 use Rattle.ps_syntax.proofs.Guards.{IsTest, next_test, Guards, Any, Example, pieces_are}
 use Rattle.ps_syntax.proofs.GuardSteps.{guards_same, guards_as, mapped_guards, placed_guards, refusing_guards, nothing_guards, both_guards, three_is, pair_up, of_pair, after_guards, word_then_guards, word_alone, mark_example, closed_guards, example_after, example_closed, OfSort, choice_guards, last_guards}
 use Rattle.ps_syntax.proofs.GuardLoops.{while_guards}
@@ -186,14 +186,6 @@ stmt_guards t levels block block' g inside = placed_guards (λ at k. record { pl
 more_test : IsTest has_more
 more_test = record { same = λ at at' h. ap not ((next_test kind.CloseBrace).same at at' h) }
 
-stmts_on : GoesOn has_more goes_on stmt_pieces Always (Not kind.Else)
-stmts_on = record {
-  same = λ n at ps h. ap not (next_ahead kind.CloseBrace h);
-  starts = λ s rest. ap not (stmt_begins kind.CloseBrace refl refl refl refl refl refl refl refl s rest);
-  joins = λ s rest. stmt_begins kind.Else refl refl refl refl refl refl refl refl s rest;
-  some = stmt_some;
-}
-
 rest_example : Example rest_pieces Always
 rest_example = record { text = block_end; fine = tt; words = record { kind = kind.CloseBrace; text = []; place = record { line = 0; column = 0 } } ∷ []; spelled = refl }
 
@@ -205,5 +197,5 @@ block_guards t (suc levels) inside =
     after_guards kind.OpenBrace (λ u. refl) (omega arith) (λ i. omega arith)
     (guards_as rest_pieces Always block_of stmts_of block_back block_spelled (λ ss h. tt) (λ b h. all_always (stmts_of b))
       (closed_guards kind.CloseBrace (λ u. refl) (λ rest. (refl, refl))
-        (while_guards has_more goes_on more_test stmts_on t.low t.low' (stmt_guards t levels (block_at t.scope t.most levels) (λ i. block_at t.scope' (t.most' i) levels) (λ u. block_guards t levels u) inside))))
+        (while_guards has_more goes_on more_test stmts_go_on t.low t.low' (stmt_guards t levels (block_at t.scope t.most levels) (λ i. block_at t.scope' (t.most' i) levels) (λ u. block_guards t levels u) inside))))
     rest_example

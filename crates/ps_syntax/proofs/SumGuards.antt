@@ -20,7 +20,8 @@ use Rattle.ps_syntax.specs.Spelling.{Piece, NamePiece, NumberPiece, Mark, piece_
 use Rattle.ps_syntax.specs.Reads.{BeginAlike}
 use Rattle.ps_syntax.proofs.Steps.{same_kind, kind_of, kind_of_piece, begins_piece, next_ahead, Not, Always, Gets, gets_bind, gets_end}
 use Rattle.ps_syntax.proofs.Sequences.{IsMark, mapped, both, GoesOn}
-use Rattle.ps_syntax.proofs.SumLaws.{SumEnds, SignedText, first_pieces, further_piece, begins_adding, adding, not_star, further_joins, sum_of, parts_of, make_sum, further_is, product_begins}
+use Rattle.ps_syntax.proofs.SumLaws.{number_piece, further_goes_on, SumEnds, SignedText, first_pieces, further_piece, begins_adding, adding, not_star, further_joins, sum_of, parts_of, make_sum, further_is, product_begins}
+use Rattle.ps_syntax.proofs.Scopes.{name_piece}
 use Rattle.ps_syntax.proofs.RelationLaws.{AreSigns, SignIn, sign_piece, sign_mark, sign_exact, sign_ends}
 use Rattle.ps_syntax.proofs.Guards.{Refused, Lets, Keeps, refused_bind, lets_bind, lets_end, lets_gets, keeps_bind, keeps_end, IsTest, next_test, Went, Stood, Guards, Any, Same, Example, pieces_are, word_guards}
 use Rattle.ps_syntax.proofs.GuardSteps.{guards_same, guards_as, mapped_guards, refusing_guards, nothing_guards, both_guards, three_is, pair_up, of_pair, bind_same, bind_bind, bind_end, after_guards, OfSort, choice_guards}
@@ -46,12 +47,6 @@ abbrev pub GuardsIn : {C A : Type 0} → Two → Read A → (ℕ → Read A) →
 GuardsIn t read read' spell alike follows = Guards t.left t.left' t.most' read read' spell Always alike follows
 
 -- ---- names and numbers
-
-abbrev pub name_piece : List ℕ → List Piece
-name_piece x = NamePiece x ∷ []
-
-abbrev pub number_piece : List ℕ → List Piece
-number_piece d = NumberPiece d ∷ []
 
 known_lets : (o : Option Var) (p : Place) → Lets (ok_or o (UnknownName p)) Always
 known_lets None p = record { is = tt }
@@ -101,22 +96,20 @@ digits_guards : (t : Two) → GuardsIn t (mapped (λ (w : Word). number_value w.
 digits_guards t = mapped_guards Any (λ (w : Word). number_value w.text) (λ x y h. tt) (word_guards t.left t.left' t.most' kind.Number)
 
 -- no text at all
-data Nothing : Type 0 where
-
-abbrev no_pieces : Nothing → List Piece
+abbrev no_pieces : ⊥ → List Piece
 no_pieces x = []
 
 factor_guards : (t : Two) → GuardsIn t factor_at (λ i. factor_at) number_piece Any Always
 unfolding factor_at
 factor_guards t =
     choice_guards number_piece Always Always (next_is kind.Name) (begins_piece kind.Name) (next_test kind.Name) (λ k at ps h. next_ahead kind.Name h)
-    (λ (x : Nothing). []) none (λ x h. tt) (λ d. d) (λ d. refl) (λ d h. tt)
+    (λ (x : ⊥). []) none (λ x h. tt) (λ d. d) (λ d. refl) (λ d h. tt)
     (λ d ok. inr (record { text = d; fine = tt; same = refl; tells = λ rest h. refl })) (λ rest h. tt) (λ rest h. tt)
     (refusing_guards t.left t.left' t.most' (λ at. NotLinear (place_at at)) no_pieces Always Any Always (λ at. record { is = tt }))
     (digits_guards t)
   where
-    none : (x : Nothing) → no_pieces x ≡ number_piece []
-    none x = elim x [ ]
+    none : (x : ⊥) → no_pieces x ≡ number_piece []
+    none x = absurd x
 
 -- ---- a word and more, or nothing
 
@@ -254,14 +247,6 @@ further_guards t =
 adds_test : IsTest adds
 adds_test = record { same = λ at at' h. ap (λ (t : Bool). t || next_is kind.Minus at) ((next_test kind.Plus).same at at' h) ∙ ap (λ (t : Bool). next_is kind.Plus at' || t) ((next_test kind.Minus).same at at' h) }
 
-further_on : GoesOn adds begins_adding further_piece Always (Not kind.Star)
-further_on = record {
-  same = λ n at ps h. ap (λ (t : Bool). t || next_is kind.Minus at) (next_ahead kind.Plus h) ∙ ap (λ (t : Bool). begins_piece kind.Plus ps || t) (next_ahead kind.Minus h);
-  starts = adding;
-  joins = not_star;
-  some = λ c. omega arith;
-}
-
 pub all_always : {C : Type 0} (cs : List C) → AllByRecursion (λ (c : C). Unit {0}) cs
 all_always [] = tt
 all_always (c ∷ cs) = (tt, all_always cs)
@@ -273,7 +258,7 @@ sum_guards t =
     (λ c. append_assoc (minus_pieces c.0.0) (product_pieces c.0.1) (flat_map further_piece c.1) ∙ ap (λ (ps : List Piece). minus_pieces c.0.0 ++ (product_pieces c.0.1 ++ ps)) (further_is c.1))
     (λ c h. tt) (λ s h. (tt, all_always s.further))
     (both_guards Any make_sum (λ x y z w a b. tt) (first_guards t) (λ c. omega arith) (λ i c. omega arith)
-      (while_guards adds begins_adding adds_test further_on t.low t.low' (further_guards t)) (record { text = []; fine = tt; words = []; spelled = refl }) (λ ds rest stop. further_joins ds rest stop))
+      (while_guards adds begins_adding adds_test further_goes_on t.low t.low' (further_guards t)) (record { text = []; fine = tt; words = []; spelled = refl }) (λ ds rest stop. further_joins ds rest stop))
 
 pub sum_example : Example sum_pieces Always
 unfolding number_example

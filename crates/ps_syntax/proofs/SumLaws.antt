@@ -20,7 +20,7 @@ use Rattle.ps_syntax.proofs.Scopes.{FitsIn, Says, fits_both, fits_first, fits_se
 
 -- ---- products
 
-abbrev number_piece : List ℕ → List Piece
+abbrev pub number_piece : List ℕ → List Piece
 number_piece d = NumberPiece d ∷ []
 
 abbrev NumberSays : List ℕ → List Place → ℤ → Type 0
@@ -190,8 +190,8 @@ pub not_star : (c : SignedText) (rest : List Piece) → Not kind.Star (further_p
 not_star (true, c) rest = refl
 not_star (false, c) rest = refl
 
-further_goes_on : (scope : Option Names) → GoesOn adds begins_adding further_piece (SignedIn scope) (Not kind.Star)
-further_goes_on scope = record {
+pub further_goes_on : GoesOn adds begins_adding further_piece (Not kind.Star)
+further_goes_on = record {
   same = λ n at ps h. ap (λ (t : Bool). t || next_is kind.Minus at) (next_ahead kind.Plus h) ∙ ap (λ (t : Bool). begins_piece kind.Plus ps || t) (next_ahead kind.Minus h);
   starts = adding;
   joins = not_star;
@@ -264,4 +264,4 @@ sum_exact n scope =
     (sum_unfit scope)
     (λ c ps y h. subst (λ (z : Sum). SumSays scope (sum_of c) ps z) (sym h.is)
       (says_two scope make_sum (λ names. signed c.0.0 (product_tree names c.0.1)) (λ names. further_trees names c.1) h.first h.second h.said_first (further_said scope c.1 _ h.second h.said_second)))
-    (both_exact make_sum (record { found = first_found n scope; again = first_again n scope }) (while_exact adds begins_adding (further_goes_on scope) (record { found = further_found n scope; again = further_again n scope })) (λ ds rest fit stop. further_joins ds rest stop))
+    (both_exact make_sum (record { found = first_found n scope; again = first_again n scope }) (while_exact adds begins_adding further_goes_on (record { found = further_found n scope; again = further_again n scope })) (λ ds rest fit stop. further_joins ds rest stop))
