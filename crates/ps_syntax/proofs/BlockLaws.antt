@@ -1,6 +1,6 @@
 -- The laws of statements and blocks.
-use Rattle.std.proofs.Common.{◌≡◌, ℕ, zero, suc, ◌+◌, ◌-◌, ◌≤◌, Bool, true, false, List, [], ◌∷◌, ◌++◌, map, length, drop, Option, Some, None, Result, Ok, Err, refl, sym, ap, subst, ◌∙◌, arith, append_assoc, length-append}
-use Rattle.std.specs.Prelude.{IfOk, not, if◌then◌else◌}
+use Rattle.std.proofs.Common.{◌≡◌, ℕ, zero, suc, ◌-◌, ◌≤◌, Bool, true, false, List, [], ◌∷◌, ◌++◌, length, drop, Some, None, Result, refl, sym, ap, subst, ◌∙◌, arith, append_assoc, length-append}
+use Rattle.std.specs.Prelude.{not}
 use Rattle.std.specs.List.{flat_map, AllByRecursion}
 use Rattle.ps_text.specs.declared.place.Place.{Place}
 use Rattle.ps_text.specs.declared.token_kind.TokenKind.{TokenKind}
@@ -9,16 +9,16 @@ use Rattle.ps_syntax.specs.declared.stmt.Stmt.{Stmt}
 use Rattle.ps_syntax.specs.declared.stmt.StmtKind.{StmtKind}
 use Rattle.ps_syntax.specs.declared.stmt.StmtKind.TheVariants as stmt
 use Rattle.ps_syntax.specs.declared.read_refusal.ReadRefusal.{ReadRefusal}
-use Rattle.ps_syntax.specs.declared.read_refusal.ReadRefusal.TheVariants.{Grammar, LoopInAtomic}
 use Rattle.ps_syntax.specs.Grammar.{StmtText, assign, havoc, assume, assert, skip, atomic, if_then, if_else, while_do, BlockText, block_end, block_more}
-use Rattle.ps_syntax.specs.Words.{Word, At, Read, and_then, ◌>>=◌, is_kind, next_is, place_of_next, place_at, word_at, after_word, while_at}
+use Rattle.ps_syntax.specs.Words.{Word, At, Read, is_kind, next_is, place_of_next, place_at, after_word}
 use Rattle.ps_syntax.specs.Names.{Names}
-use Rattle.ps_syntax.specs.Blocks.{while_stmt_at, kind_at, stmt_at, has_more, block_at, assign_at, havoc_at, cond_stmt_at, skip_at, atomic_at, if_at}
-use Rattle.ps_syntax.specs.Spelling.{Piece, Mark, pieces, test_pieces, stmt_pieces, rest_pieces, block_pieces}
+use Rattle.ps_syntax.specs.Blocks.{while_stmt_at, kind_at, stmt_at, has_more, block_at}
+use Rattle.ps_syntax.specs.Spelling.{Piece, Mark, pieces, stmt_pieces, rest_pieces, block_pieces}
 use Rattle.ps_syntax.specs.Trees.{first_place, stmt_tree, block_trees}
-use Rattle.ps_syntax.specs.Fits.{TestFits, StmtFits, RestFits}
-use Rattle.ps_syntax.proofs.Steps.{places, Takes, takes_then, takes_pieces, Ahead, ahead_so, begins_piece, next_ahead, Not, Always, Finds, Gets, found_bind, found_end, found_if, found_more, gets_bind, gets_end, gets_true, gets_false, gets_more, Spelled, Exact}
-use Rattle.ps_syntax.proofs.Sequences.{mark_found, exact_as, after_exact, closed_exact, ListSays, GoesOn, Ends, while_exact}
+use Rattle.ps_syntax.specs.Fits.{StmtFits, RestFits}
+use Rattle.ps_syntax.proofs.Steps.{places, takes_pieces, Ahead, ahead_so, begins_piece, next_ahead, Not, Finds, Gets, found_bind, found_end, found_if, gets_bind, gets_end, gets_true, gets_false, gets_more, Spelled, Exact}
+use Rattle.ps_syntax.proofs.Sequences.{mark_found, exact_as, after_exact, closed_exact, ListSays, GoesOn, while_exact}
+use Rattle.ps_syntax.proofs.CondLaws.{one_less}
 use Rattle.ps_syntax.proofs.StmtLaws.{BlockFits, BlockIs, BlockExact, assign_exact, havoc_exact, cond_stmt_exact, skip_exact, atomic_exact, while_do_exact, if_exact, IfText, if_of, if_spelled, if_fit, if_said, then_spelled, then_said, else_said, found_as, StmtIs}
 
 -- ---- what a statement begins with
@@ -171,20 +171,20 @@ stmt_exact n names levels block exact inside = record {
 
 -- ---- blocks
 
-block_of : List StmtText → BlockText
+pub block_of : List StmtText → BlockText
 block_of [] = block_end
 block_of (s ∷ ss) = block_more s (block_of ss)
 
-stmts_of : BlockText → List StmtText
+pub stmts_of : BlockText → List StmtText
 stmts_of block_end = []
 stmts_of (block_more s b) = s ∷ stmts_of b
 
-block_back : (b : BlockText) → block_of (stmts_of b) ≡ b
+pub block_back : (b : BlockText) → block_of (stmts_of b) ≡ b
 unfolding block_of stmts_of
 block_back block_end = refl
 block_back (block_more s b) = ap (block_more s) (block_back b)
 
-block_spelled : (ss : List StmtText) → flat_map stmt_pieces ss ++ Mark kind.CloseBrace ∷ [] ≡ rest_pieces (block_of ss)
+pub block_spelled : (ss : List StmtText) → flat_map stmt_pieces ss ++ Mark kind.CloseBrace ∷ [] ≡ rest_pieces (block_of ss)
 unfolding block_of
 block_spelled [] = refl
 block_spelled (s ∷ ss) = append_assoc (stmt_pieces s) (flat_map stmt_pieces ss) (Mark kind.CloseBrace ∷ []) ∙ ap (λ (ps : List Piece). stmt_pieces s ++ ps) (block_spelled ss)
@@ -206,19 +206,16 @@ block_said names [] ps (y ∷ ys) h = absurd h
 block_said names (s ∷ ss) ps [] h = absurd h
 block_said names (s ∷ ss) ps (y ∷ ys) h = ap (λ (z : Stmt). z ∷ ys) h.0 ∙ ap (λ (zs : List Stmt). record { place = first_place ps; kind = stmt_tree names s ps } ∷ zs) (block_said names ss (drop (length (stmt_pieces s)) ps) ys h.1)
 
-abbrev goes_on : List Piece → Bool
+abbrev pub goes_on : List Piece → Bool
 goes_on ps = not (begins_piece kind.CloseBrace ps)
 
-stmts_go_on : (names : Names) (levels : ℕ) (inside : Bool) → GoesOn has_more goes_on stmt_pieces (StmtFits names levels inside) (Not kind.Else)
-stmts_go_on names levels inside = record {
+pub stmts_go_on : GoesOn has_more goes_on stmt_pieces (Not kind.Else)
+stmts_go_on = record {
   same = λ n at ps h. ap not (next_ahead kind.CloseBrace h);
   starts = λ s rest. ap not (stmt_begins kind.CloseBrace refl refl refl refl refl refl refl refl s rest);
   joins = λ s rest. stmt_begins kind.Else refl refl refl refl refl refl refl refl s rest;
   some = stmt_some;
 }
-
-pred : (levels : ℕ) → suc levels - 1 ≡ levels
-pred levels = omega arith
 
 pub block_exact : (n : ℕ) (names : Names) (levels : ℕ) (inside : Bool) → BlockExact n names levels inside (block_at (Some names) n levels inside)
 unfolding block_at after_word
@@ -229,8 +226,8 @@ block_exact n names zero inside = record {
 block_exact n names (suc levels) inside =
     exact_as block_pieces (BlockFits names (suc levels) inside) (BlockIs names) block_of stmts_of block_back
     (λ ss. ap (λ (ps : List Piece). Mark kind.OpenBrace ∷ ps) (block_spelled ss))
-    (λ ss h. (omega arith, subst (λ (l : ℕ). RestFits names l inside (block_of ss)) (sym (pred levels)) (block_fit names levels inside ss h)))
-    (λ b h. block_unfit names levels inside b (subst (λ (l : ℕ). RestFits names l inside b) (pred levels) h.1))
+    (λ ss h. (omega arith, subst (λ (l : ℕ). RestFits names l inside (block_of ss)) (sym (one_less levels)) (block_fit names levels inside ss h)))
+    (λ b h. block_unfit names levels inside b (subst (λ (l : ℕ). RestFits names l inside b) (one_less levels) h.1))
     (λ ss ps y h. block_said names ss (drop 1 ps) y h)
     (after_exact kind.OpenBrace (λ t. refl) (closed_exact kind.CloseBrace (λ t. refl) (λ rest. (refl, refl))
-      (while_exact has_more goes_on (stmts_go_on names levels inside) (stmt_exact n names levels (block_at (Some names) n levels) (λ t. block_exact n names levels t) inside))))
+      (while_exact has_more goes_on stmts_go_on (stmt_exact n names levels (block_at (Some names) n levels) (λ t. block_exact n names levels t) inside))))

@@ -1,6 +1,5 @@
 -- The laws of conditions and tests.
-use Rattle.std.proofs.Common.{◌≡◌, ℕ, zero, suc, ◌-◌, ◌≤◌, Bool, true, false, ◌||◌, List, [], ◌∷◌, ◌++◌, map, length, drop, Option, Some, None, Result, Ok, Err, refl, sym, ap, subst, ◌∙◌, arith, append_assoc}
-use Rattle.std.specs.Prelude.{IfOk, if◌then◌else◌}
+use Rattle.std.proofs.Common.{◌≡◌, ℕ, zero, suc, ◌-◌, Bool, ◌||◌, List, [], ◌∷◌, ◌++◌, map, length, drop, Some, refl, sym, ap, subst, ◌∙◌, arith, append_assoc}
 use Rattle.std.specs.List.{flat_map, AllByRecursion}
 use Rattle.std.proofs.lemmas.List.{append-nil}
 use Rattle.ps_text.specs.declared.place.Place.{Place}
@@ -8,31 +7,26 @@ use Rattle.ps_text.specs.declared.token_kind.TokenKind.{TokenKind}
 use Rattle.ps_text.specs.declared.token_kind.TokenKind.TheVariants as kind
 use Rattle.ps_syntax.specs.declared.cond.Cond.{Cond}
 use Rattle.ps_syntax.specs.declared.cond.Cond.TheVariants as cond
-use Rattle.ps_syntax.specs.declared.cond.Test.{Test}
 use Rattle.ps_syntax.specs.declared.cond.Test.TheVariants as test
-use Rattle.ps_syntax.specs.declared.limit_name.LimitName.TheVariants as limit
-use Rattle.ps_syntax.specs.declared.read_refusal.ReadRefusal.{ReadRefusal}
-use Rattle.ps_syntax.specs.declared.read_refusal.ReadRefusal.TheVariants.{Limit}
-use Rattle.ps_syntax.specs.declared.relation.Relation.{Relation}
-use Rattle.ps_syntax.specs.Grammar.{RelationText, CondText, last_conj, or_else, ConjText, last_unary, and_also, UnaryText, negation, in_parens, relation, TestText, either, condition}
-use Rattle.ps_syntax.specs.Words.{Word, At, Read, and_then, ◌>>=◌, is_kind, next_is, place_at, word_at, after_word, while_at}
+use Rattle.ps_syntax.specs.Grammar.{CondText, last_conj, or_else, ConjText, last_unary, and_also, UnaryText, negation, in_parens, relation, TestText, either, condition}
+use Rattle.ps_syntax.specs.Words.{At, Read, next_is, after_word}
 use Rattle.ps_syntax.specs.Names.{Names}
 use Rattle.ps_syntax.specs.Sums.{sign_of, relation_at}
 use Rattle.ps_syntax.specs.Conds.{one_or_all, members_at, conj_with, cond_with, opens_at, unary_at, cond_at, test_at, parens_at}
 use Rattle.ps_syntax.specs.Spelling.{Piece, Mark, relation_pieces, cond_pieces, conj_pieces, unary_pieces, test_pieces}
 use Rattle.ps_syntax.specs.Trees.{relation_tree, gathered, cond_members, conj_members, unary_tree, cond_tree, test_tree}
-use Rattle.ps_syntax.specs.Fits.{RelationFits, CondFits, ConjFits, UnaryFits, TestFits}
-use Rattle.ps_syntax.proofs.Steps.{places, same_kind, Takes, takes_then, takes_so, Ahead, ahead_so, begins_piece, next_ahead, Not, Always, Finds, Gets, found_bind, found_end, found_if, found_more, gets_bind, gets_end, gets_true, gets_false, gets_more, Spelled, Exact}
-use Rattle.ps_syntax.proofs.Sequences.{IsMark, mark_found, mark_again, exact_as, mapped, mapped_exact, after_exact, both, BothSay, both_exact, closed, closed_exact, ListSays, GoesOn, Ends, while_exact}
+use Rattle.ps_syntax.specs.Fits.{CondFits, ConjFits, UnaryFits, TestFits}
+use Rattle.ps_syntax.proofs.Steps.{same_kind, Ahead, begins_piece, next_ahead, Not, Always, Finds, Gets, found_bind, found_end, found_if, found_more, gets_bind, gets_end, gets_true, gets_false, Spelled, Exact}
+use Rattle.ps_syntax.proofs.Sequences.{IsMark, mark_found, mark_again, exact_as, mapped, mapped_exact, after_exact, both_exact, closed, closed_exact, ListSays, GoesOn, Ends, while_exact}
 use Rattle.ps_syntax.proofs.SumLaws.{SumEnds}
-use Rattle.ps_syntax.proofs.RelationLaws.{all_signs, every_sign, RelationIn, RelationSays, relation_exact, relation_begins}
+use Rattle.ps_syntax.proofs.RelationLaws.{all_signs, every_sign, RelationIn, relation_exact, relation_begins}
 
 -- ---- members with a word between them
 
 abbrev pub Is : {C A : Type 0} → (C → A) → C → List Place → A → Type 0
 Is tree c ps y = y ≡ tree c
 
-abbrev members_pieces : {C : Type 0} → TokenKind → (C → List Piece) → C × List C → List Piece
+abbrev pub members_pieces : {C : Type 0} → TokenKind → (C → List Piece) → C × List C → List Piece
 members_pieces between spell c = spell c.0 ++ flat_map (λ d. Mark between ∷ spell d) c.1
 
 abbrev MembersFit : {C : Type 0} → (C → Type 0) → C × List C → Type 0
@@ -47,6 +41,15 @@ listed spell tree [] ps (y ∷ ys) h = absurd h
 listed spell tree (c ∷ cs) ps [] h = absurd h
 listed {A = A} spell tree (c ∷ cs) ps (y ∷ ys) h = ap (λ (z : A). z ∷ ys) h.0 ∙ ap (λ (zs : List A). tree c ∷ zs) (listed spell tree cs (drop (length (spell c)) ps) ys h.1)
 
+-- a word between goes on
+pub members_go_on : {C : Type 0} (between : TokenKind) (spell : C → List Piece) (follows : List Piece → Type 0) → ((rest : List Piece) → follows (Mark between ∷ rest)) → GoesOn (next_is between) (begins_piece between) (λ (d : C). Mark between ∷ spell d) follows
+members_go_on between spell follows joins = record {
+  same = λ m at ps h. next_ahead between h;
+  starts = λ c rest. same_kind between between refl;
+  joins = λ c rest. joins (spell c ++ rest);
+  some = λ c. omega arith;
+}
+
 members_exact : {C : Type 0} (n : ℕ) (read : Read Cond) (spell : C → List Piece) (fits : C → Type 0) (tree : C → Cond) (follows : List Piece → Type 0) (all : List Cond → Cond) (between : TokenKind)
     → IsMark between → ((rest : List Piece) → follows (Mark between ∷ rest)) → Exact n read spell fits (Is tree) follows
     → Exact n (members_at all between read n) (members_pieces between spell) (MembersFit fits) (Is (members_tree all tree)) (Ends (begins_piece between) follows)
@@ -54,16 +57,8 @@ unfolding members_at
 members_exact {C = C} n read spell fits tree follows all between marked joins exact =
     exact_as (members_pieces between spell) (MembersFit fits) (Is (members_tree all tree)) (λ c. c) (λ c. c) (λ c. refl) (λ c. refl) (λ c h. h) (λ c h. h)
     (λ c ps y h. h.is ∙ ap (λ (z : Cond). one_or_all all z h.second) h.said_first ∙ ap (one_or_all all (tree c.0)) (listed (λ d. Mark between ∷ spell d) tree c.1 _ h.second h.said_second))
-    (both_exact (one_or_all all) exact (while_exact (next_is between) (begins_piece between) on (after_exact between marked exact)) next)
+    (both_exact (one_or_all all) exact (while_exact (next_is between) (begins_piece between) (members_go_on between spell follows joins) (after_exact between marked exact)) next)
   where
-    on : GoesOn (next_is between) (begins_piece between) (λ (d : C). Mark between ∷ spell d) fits follows
-    on = record {
-      same = λ m at ps h. next_ahead between h;
-      starts = λ c rest. same_kind between between refl;
-      joins = λ c rest. joins (spell c ++ rest);
-      some = λ c. omega arith;
-    }
-
     next : (ds : List C) (rest : List Piece) → AllByRecursion fits ds → Ends (begins_piece between) follows rest → follows (flat_map (λ d. Mark between ∷ spell d) ds ++ rest)
     next [] rest fit stop = stop.1
     next (d ∷ ds) rest fit stop = joins _
@@ -74,24 +69,24 @@ gathered_is all c (d ∷ ds) = refl
 
 -- ---- `&&`
 
-conj_chain : UnaryText → List UnaryText → ConjText
+pub conj_chain : UnaryText → List UnaryText → ConjText
 conj_chain u [] = last_unary u
 conj_chain u (v ∷ vs) = and_also u (conj_chain v vs)
 
-conj_first : ConjText → UnaryText
+pub conj_first : ConjText → UnaryText
 conj_first (last_unary u) = u
 conj_first (and_also u rest) = u
 
-conj_rest : ConjText → List UnaryText
+pub conj_rest : ConjText → List UnaryText
 conj_rest (last_unary u) = []
 conj_rest (and_also u rest) = conj_first rest ∷ conj_rest rest
 
-conj_back : (c : ConjText) → conj_chain (conj_first c) (conj_rest c) ≡ c
+pub conj_back : (c : ConjText) → conj_chain (conj_first c) (conj_rest c) ≡ c
 unfolding conj_chain conj_first conj_rest
 conj_back (last_unary u) = refl
 conj_back (and_also u rest) = ap (and_also u) (conj_back rest)
 
-conj_spelled : (u : UnaryText) (us : List UnaryText) → members_pieces kind.And unary_pieces (u, us) ≡ conj_pieces (conj_chain u us)
+pub conj_spelled : (u : UnaryText) (us : List UnaryText) → members_pieces kind.And unary_pieces (u, us) ≡ conj_pieces (conj_chain u us)
 unfolding conj_chain
 conj_spelled u [] = append-nil (unary_pieces u)
 conj_spelled u (v ∷ vs) = ap (λ (ps : List Piece). unary_pieces u ++ (Mark kind.And ∷ ps)) (conj_spelled v vs)
@@ -135,24 +130,24 @@ conj_exact n names levels unary exact =
 
 -- ---- `||`
 
-cond_chain : ConjText → List ConjText → CondText
+pub cond_chain : ConjText → List ConjText → CondText
 cond_chain u [] = last_conj u
 cond_chain u (v ∷ vs) = or_else u (cond_chain v vs)
 
-cond_first : CondText → ConjText
+pub cond_first : CondText → ConjText
 cond_first (last_conj u) = u
 cond_first (or_else u rest) = u
 
-cond_rest : CondText → List ConjText
+pub cond_rest : CondText → List ConjText
 cond_rest (last_conj u) = []
 cond_rest (or_else u rest) = cond_first rest ∷ cond_rest rest
 
-cond_back : (c : CondText) → cond_chain (cond_first c) (cond_rest c) ≡ c
+pub cond_back : (c : CondText) → cond_chain (cond_first c) (cond_rest c) ≡ c
 unfolding cond_chain cond_first cond_rest
 cond_back (last_conj u) = refl
 cond_back (or_else u rest) = ap (or_else u) (cond_back rest)
 
-cond_spelled : (u : ConjText) (us : List ConjText) → members_pieces kind.Or conj_pieces (u, us) ≡ cond_pieces (cond_chain u us)
+pub cond_spelled : (u : ConjText) (us : List ConjText) → members_pieces kind.Or conj_pieces (u, us) ≡ cond_pieces (cond_chain u us)
 unfolding cond_chain
 cond_spelled u [] = append-nil (conj_pieces u)
 cond_spelled u (v ∷ vs) = ap (λ (ps : List Piece). conj_pieces u ++ (Mark kind.Or ∷ ps)) (cond_spelled v vs)
@@ -181,8 +176,8 @@ cond_with_exact n names levels unary exact =
 
 -- ---- levels
 
-pred : (levels : ℕ) → suc levels - 1 ≡ levels
-pred levels = omega arith
+pub one_less : (levels : ℕ) → suc levels - 1 ≡ levels
+one_less levels = omega arith
 
 rel_exact : (n : ℕ) (names : Names) → Exact n (mapped cond.Rel (relation_at sign_of (Some names) n)) relation_pieces (RelationIn sign_of (Some names)) (Is (λ r. cond.Rel (relation_tree names r))) SumEnds
 rel_exact n names = mapped_exact _ cond.Rel (λ r ps y h. ap cond.Rel h.1) (relation_exact n sign_of all_signs (Some names))
@@ -201,11 +196,11 @@ unfolding unary_at
 unary_found n names levels exact at =
     found_if (next_is kind.Not at) _ _ _
     (found_more _ _ _ ((not_exact n names levels (unary_at (Some names) n levels) exact).found at) (λ y p. record {
-      text = negation p.text; taken = p.taken; fit = (omega arith, subst (λ (l : ℕ). UnaryFits names l p.text) (sym (pred levels)) p.fit); is = p.is;
+      text = negation p.text; taken = p.taken; fit = (omega arith, subst (λ (l : ℕ). UnaryFits names l p.text) (sym (one_less levels)) p.fit); is = p.is;
     }))
     (found_if (next_is kind.OpenParen at) _ _ _
     (found_more _ _ _ ((in_parens_exact n names levels (unary_at (Some names) n levels) exact).found at) (λ y p. record {
-      text = in_parens p.text; taken = p.taken; fit = (omega arith, subst (λ (l : ℕ). CondFits names l p.text) (sym (pred levels)) p.fit); is = p.is;
+      text = in_parens p.text; taken = p.taken; fit = (omega arith, subst (λ (l : ℕ). CondFits names l p.text) (sym (one_less levels)) p.fit); is = p.is;
     }))
     (rel_found n names (suc levels) at))
 
@@ -213,11 +208,11 @@ unary_again : (n : ℕ) (names : Names) (levels : ℕ) → UnaryExact n names le
 unfolding unary_at
 unary_again n names levels exact at (negation u) rest fit h stop =
     gets_true (next_is kind.Not at) _ _ _ (next_ahead kind.Not h)
-    ((not_exact n names levels (unary_at (Some names) n levels) exact).again at u rest (subst (λ (l : ℕ). UnaryFits names l u) (pred levels) fit.1) h stop)
+    ((not_exact n names levels (unary_at (Some names) n levels) exact).again at u rest (subst (λ (l : ℕ). UnaryFits names l u) (one_less levels) fit.1) h stop)
 unary_again n names levels exact at (in_parens c) rest fit h stop =
     gets_false (next_is kind.Not at) _ _ _ (next_ahead kind.Not h)
     (gets_true (next_is kind.OpenParen at) _ _ _ (next_ahead kind.OpenParen h)
-    ((in_parens_exact n names levels (unary_at (Some names) n levels) exact).again at c rest (subst (λ (l : ℕ). CondFits names l c) (pred levels) fit.1) h tt))
+    ((in_parens_exact n names levels (unary_at (Some names) n levels) exact).again at c rest (subst (λ (l : ℕ). CondFits names l c) (one_less levels) fit.1) h tt))
 unary_again n names levels exact at (relation r) rest fit h stop =
     gets_false (next_is kind.Not at) _ _ _ (next_ahead kind.Not h ∙ relation_begins kind.Not refl refl refl r rest)
     (gets_false (next_is kind.OpenParen at) _ _ _ (next_ahead kind.OpenParen h ∙ relation_begins kind.OpenParen refl refl refl r rest)
@@ -246,7 +241,7 @@ cond_exact n names levels = cond_with_exact n names levels (unary_at (Some names
 -- ---- tests
 
 -- a test without its parentheses
-abbrev inner_pieces : TestText → List Piece
+abbrev pub inner_pieces : TestText → List Piece
 inner_pieces either = Mark kind.Star ∷ []
 inner_pieces (condition c) = cond_pieces c
 
@@ -263,7 +258,7 @@ conj_begins : (c : ConjText) (rest : List Piece) → Not kind.Star (conj_pieces 
 conj_begins (last_unary u) rest = unary_begins u rest
 conj_begins (and_also u c) rest = subst (Not kind.Star) (sym (append_assoc (unary_pieces u) (Mark kind.And ∷ conj_pieces c) rest)) (unary_begins u _)
 
-cond_begins : (c : CondText) (rest : List Piece) → Not kind.Star (cond_pieces c ++ rest)
+pub cond_begins : (c : CondText) (rest : List Piece) → Not kind.Star (cond_pieces c ++ rest)
 cond_begins (last_conj c) rest = conj_begins c rest
 cond_begins (or_else c d) rest = subst (Not kind.Star) (sym (append_assoc (conj_pieces c) (Mark kind.Or ∷ cond_pieces d) rest)) (conj_begins c _)
 
@@ -290,17 +285,17 @@ inner_again n names levels at (condition c) rest fit h stop =
 inner_exact : (n : ℕ) (names : Names) (levels : ℕ) → Exact n (test_at (Some names) n levels) inner_pieces (InnerFits names levels) (Is (test_tree names)) CondEnds
 inner_exact n names levels = record { found = inner_found n names levels; again = inner_again n names levels }
 
-test_spelled : (t : TestText) → Mark kind.OpenParen ∷ (inner_pieces t ++ Mark kind.CloseParen ∷ []) ≡ test_pieces t
+pub test_spelled : (t : TestText) → Mark kind.OpenParen ∷ (inner_pieces t ++ Mark kind.CloseParen ∷ []) ≡ test_pieces t
 test_spelled either = refl
 test_spelled (condition c) = refl
 
 test_fit : (names : Names) (levels : ℕ) (t : TestText) → InnerFits names levels t → TestFits names (suc levels) t
 test_fit names levels either h = omega arith
-test_fit names levels (condition c) h = (omega arith, subst (λ (l : ℕ). CondFits names l c) (sym (pred levels)) h)
+test_fit names levels (condition c) h = (omega arith, subst (λ (l : ℕ). CondFits names l c) (sym (one_less levels)) h)
 
 test_unfit : (names : Names) (levels : ℕ) (t : TestText) → TestFits names (suc levels) t → InnerFits names levels t
 test_unfit names levels either h = tt
-test_unfit names levels (condition c) h = subst (λ (l : ℕ). CondFits names l c) (pred levels) h.1
+test_unfit names levels (condition c) h = subst (λ (l : ℕ). CondFits names l c) (one_less levels) h.1
 
 no_test : (names : Names) (t : TestText) → TestFits names zero t → ⊥
 no_test names either h = omega (arith, h)

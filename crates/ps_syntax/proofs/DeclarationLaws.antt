@@ -1,39 +1,33 @@
 -- The laws of declarations, apart from how many rows hold at the start.
-use Rattle.std.proofs.Common.{◌≡◌, ◌≢◌, ℕ, ◌+◌, ◌<◌, ◌≤◌, ℤ, Bool, true, false, List, [], ◌∷◌, ◌++◌, map, length, drop, Option, Some, None, Result, Ok, Err, refl, sym, ap, subst, ◌∙◌, arith, append_assoc}
-use Rattle.std.specs.Prelude.{IfOk, nat_le, if◌then◌else◌}
-use Rattle.std.specs.List.{flat_map, All, AllByRecursion}
+use Rattle.std.proofs.Common.{◌≡◌, ◌≢◌, ℕ, ◌<◌, ℤ, Bool, true, false, List, [], ◌∷◌, ◌++◌, map, length, drop, Option, Some, None, Ok, refl, sym, ap, subst, ◌∙◌, arith}
+use Rattle.std.specs.Prelude.{nat_le}
+use Rattle.std.specs.List.{flat_map, All}
 use Rattle.std.proofs.lemmas.Bool.{leb-false, lt-leb}
 use Rattle.std.proofs.lemmas.List.Elements.{All-cons, All-head, All-tail}
 use Rattle.ps_text.specs.declared.place.Place.{Place}
-use Rattle.ps_text.specs.declared.token_kind.TokenKind.{TokenKind}
 use Rattle.ps_text.specs.declared.token_kind.TokenKind.TheVariants as kind
 use Rattle.ps_term.specs.declared.var.Var.{Var}
-use Rattle.ps_syntax.specs.declared.global_decl.GlobalDecl.{GlobalDecl}
 use Rattle.ps_syntax.specs.declared.limit_name.LimitName.{LimitName}
 use Rattle.ps_syntax.specs.declared.limit_name.LimitName.TheVariants as limit
 use Rattle.ps_syntax.specs.declared.relation.Relation.{Relation}
 use Rattle.ps_syntax.specs.declared.relation.Sign.TheVariants as sign
-use Rattle.ps_syntax.specs.declared.read_refusal.ReadRefusal.{ReadRefusal}
 use Rattle.ps_syntax.specs.Grammar.{RelationText, ValueText, ItemText, global, local, init}
-use Rattle.ps_syntax.specs.Words.{Word, At, Read, and_then, ◌>>=◌, is_kind, next_is, word_at, after_word, while_at}
+use Rattle.ps_syntax.specs.Words.{Word, At, next_is, word_at, after_word}
 use Rattle.ps_syntax.specs.Names.{Names, variable_of}
 use Rattle.ps_syntax.specs.Sums.{number_value, signed, init_sign_of, relation_at}
-use Rattle.ps_syntax.specs.Blocks.{ended_at}
 use Rattle.ps_syntax.specs.Items.{Declared, most_globals, most_locals, names_of, is_declared, refused_name, new_name_at, number_at, value_at, global_at, local_at, init_at, counted_item_at, with_rows}
 use Rattle.ps_syntax.specs.Spelling.{Piece, NamePiece, NumberPiece, Mark, minus_pieces, relation_pieces, value_pieces, more_relations, item_pieces}
 use Rattle.ps_syntax.specs.Trees.{relation_tree, value_of, with_item}
 use Rattle.ps_syntax.specs.Fits.{RelationFits, IsNew}
-use Rattle.ps_syntax.proofs.Steps.{places, Takes, takes_none, takes_then, takes_so, Ahead, ahead_so, begins_piece, next_ahead, Not, Always, Finds, Gets, found_bind, found_end, found_if, found_more, gets_bind, gets_end, gets_true, gets_false, gets_more, Spelled, Exact}
-use Rattle.ps_syntax.proofs.Sequences.{word_exact, exact_as, mapped, mapped_exact, after_exact, both, BothSay, both_exact, ListSays, GoesOn, Ends, while_exact}
+use Rattle.ps_syntax.proofs.Steps.{places, Takes, takes_none, takes_so, Ahead, begins_piece, next_ahead, Not, Always, Finds, Gets, found_bind, found_end, found_if, found_more, gets_bind, gets_end, gets_true, gets_false, Spelled, Exact}
+use Rattle.ps_syntax.proofs.Sequences.{word_exact, exact_as, mapped, mapped_exact, after_exact, both_exact, ListSays, GoesOn, while_exact}
+use Rattle.ps_syntax.proofs.Scopes.{name_piece}
 use Rattle.ps_syntax.proofs.SumLaws.{SumEnds, all_from, all_to}
-use Rattle.ps_syntax.proofs.RelationLaws.{init_signs, every_init_sign, no_init_sign, RelationIn, RelationSays, relation_exact}
+use Rattle.ps_syntax.proofs.RelationLaws.{init_signs, every_init_sign, no_init_sign, relation_exact}
 use Rattle.ps_syntax.proofs.CondLaws.{Is}
 use Rattle.ps_syntax.proofs.StmtLaws.{ended_exact, found_as}
 
 -- ---- a new name
-
-abbrev name_piece : List ℕ → List Piece
-name_piece x = NamePiece x ∷ []
 
 abbrev NewFits : Declared → ℕ → ℕ → List ℕ → Type 0
 NewFits d count most x = IsNew d x × (count < most)
@@ -71,13 +65,13 @@ new_exact n d count most what = record {
 
 -- ---- a value
 
-abbrev number_pieces : ValueText → List Piece
+abbrev pub number_pieces : ValueText → List Piece
 number_pieces v = minus_pieces v.negative ++ NumberPiece v.digits ∷ []
 
 abbrev value_number : ValueText → ℤ
 value_number v = (signed v.negative (number_value v.digits, None)).0
 
-abbrev negated : Word → ℤ
+abbrev pub negated : Word → ℤ
 negated w = (signed true (number_value w.text, None)).0
 
 digits_exact : (n : ℕ) (of : List ℕ → ℤ) → Exact n (mapped (λ (w : Word). of w.text) (word_at kind.Number)) (λ t. NumberPiece t ∷ []) Always (Is of) Always
@@ -122,13 +116,13 @@ value_exact n = record {
 
 -- ---- declarations
 
-abbrev with_global : Declared → List ℕ → Option ℤ → Declared
+abbrev pub with_global : Declared → List ℕ → Option ℤ → Declared
 with_global d x v = record { globals = d.globals ++ record { name = x; value = v } ∷ []; locals = d.locals; inits = d.inits; rows = d.rows }
 
-abbrev with_local : Declared → List ℕ → Declared
+abbrev pub with_local : Declared → List ℕ → Declared
 with_local d x = record { globals = d.globals; locals = d.locals ++ x ∷ []; inits = d.inits; rows = d.rows }
 
-abbrev with_inits : Declared → Relation → List Relation → Declared
+abbrev pub with_inits : Declared → Relation → List Relation → Declared
 with_inits d r rs = record { globals = d.globals; locals = d.locals; inits = d.inits ++ r ∷ rs; rows = d.rows }
 
 -- what is declared after an item, its rows not counted
@@ -161,7 +155,7 @@ init_relation n d =
     (λ r h. (h.0, no_init_sign r.sign h.1)) (λ r h. (h.0, every_init_sign r.sign h.1)) (λ r ps y h. h.1)
     (relation_exact n init_sign_of init_signs (Some (names_of d)))
 
-abbrev and_pieces : RelationText → List Piece
+abbrev pub and_pieces : RelationText → List Piece
 and_pieces r = Mark kind.And ∷ relation_pieces r
 
 pub more_is : (rs : List RelationText) → flat_map and_pieces rs ≡ more_relations rs
@@ -174,15 +168,15 @@ relations_said names [] ps (y ∷ ys) h = absurd h
 relations_said names (r ∷ rs) ps [] h = absurd h
 relations_said names (r ∷ rs) ps (y ∷ ys) h = ap (λ (z : Relation). z ∷ ys) h.0 ∙ ap (λ (zs : List Relation). relation_tree names r ∷ zs) (relations_said names rs (drop (length (and_pieces r)) ps) ys h.1)
 
-relations_go_on : (d : Declared) → GoesOn (next_is kind.And) (begins_piece kind.And) and_pieces (InitFits d) SumEnds
-relations_go_on d = record {
+pub relations_go_on : GoesOn (next_is kind.And) (begins_piece kind.And) and_pieces SumEnds
+relations_go_on = record {
   same = λ n at ps h. next_ahead kind.And h;
   starts = λ r rest. refl;
   joins = λ r rest. (refl, refl);
   some = λ r. omega arith;
 }
 
-relations_join : (rs : List RelationText) (rest : List Piece) → SumEnds ((flat_map and_pieces rs ++ Mark kind.Semicolon ∷ []) ++ rest)
+pub relations_join : (rs : List RelationText) (rest : List Piece) → SumEnds ((flat_map and_pieces rs ++ Mark kind.Semicolon ∷ []) ++ rest)
 relations_join [] rest = (refl, refl)
 relations_join (r ∷ rs) rest = (refl, refl)
 
@@ -195,7 +189,7 @@ init_exact n d =
     (λ c h. (All-head (InitFits d) c.0 c.1 h, all_to (InitFits d) c.1 (All-tail (InitFits d) c.0 c.1 h)))
     (λ c ps y h. h.is ∙ ap (λ (r : Relation). with_inits d r h.second) h.said_first ∙ ap (with_inits d (relation_tree (names_of d) c.0)) (relations_said (names_of d) c.1 _ h.second h.said_second))
     (both_exact (with_inits d) (after_exact kind.Init (λ t. refl) (init_relation n d))
-      (ended_exact (λ rest. (refl, (refl, refl))) (while_exact (next_is kind.And) (begins_piece kind.And) (relations_go_on d) (after_exact kind.And (λ t. refl) (init_relation n d))))
+      (ended_exact (λ rest. (refl, (refl, refl))) (while_exact (next_is kind.And) (begins_piece kind.And) relations_go_on (after_exact kind.And (λ t. refl) (init_relation n d))))
       (λ rs rest fit stop. relations_join rs rest))
 
 item_found : (n : ℕ) (d : Declared) (at : At) → Finds (counted_item_at d n at) (Spelled item_pieces (DeclaredFits d) (Declares d) at)

@@ -14,3 +14,11 @@ pub mod ProgramLaws
 pub mod WordsWithin
 pub mod TextLaws
 pub mod NoTokens
+pub mod Guards
+pub mod GuardSteps
+pub mod GuardLoops
+pub mod SumGuards
+pub mod CondGuards
+pub mod StmtGuards
+pub mod DeclarationGuards
+pub mod ProgramGuards

@@ -1,5 +1,5 @@
 -- The laws of items with their rows, and of whole programs: a text is read as a program exactly where it is one.
-use Rattle.std.proofs.Common.{◌≡◌, ◌≢◌, ℕ, zero, suc, ◌+◌, ◌-◌, ◌<◌, ◌≤◌, ℤ, Bool, true, false, ◌||◌, List, [], ◌∷◌, ◌++◌, map, length, drop, Option, Some, None, Result, Ok, Err, refl, sym, ap, subst, ◌∙◌, arith, append_assoc, length-append}
+use Rattle.std.proofs.Common.{◌≡◌, ◌≢◌, ℕ, zero, suc, ◌+◌, ◌-◌, ◌≤◌, Bool, true, false, ◌||◌, List, [], ◌∷◌, ◌++◌, length, drop, Some, None, Result, Ok, Err, refl, sym, ap, subst, ◌∙◌, arith, append_assoc, length-append}
 use Rattle.std.specs.Prelude.{IfOk, nat_lt, if◌then◌else◌}
 use Rattle.std.specs.List.{flat_map, All, AllByRecursion}
 use Rattle.std.proofs.lemmas.Bool.{ltb-false, le-ltb, cond-true, cond-false}
@@ -10,28 +10,26 @@ use Rattle.ps_text.specs.declared.token_kind.TokenKind.{TokenKind}
 use Rattle.ps_text.specs.declared.token_kind.TokenKind.TheVariants as kind
 use Rattle.ps_syntax.specs.declared.limit_name.LimitName.TheVariants as limit
 use Rattle.ps_syntax.specs.declared.program.Program.{Program}
-use Rattle.ps_syntax.specs.declared.relation.Relation.{Relation}
-use Rattle.ps_syntax.specs.declared.relation.Sign.{Sign}
 use Rattle.ps_syntax.specs.declared.relation.Sign.TheVariants as sign
 use Rattle.ps_syntax.specs.declared.stmt.Stmt.{Stmt}
 use Rattle.ps_syntax.specs.declared.read_refusal.ReadRefusal.{ReadRefusal}
-use Rattle.ps_syntax.specs.declared.read_refusal.ReadRefusal.TheVariants.{Grammar, Limit}
-use Rattle.ps_syntax.specs.Grammar.{RelationText, ValueText, ItemText, global, local, init, BlockText, ProgramText}
-use Rattle.ps_syntax.specs.Words.{Word, At, Read, and_then, ◌>>=◌, is_kind, begins_with, next_is, place_at, word_from, word_at, after_word, end_from, end_at}
+use Rattle.ps_syntax.specs.declared.read_refusal.ReadRefusal.TheVariants.{Limit}
+use Rattle.ps_syntax.specs.Grammar.{RelationText, ItemText, global, local, init, BlockText, ProgramText}
+use Rattle.ps_syntax.specs.Words.{Word, At, begins_with, next_is, place_at, word_from, word_at, after_word, end_from, end_at}
 use Rattle.ps_syntax.specs.Names.{Names}
-use Rattle.ps_syntax.specs.Sums.{init_sign_of, relation_at}
+use Rattle.ps_syntax.specs.Sums.{init_sign_of}
 use Rattle.ps_syntax.specs.Blocks.{block_at}
-use Rattle.ps_syntax.specs.Items.{Declared, most_rows, most_levels, nothing_declared, names_of, value_at, rows_of_sign, counted, rows_from, rows_of_value, item_rows, counted_item_at, with_rows, item_at, has_item, items_at, program_at, program_of}
+use Rattle.ps_syntax.specs.Items.{Declared, most_rows, most_levels, nothing_declared, names_of, rows_of_sign, counted, rows_from, rows_of_value, item_rows, counted_item_at, with_rows, item_at, has_item, items_at, program_at, program_of}
 use Rattle.ps_syntax.specs.Spelling.{Piece, NamePiece, Mark, piece_of_kind, pieces, relation_pieces, value_pieces, more_relations, item_pieces, block_pieces, program_pieces}
 use Rattle.ps_syntax.specs.Trees.{block_trees, value_of, rows_of_relations, with_item, with_items, program_tree}
 use Rattle.ps_syntax.specs.Fits.{RelationFits, RestFits, ItemFits, ItemsFit, ProgramFits}
 use Rattle.ps_syntax.specs.Reads.{IsProgramText}
-use Rattle.ps_syntax.proofs.Steps.{places, Takes, takes_none, takes_then, takes_so, takes_pieces, takes_places, Ahead, ahead_so, begins_piece, next_ahead, Not, Always, Finds, Gets, found_bind, found_end, found_if, found_more, gets_bind, gets_end, gets_true, gets_false, gets_more, gets_found, Spelled, Exact}
-use Rattle.ps_syntax.proofs.Sequences.{word_exact, mark_found, mark_again, after_exact, exact_again, left_places}
+use Rattle.ps_syntax.proofs.Steps.{places, Takes, takes_none, takes_then, takes_pieces, takes_places, Ahead, ahead_so, begins_piece, next_ahead, Not, Always, Finds, Gets, found_bind, found_end, found_if, found_more, gets_bind, gets_end, gets_true, gets_false, gets_more, gets_found, Spelled, Exact}
+use Rattle.ps_syntax.proofs.Sequences.{word_exact, mark_again, after_exact, left_places}
 use Rattle.ps_syntax.proofs.SumLaws.{SumEnds}
-use Rattle.ps_syntax.proofs.RelationLaws.{init_signs, every_init_sign, RelationSays, relation_exact}
+use Rattle.ps_syntax.proofs.RelationLaws.{init_signs, every_init_sign, relation_exact}
 use Rattle.ps_syntax.proofs.BlockLaws.{block_exact}
-use Rattle.ps_syntax.proofs.DeclarationLaws.{value_exact, Declares, DeclaredFits, declaration_exact}
+use Rattle.ps_syntax.proofs.DeclarationLaws.{value_exact, DeclaredFits, declaration_exact}
 
 -- ---- the rows of an item
 
@@ -183,7 +181,7 @@ item_again n d at i rest fit h =
     (gets_more _ _ _ ((declaration_exact n (with_rows (d.rows + item_rows n at) d)).again at i rest named.0 h tt) (λ y p.
     (item_said d i (item_rows n at) y.0 rows p.0, p.1)))
 
-abbrev items_pieces : List ItemText → List Piece
+abbrev pub items_pieces : List ItemText → List Piece
 items_pieces is = flat_map item_pieces is
 
 abbrev ItemsSay : Declared → List ItemText → List Place → Declared → Type 0
@@ -207,16 +205,16 @@ items_found n (suc m) d at room =
     })))
     (record { is = record { text = []; taken = takes_none at.words; fit = tt; is = refl } })
 
-abbrev begins_item : List Piece → Bool
+abbrev pub begins_item : List Piece → Bool
 begins_item ps = begins_piece kind.Global ps || begins_piece kind.Local ps || begins_piece kind.Init ps
 
-item_ahead : (n : ℕ) (at : At) (ps : List Piece) → Ahead n at ps → has_item at ≡ begins_item ps
+pub item_ahead : (n : ℕ) (at : At) (ps : List Piece) → Ahead n at ps → has_item at ≡ begins_item ps
 item_ahead n at ps h =
     ap (λ (t : Bool). t || next_is kind.Local at || next_is kind.Init at) (next_ahead kind.Global h)
     ∙ ap (λ (t : Bool). begins_piece kind.Global ps || t || next_is kind.Init at) (next_ahead kind.Local h)
     ∙ ap (λ (t : Bool). begins_piece kind.Global ps || begins_piece kind.Local ps || t) (next_ahead kind.Init h)
 
-item_begins : (i : ItemText) (rest : List Piece) → begins_item (item_pieces i ++ rest) ≡ true
+pub item_begins : (i : ItemText) (rest : List Piece) → begins_item (item_pieces i ++ rest) ≡ true
 item_begins (global x v) rest = refl
 item_begins (local x) rest = refl
 item_begins (init r rs) rest = refl
@@ -238,12 +236,12 @@ items_again n (i ∷ is) (suc m) d at rest le fit h stop =
     gets_more _ _ _ (items_again n is m x.0 x.1 rest (omega (arith, le)) (subst (λ (e : Declared). ItemsFit e is) (sym p.0) fit.1) p.1 stop) (λ y q.
     (q.0 ∙ ap (λ (e : Declared). with_items e is) p.0, q.1))))
 
-item_some : (i : ItemText) → 1 ≤ length (item_pieces i)
+pub item_some : (i : ItemText) → 1 ≤ length (item_pieces i)
 item_some (global x v) = omega arith
 item_some (local x) = omega arith
 item_some (init r rs) = omega arith
 
-few_items : (is : List ItemText) (rest : List Piece) → length is ≤ length (items_pieces is ++ rest)
+pub few_items : (is : List ItemText) (rest : List Piece) → length is ≤ length (items_pieces is ++ rest)
 few_items [] rest = omega arith
 few_items (i ∷ is) rest =
     let h : length is ≤ length (items_pieces is ++ rest) = few_items is rest in
@@ -259,7 +257,7 @@ end_found at = by_words at.words
     by_words [] = record { is = refl }
     by_words (w ∷ ws) = record { is = tt }
 
-end_again : (ws : List Word) → pieces ws ≡ [] → end_from ws ≡ Ok tt
+pub end_again : (ws : List Word) → pieces ws ≡ [] → end_from ws ≡ Ok tt
 end_again [] h = refl
 end_again (w ∷ ws) h = absurd cc
 

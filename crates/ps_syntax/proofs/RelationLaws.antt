@@ -1,25 +1,24 @@
 -- The laws of signs and relations.
-use Rattle.std.proofs.Common.{◌≡◌, ◌≢◌, ℕ, ◌≤◌, Bool, true, false, List, [], ◌∷◌, ◌++◌, Option, Some, None, Result, Ok, Err, refl, sym, ap, subst, ◌∙◌, arith, append_assoc}
-use Rattle.std.specs.Prelude.{IfOk, ok_or}
+use Rattle.std.proofs.Common.{◌≡◌, ◌≢◌, ℕ, ◌≤◌, Bool, true, false, List, [], ◌∷◌, ◌++◌, Option, Some, None, refl, sym, ap, subst, ◌∙◌, arith, append_assoc}
+use Rattle.std.specs.Prelude.{ok_or}
 use Rattle.ps_text.specs.declared.place.Place.{Place}
 use Rattle.ps_text.specs.declared.token_kind.TokenKind.{TokenKind}
 use Rattle.ps_text.specs.declared.token_kind.TokenKind.TheVariants as kind
-use Rattle.ps_syntax.specs.declared.read_refusal.ReadRefusal.{ReadRefusal}
 use Rattle.ps_syntax.specs.declared.read_refusal.ReadRefusal.TheVariants.{Grammar}
 use Rattle.ps_syntax.specs.declared.relation.Relation.{Relation}
 use Rattle.ps_syntax.specs.declared.relation.Sign.{Sign}
 use Rattle.ps_syntax.specs.declared.relation.Sign.TheVariants as sign
 use Rattle.ps_syntax.specs.declared.sum.Sum.{Sum}
-use Rattle.ps_syntax.specs.Grammar.{SumText, RelationText}
-use Rattle.ps_syntax.specs.Words.{Word, At, Read, and_then, ◌>>=◌, is_kind}
+use Rattle.ps_syntax.specs.Grammar.{RelationText}
+use Rattle.ps_syntax.specs.Words.{Word, is_kind}
 use Rattle.ps_syntax.specs.Names.{Names}
-use Rattle.ps_syntax.specs.Sums.{sum_at, sign_of, init_sign_of, sign_from, sign_at, relation_at}
+use Rattle.ps_syntax.specs.Sums.{sign_of, init_sign_of, sign_from, sign_at, relation_at}
 use Rattle.ps_syntax.specs.Spelling.{Piece, Mark, piece_of_kind, pieces, minus_pieces, product_pieces, further_pieces, sum_pieces, sign_kind, relation_pieces}
 use Rattle.ps_syntax.specs.Trees.{sum_tree, relation_tree}
 use Rattle.ps_syntax.specs.Fits.{SumFits, RelationFits}
-use Rattle.ps_syntax.proofs.Steps.{places, kind_of, kind_of_piece, Takes, takes_then, takes_so, Ahead, ahead_so, Not, Always, Finds, Gets, found_bind, found_end, found_more, gets_bind, gets_end, gets_more, Spelled, Exact}
+use Rattle.ps_syntax.proofs.Steps.{places, kind_of, kind_of_piece, takes_then, ahead_so, Not, Always, Finds, Gets, found_bind, found_end, gets_bind, gets_end, gets_more, Spelled, Exact}
 use Rattle.ps_syntax.proofs.Scopes.{FitsIn, Says, fits_both, fits_first, fits_second, says_two}
-use Rattle.ps_syntax.proofs.SumLaws.{SumIn, SumSays, SumEnds, sum_exact, product_begins}
+use Rattle.ps_syntax.proofs.SumLaws.{SumSays, SumEnds, sum_exact, product_begins}
 
 -- ---- signs
 
@@ -72,7 +71,7 @@ every_init_sign sign.NotEqual h = absurd (h refl)
 pub no_init_sign : (s : Sign) → init_sign_of (sign_kind s) ≡ Some s → s ≢ sign.NotEqual
 no_init_sign s h e = none_is s (sym (ap (λ (t : Sign). init_sign_of (sign_kind t)) e) ∙ h)
 
-sign_mark : (s : Sign) (t : List ℕ) → piece_of_kind (sign_kind s) t ≡ Mark (sign_kind s)
+pub sign_mark : (s : Sign) (t : List ℕ) → piece_of_kind (sign_kind s) t ≡ Mark (sign_kind s)
 sign_mark sign.Less t = refl
 sign_mark sign.LessEq t = refl
 sign_mark sign.Greater t = refl
@@ -80,10 +79,10 @@ sign_mark sign.GreaterEq t = refl
 sign_mark sign.Equal t = refl
 sign_mark sign.NotEqual t = refl
 
-abbrev sign_piece : Sign → List Piece
+abbrev pub sign_piece : Sign → List Piece
 sign_piece s = Mark (sign_kind s) ∷ []
 
-abbrev SignIn : (TokenKind → Option Sign) → Sign → Type 0
+abbrev pub SignIn : (TokenKind → Option Sign) → Sign → Type 0
 SignIn of s = of (sign_kind s) ≡ Some s
 
 abbrev SignSays : Sign → List Place → Sign → Type 0
@@ -120,7 +119,7 @@ sign_again n of s rest fit (w ∷ ws) end e room =
     gets_bind _ _ (λ t. t ≡ s) _ (record { value = s; ok = ap (λ (o : Option Sign). ok_or o (Grammar w.place)) (ap of same ∙ fit); is = refl }) (λ t p.
     gets_end _ _ (p, ap tail e))
 
-sign_exact : (n : ℕ) (of : TokenKind → Option Sign) → AreSigns of → Exact n (sign_at of) sign_piece (SignIn of) SignSays Always
+pub sign_exact : (n : ℕ) (of : TokenKind → Option Sign) → AreSigns of → Exact n (sign_at of) sign_piece (SignIn of) SignSays Always
 unfolding sign_at
 sign_exact n of are = record {
   found = λ at. sign_found of are at.words at.end;
@@ -136,7 +135,7 @@ abbrev pub RelationSays : Option Names → RelationText → List Place → Relat
 RelationSays scope r ps y = (y.sign ≡ r.sign) × Says scope (λ names. relation_tree names r) y
 
 -- a sign doesn't carry a sum on
-sign_ends : (s : Sign) (rest : List Piece) → SumEnds (Mark (sign_kind s) ∷ rest)
+pub sign_ends : (s : Sign) (rest : List Piece) → SumEnds (Mark (sign_kind s) ∷ rest)
 sign_ends sign.Less rest = (refl, refl)
 sign_ends sign.LessEq rest = (refl, refl)
 sign_ends sign.Greater rest = (refl, refl)
@@ -144,7 +143,7 @@ sign_ends sign.GreaterEq rest = (refl, refl)
 sign_ends sign.Equal rest = (refl, refl)
 sign_ends sign.NotEqual rest = (refl, refl)
 
-abbrev make_relation : Sign → Sum → Sum → Relation
+abbrev pub make_relation : Sign → Sum → Sum → Relation
 make_relation s left right = record { left = left; sign = s; right = right }
 
 relation_said : (scope : Option Names) (r : RelationText) (ps qs : List Place) (left right : Sum) (s : Sign) → SumSays scope r.left ps left → s ≡ r.sign → SumSays scope r.right qs right → RelationSays scope r ps (make_relation s left right)

@@ -1,19 +1,18 @@
 -- What holds in a scope of names, and nothing where any name passes; and the law of variables.
-use Rattle.std.proofs.Common.{◌≡◌, ◌≢◌, ℕ, Bool, true, false, List, [], ◌∷◌, ◌++◌, Option, Some, None, Result, Ok, Err, refl, sym, ap, subst, ◌∙◌}
-use Rattle.std.specs.Prelude.{IfOk, ok_or}
+use Rattle.std.proofs.Common.{◌≡◌, ℕ, List, [], ◌∷◌, Option, Some, None, refl, sym, ap, subst, ◌∙◌}
+use Rattle.std.specs.Prelude.{ok_or}
 use Rattle.std.specs.List.{AllByRecursion}
 use Rattle.ps_text.specs.declared.place.Place.{Place}
 use Rattle.ps_text.specs.declared.token_kind.TokenKind.TheVariants as kind
 use Rattle.ps_term.specs.declared.var.Var.{Var}
-use Rattle.ps_term.specs.declared.var.Var.TheVariants.{Global, Local}
+use Rattle.ps_term.specs.declared.var.Var.TheVariants.{Global}
 use Rattle.ps_syntax.specs.declared.read_refusal.ReadRefusal.{ReadRefusal}
 use Rattle.ps_syntax.specs.declared.read_refusal.ReadRefusal.TheVariants.{UnknownName}
-use Rattle.ps_syntax.specs.Words.{Word, At, Read, and_then, ◌>>=◌, word_at}
 use Rattle.ps_syntax.specs.Names.{Names, variable_of, variable_in, variable_at}
 use Rattle.ps_syntax.specs.Spelling.{Piece, NamePiece}
 use Rattle.ps_syntax.specs.Trees.{variable_or_first, variable_named}
 use Rattle.ps_syntax.specs.Fits.{IsKnown}
-use Rattle.ps_syntax.proofs.Steps.{places, takes_so, Ahead, Always, Finds, Gets, found_bind, found_end, found_more, gets_bind, gets_end, gets_more, Spelled, Exact}
+use Rattle.ps_syntax.proofs.Steps.{takes_so, Always, Finds, Gets, found_bind, found_end, gets_bind, gets_end, Exact}
 use Rattle.ps_syntax.proofs.Sequences.{word_exact}
 
 -- what fits in the scope's names
@@ -69,7 +68,7 @@ says_two (Some names) of t u y z h k = ap (λ x. of x z) h ∙ ap (of (t names))
 
 -- ---- variables
 
-abbrev name_piece : List ℕ → List Piece
+abbrev pub name_piece : List ℕ → List Piece
 name_piece x = NamePiece x ∷ []
 
 abbrev pub KnownIn : Option Names → List ℕ → Type 0

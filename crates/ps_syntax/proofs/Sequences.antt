@@ -1,15 +1,14 @@
 -- The laws of what is read of several steps: a word, one after the other, as long as it goes on, and read as another text.
-use Rattle.std.proofs.Common.{◌≡◌, ℕ, zero, suc, ◌+◌, ◌≤◌, Bool, true, false, List, [], ◌∷◌, ◌++◌, map, length, drop, Result, Ok, Err, refl, sym, ap, subst, ◌∙◌, arith, append_assoc, length-append}
+use Rattle.std.proofs.Common.{◌≡◌, ℕ, zero, suc, ◌+◌, ◌≤◌, Bool, true, false, List, [], ◌∷◌, ◌++◌, length, drop, Ok, Err, refl, sym, ap, subst, ◌∙◌, arith, append_assoc, length-append}
 use Rattle.std.proofs.lemmas.Bool.{cond-false}
-use Rattle.std.specs.Prelude.{IfOk, if◌then◌else◌}
+use Rattle.std.specs.Prelude.{if◌then◌else◌}
 use Rattle.std.specs.List.{flat_map, AllByRecursion}
 use Rattle.ps_text.specs.declared.place.Place.{Place}
 use Rattle.ps_text.specs.declared.token_kind.TokenKind.{TokenKind}
-use Rattle.ps_syntax.specs.declared.read_refusal.ReadRefusal.{ReadRefusal}
 use Rattle.ps_syntax.specs.declared.read_refusal.ReadRefusal.TheVariants.{Grammar}
-use Rattle.ps_syntax.specs.Words.{Word, At, Read, and_then, ◌>>=◌, is_kind, word_from, word_at, after_word, while_at}
-use Rattle.ps_syntax.specs.Spelling.{Piece, NamePiece, NumberPiece, Mark, piece_of_kind, pieces}
-use Rattle.ps_syntax.proofs.Steps.{one_kind, same_kind, kind_of, text_of, kind_of_piece, places, Takes, takes_none, takes_then, takes_so, takes_pieces, takes_places, Ahead, ahead_so, Always, Finds, Gets, found_bind, found_end, found_if, found_more, gets_bind, gets_end, gets_true, gets_false, gets_more, gets_found, Spelled, Exact}
+use Rattle.ps_syntax.specs.Words.{Word, At, Read, ◌>>=◌, is_kind, word_from, word_at, after_word, while_at}
+use Rattle.ps_syntax.specs.Spelling.{Piece, Mark, piece_of_kind, pieces}
+use Rattle.ps_syntax.proofs.Steps.{one_kind, same_kind, kind_of, text_of, kind_of_piece, places, Takes, takes_none, takes_then, takes_so, takes_pieces, takes_places, Ahead, ahead_so, Always, Finds, Gets, found_bind, found_end, found_if, found_more, gets_bind, gets_end, gets_true, gets_more, gets_found, Spelled, Exact}
 
 -- ---- a word
 
@@ -186,7 +185,7 @@ ListSays spell says (c ∷ cs) ps [] = ⊥
 ListSays spell says (c ∷ cs) ps (y ∷ ys) = says c ps y × ListSays spell says cs (drop (length (spell c)) ps) ys
 
 -- A repetition goes on where a text that fits begins, which is of a word at least, and a text may follow another.
-pub record GoesOn {C : Type 0} (goes : At → Bool) (begins : List Piece → Bool) (spell : C → List Piece) (fits : C → Type 0) (follows : List Piece → Type 0) : Type 0 where
+pub record GoesOn {C : Type 0} (goes : At → Bool) (begins : List Piece → Bool) (spell : C → List Piece) (follows : List Piece → Type 0) : Type 0 where
   pub same : (n : ℕ) (at : At) (ps : List Piece) → Ahead n at ps → goes at ≡ begins ps
   pub starts : (c : C) (rest : List Piece) → begins (spell c ++ rest) ≡ true
   pub joins : (c : C) (rest : List Piece) → follows (spell c ++ rest)
@@ -216,7 +215,7 @@ while_stops goes read zero at h = refl
 while_stops goes read (suc m) at h = cond-false _ _ _ h
 
 while_again : {C A : Type 0} {n : ℕ} {read : Read A} {spell : C → List Piece} {fits : C → Type 0} {says : C → List Place → A → Type 0} {follows : List Piece → Type 0}
-    (goes : At → Bool) (begins : List Piece → Bool) → GoesOn goes begins spell fits follows → Exact n read spell fits says follows
+    (goes : At → Bool) (begins : List Piece → Bool) → GoesOn goes begins spell follows → Exact n read spell fits says follows
     → (cs : List C) (m : ℕ) (at : At) (rest : List Piece) → length cs ≤ m → AllByRecursion fits cs → Ahead n at (flat_map spell cs ++ rest) → Ends begins follows rest
     → Gets (while_at goes read m at) (λ y. ListSays spell says cs (places at.words) y.0 × Ahead n y.1 rest)
 unfolding while_at
@@ -235,7 +234,7 @@ while_again {n = n} {spell = spell} {says = says} {follows = follows} goes begin
     next (d ∷ ds) = subst follows (sym (append_assoc (spell d) (flat_map spell ds) rest)) (on.joins d (flat_map spell ds ++ rest))
 
 -- there are no more texts than words of them
-few : {C : Type 0} (spell : C → List Piece) → ((c : C) → 1 ≤ length (spell c)) → (cs : List C) (rest : List Piece) → length cs ≤ length (flat_map spell cs ++ rest)
+pub few : {C : Type 0} (spell : C → List Piece) → ((c : C) → 1 ≤ length (spell c)) → (cs : List C) (rest : List Piece) → length cs ≤ length (flat_map spell cs ++ rest)
 few spell some [] rest = omega arith
 few spell some (c ∷ cs) rest =
     let h : length cs ≤ length (flat_map spell cs ++ rest) = few spell some cs rest in
@@ -243,7 +242,7 @@ few spell some (c ∷ cs) rest =
     omega (arith, h, l, some c)
 
 pub while_exact : {C A : Type 0} {n : ℕ} {read : Read A} {spell : C → List Piece} {fits : C → Type 0} {says : C → List Place → A → Type 0} {follows : List Piece → Type 0}
-    (goes : At → Bool) (begins : List Piece → Bool) → GoesOn goes begins spell fits follows → Exact n read spell fits says follows
+    (goes : At → Bool) (begins : List Piece → Bool) → GoesOn goes begins spell follows → Exact n read spell fits says follows
     → Exact n (while_at goes read n) (flat_map spell) (AllByRecursion fits) (ListSays spell says) (Ends begins follows)
 while_exact {n = n} {spell = spell} goes begins on exact = record {
   found = while_found goes exact n;

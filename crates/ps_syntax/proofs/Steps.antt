@@ -1,5 +1,5 @@
 -- The laws of reading functions of words, in steps: what is read is spelled so, and what is spelled so is read.
-use Rattle.std.proofs.Common.{◌≡◌, ℕ, zero, suc, ◌+◌, ◌≤◌, Bool, true, false, ◌==◌, List, [], ◌∷◌, ◌++◌, map, length, drop, get_or, Result, Ok, Err, refl, sym, ap, subst, ◌∙◌, arith, append_assoc, length-append, eq-eqb}
+use Rattle.std.proofs.Common.{◌≡◌, ℕ, ◌≤◌, Bool, true, false, List, [], ◌∷◌, ◌++◌, map, length, drop, get_or, Result, Ok, Err, refl, sym, ap, subst, ◌∙◌, append_assoc, eq-eqb}
 use Rattle.std.specs.Prelude.{IfOk, if◌then◌else◌}
 use Rattle.std.proofs.lemmas.Bool.{cond-true, cond-false, eqb-true}
 use Rattle.std.proofs.lemmas.List.{map-append, length-map, drop_at, drop-map}
@@ -7,8 +7,7 @@ use Rattle.ps_text.specs.declared.place.Place.{Place}
 use Rattle.ps_text.specs.declared.token_kind.TokenKind.{TokenKind}
 use Rattle.ps_text.specs.declared.token_kind.TokenKind.TheVariants as kind
 use Rattle.ps_syntax.specs.declared.read_refusal.ReadRefusal.{ReadRefusal}
-use Rattle.ps_syntax.specs.declared.read_refusal.ReadRefusal.TheVariants.{Grammar}
-use Rattle.ps_syntax.specs.Words.{Word, At, Read, and_then, ◌>>=◌, kind_number, is_kind, begins_with, next_is, word_from, word_at, after_word, while_at}
+use Rattle.ps_syntax.specs.Words.{Word, At, Read, and_then, ◌>>=◌, kind_number, is_kind, begins_with, next_is}
 use Rattle.ps_syntax.specs.Spelling.{Piece, NamePiece, NumberPiece, Mark, piece_of_kind, pieces}
 
 -- ---- kinds

@@ -1,6 +1,5 @@
 -- The laws of statements, from those of the blocks in them.
-use Rattle.std.proofs.Common.{◌≡◌, ℕ, zero, suc, ◌+◌, ◌-◌, ◌≤◌, Bool, true, false, List, [], ◌∷◌, ◌++◌, length, drop, Option, Some, None, Result, Ok, Err, refl, sym, ap, subst, ◌∙◌, arith, append_assoc, length-append}
-use Rattle.std.specs.Prelude.{IfOk, if◌then◌else◌}
+use Rattle.std.proofs.Common.{◌≡◌, ℕ, suc, ◌+◌, ◌-◌, ◌≤◌, Bool, true, List, [], ◌∷◌, ◌++◌, length, drop, Option, Some, None, Result, refl, ap, subst, ◌∙◌, arith, append_assoc}
 use Rattle.std.proofs.lemmas.List.{append-nil, drop-drop}
 use Rattle.ps_text.specs.declared.place.Place.{Place}
 use Rattle.ps_text.specs.declared.token_kind.TokenKind.{TokenKind}
@@ -11,22 +10,20 @@ use Rattle.ps_syntax.specs.declared.cond.Test.{Test}
 use Rattle.ps_syntax.specs.declared.stmt.Stmt.{Stmt}
 use Rattle.ps_syntax.specs.declared.stmt.StmtKind.{StmtKind}
 use Rattle.ps_syntax.specs.declared.stmt.StmtKind.TheVariants as stmt
-use Rattle.ps_syntax.specs.declared.sum.Sum.{Sum}
 use Rattle.ps_syntax.specs.declared.read_refusal.ReadRefusal.{ReadRefusal}
-use Rattle.ps_syntax.specs.Grammar.{SumText, CondText, TestText, StmtText, assign, havoc, assume, assert, skip, atomic, if_then, if_else, while_do, BlockText, block_end, block_more}
-use Rattle.ps_syntax.specs.Words.{Word, At, Read, and_then, ◌>>=◌, is_kind, next_is, place_at, word_at, after_word}
-use Rattle.ps_syntax.specs.Names.{Names, variable_at}
-use Rattle.ps_syntax.specs.Sums.{sum_at}
-use Rattle.ps_syntax.specs.Conds.{cond_at, parens_at}
-use Rattle.ps_syntax.specs.Blocks.{ended_at, assign_at, havoc_at, cond_stmt_at, skip_at, atomic_at, else_at, if_at, while_stmt_at, kind_at}
-use Rattle.ps_syntax.specs.Spelling.{Piece, NamePiece, Mark, sum_pieces, cond_pieces, test_pieces, stmt_pieces, rest_pieces, block_pieces}
-use Rattle.ps_syntax.specs.Trees.{variable_named, sum_tree, cond_tree, test_tree, stmt_tree, block_trees}
+use Rattle.ps_syntax.specs.Grammar.{SumText, TestText, StmtText, assign, havoc, atomic, if_then, if_else, while_do, BlockText}
+use Rattle.ps_syntax.specs.Words.{At, Read, next_is, after_word}
+use Rattle.ps_syntax.specs.Names.{Names}
+use Rattle.ps_syntax.specs.Conds.{parens_at}
+use Rattle.ps_syntax.specs.Blocks.{ended_at, assign_at, havoc_at, cond_stmt_at, skip_at, atomic_at, else_at, if_at}
+use Rattle.ps_syntax.specs.Spelling.{Piece, Mark, cond_pieces, test_pieces, stmt_pieces, rest_pieces, block_pieces}
+use Rattle.ps_syntax.specs.Trees.{variable_named, cond_tree, test_tree, stmt_tree, block_trees}
 use Rattle.ps_syntax.specs.Fits.{IsKnown, SumFits, CondFits, TestFits, StmtFits, RestFits}
-use Rattle.ps_syntax.proofs.Steps.{places, Takes, takes_none, takes_then, takes_so, takes_places, Ahead, ahead_so, begins_piece, next_ahead, Not, Always, Finds, Gets, found_bind, found_end, found_if, found_more, gets_bind, gets_end, gets_true, gets_false, gets_more, Spelled, Exact}
-use Rattle.ps_syntax.proofs.Sequences.{word_exact, IsMark, exact_as, exact_again, mapped, mapped_exact, after_exact, both, BothSay, both_exact, closed_exact}
+use Rattle.ps_syntax.proofs.Steps.{places, takes_none, takes_then, takes_so, takes_places, Ahead, ahead_so, next_ahead, Not, Always, Finds, Gets, found_bind, found_end, found_if, found_more, gets_bind, gets_end, gets_true, gets_false, Spelled, Exact}
+use Rattle.ps_syntax.proofs.Sequences.{word_exact, IsMark, exact_as, exact_again, mapped_exact, after_exact, both, both_exact, closed_exact}
 use Rattle.ps_syntax.proofs.Scopes.{variable_exact}
-use Rattle.ps_syntax.proofs.SumLaws.{SumEnds, sum_exact}
-use Rattle.ps_syntax.proofs.CondLaws.{Is, CondEnds, cond_exact, parens_exact}
+use Rattle.ps_syntax.proofs.SumLaws.{sum_exact}
+use Rattle.ps_syntax.proofs.CondLaws.{cond_exact, parens_exact}
 
 -- ---- blocks
 
@@ -232,3 +229,12 @@ then_said names t b ps y h = if_said names (record { test = t; held = b; failed 
 pub else_said : (names : Names) (t : TestText) (b c : BlockText) (ps : List Place) (y : StmtKind) → IfIs names (record { test = t; held = b; failed = Some c }) ps y → StmtIs names (if_else t b c) ps y
 unfolding if_of
 else_said names t b c ps y h = if_said names (record { test = t; held = b; failed = Some c }) ps y h
+
+-- what holds of each `if` holds of the one with these parts
+pub if_is : (P : StmtText → Type 0) → ((t : TestText) (b : BlockText) → P (if_then t b)) → ((t : TestText) (b c : BlockText) → P (if_else t b c)) → (c : IfText) → P (if_of c)
+unfolding if_of
+if_is P h k c = by_else c.failed
+  where
+    by_else : (o : Option BlockText) → P (elim o as (λ _. StmtText) [ None ↦ if_then c.test c.held | Some b ↦ if_else c.test c.held b ])
+    by_else None = h c.test c.held
+    by_else (Some b) = k c.test c.held b

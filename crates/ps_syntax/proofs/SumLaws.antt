@@ -1,32 +1,26 @@
 -- The laws of sums and relations.
-use Rattle.std.proofs.Common.{◌≡◌, ◌≢◌, ℕ, ℤ, pos, Bool, true, false, ◌||◌, List, [], ◌∷◌, ◌++◌, map, length, drop, Option, Some, None, Result, Ok, Err, refl, sym, ap, subst, ◌∙◌, arith, append_assoc}
-use Rattle.std.specs.Prelude.{IfOk, ok_or, if◌then◌else◌}
+use Rattle.std.proofs.Common.{◌≡◌, ℕ, ℤ, pos, Bool, true, false, ◌||◌, List, [], ◌∷◌, ◌++◌, map, Option, Some, None, refl, sym, ap, subst, ◌∙◌, arith, append_assoc}
 use Rattle.std.specs.List.{flat_map, All, AllByRecursion}
 use Rattle.std.proofs.lemmas.List.Elements.{All-nil, All-cons, All-head, All-tail}
 use Rattle.ps_text.specs.declared.place.Place.{Place}
 use Rattle.ps_text.specs.declared.token_kind.TokenKind.{TokenKind}
 use Rattle.ps_text.specs.declared.token_kind.TokenKind.TheVariants as kind
 use Rattle.ps_term.specs.declared.var.Var.{Var}
-use Rattle.ps_syntax.specs.declared.read_refusal.ReadRefusal.{ReadRefusal}
-use Rattle.ps_syntax.specs.declared.read_refusal.ReadRefusal.TheVariants.{Grammar, NotLinear}
-use Rattle.ps_syntax.specs.declared.relation.Relation.{Relation}
-use Rattle.ps_syntax.specs.declared.relation.Sign.{Sign}
-use Rattle.ps_syntax.specs.declared.relation.Sign.TheVariants as sign
 use Rattle.ps_syntax.specs.declared.sum.Sum.{Sum}
-use Rattle.ps_syntax.specs.Grammar.{ProductText, number, name, number_name, name_number, SumText, RelationText}
-use Rattle.ps_syntax.specs.Words.{Word, At, Read, and_then, ◌>>=◌, is_kind, next_is, place_at, word_at, after_word, while_at}
-use Rattle.ps_syntax.specs.Names.{Names, variable_at}
-use Rattle.ps_syntax.specs.Sums.{number_value, factor_at, number_product_at, name_product_at, product_at, signed, first_product_at, further_product_at, adds, sum_at, sign_of, init_sign_of, sign_from, sign_at, relation_at}
-use Rattle.ps_syntax.specs.Spelling.{Piece, NamePiece, NumberPiece, Mark, piece_of_kind, product_pieces, minus_pieces, plus_or_minus, further_pieces, sum_pieces, sign_kind, relation_pieces}
-use Rattle.ps_syntax.specs.Trees.{variable_named, product_tree, sum_tree, relation_tree}
-use Rattle.ps_syntax.specs.Fits.{ProductFits, SumFits, RelationFits}
-use Rattle.ps_syntax.proofs.Steps.{places, kind_of, Takes, takes_then, takes_so, Ahead, ahead_so, begins_piece, next_ahead, Not, Always, Finds, Gets, found_bind, found_end, found_if, found_more, gets_bind, gets_end, gets_true, gets_false, gets_more, Spelled, Exact}
-use Rattle.ps_syntax.proofs.Sequences.{word_exact, exact_as, mapped, mapped_exact, after_exact, both, BothSay, both_exact, ListSays, GoesOn, Ends, while_exact}
-use Rattle.ps_syntax.proofs.Scopes.{FitsIn, Says, fits_both, fits_first, fits_second, fits_as, fits_all, fits_each, says_const, says_of, says_two, KnownIn, VariableSays, variable_exact}
+use Rattle.ps_syntax.specs.Grammar.{ProductText, number, name, number_name, name_number, SumText}
+use Rattle.ps_syntax.specs.Words.{At, is_kind, next_is, after_word}
+use Rattle.ps_syntax.specs.Names.{Names}
+use Rattle.ps_syntax.specs.Sums.{number_value, factor_at, number_product_at, name_product_at, product_at, signed, first_product_at, further_product_at, adds, sum_at}
+use Rattle.ps_syntax.specs.Spelling.{Piece, NamePiece, NumberPiece, Mark, product_pieces, minus_pieces, plus_or_minus, further_pieces, sum_pieces}
+use Rattle.ps_syntax.specs.Trees.{variable_named, product_tree, sum_tree}
+use Rattle.ps_syntax.specs.Fits.{ProductFits, SumFits}
+use Rattle.ps_syntax.proofs.Steps.{places, Takes, takes_then, takes_so, Ahead, begins_piece, next_ahead, Not, Always, Finds, Gets, found_bind, found_end, found_if, found_more, gets_bind, gets_end, gets_true, gets_false, Spelled, Exact}
+use Rattle.ps_syntax.proofs.Sequences.{word_exact, exact_as, mapped, mapped_exact, after_exact, both_exact, ListSays, GoesOn, Ends, while_exact}
+use Rattle.ps_syntax.proofs.Scopes.{FitsIn, Says, fits_both, fits_first, fits_second, fits_as, fits_all, fits_each, says_const, says_of, says_two, KnownIn, variable_exact}
 
 -- ---- products
 
-abbrev number_piece : List ℕ → List Piece
+abbrev pub number_piece : List ℕ → List Piece
 number_piece d = NumberPiece d ∷ []
 
 abbrev NumberSays : List ℕ → List Place → ℤ → Type 0
@@ -139,7 +133,7 @@ product_begins k a b (name x) rest = b
 product_begins k a b (number_name d x) rest = a
 product_begins k a b (name_number x d) rest = b
 
-abbrev SignedText : Type 0
+abbrev pub SignedText : Type 0
 SignedText = Bool × ProductText
 
 abbrev SignedIn : Option Names → SignedText → Type 0
@@ -148,10 +142,10 @@ SignedIn scope c = ProductIn scope c.1
 abbrev SignedSays : Option Names → SignedText → List Place → ℤ × Option Var → Type 0
 SignedSays scope c ps y = Says scope (λ names. signed c.0 (product_tree names c.1)) y
 
-abbrev first_pieces : SignedText → List Piece
+abbrev pub first_pieces : SignedText → List Piece
 first_pieces c = minus_pieces c.0 ++ product_pieces c.1
 
-abbrev further_piece : SignedText → List Piece
+abbrev pub further_piece : SignedText → List Piece
 further_piece c = Mark (plus_or_minus c.0) ∷ product_pieces c.1
 
 after_minus : (n : ℕ) (scope : Option Names) → Exact n (mapped (signed true) (after_word kind.Minus (product_at scope))) (λ c. Mark kind.Minus ∷ product_pieces c) (ProductIn scope) (λ c. SignedSays scope (true, c)) (Not kind.Star)
@@ -188,32 +182,32 @@ begins_adding ps = begins_piece kind.Plus ps || begins_piece kind.Minus ps
 abbrev pub SumEnds : List Piece → Type 0
 SumEnds = Ends begins_adding (Not kind.Star)
 
-adding : (c : SignedText) (rest : List Piece) → begins_adding (further_piece c ++ rest) ≡ true
+pub adding : (c : SignedText) (rest : List Piece) → begins_adding (further_piece c ++ rest) ≡ true
 adding (true, c) rest = refl
 adding (false, c) rest = refl
 
-not_star : (c : SignedText) (rest : List Piece) → Not kind.Star (further_piece c ++ rest)
+pub not_star : (c : SignedText) (rest : List Piece) → Not kind.Star (further_piece c ++ rest)
 not_star (true, c) rest = refl
 not_star (false, c) rest = refl
 
-further_goes_on : (scope : Option Names) → GoesOn adds begins_adding further_piece (SignedIn scope) (Not kind.Star)
-further_goes_on scope = record {
+pub further_goes_on : GoesOn adds begins_adding further_piece (Not kind.Star)
+further_goes_on = record {
   same = λ n at ps h. ap (λ (t : Bool). t || next_is kind.Minus at) (next_ahead kind.Plus h) ∙ ap (λ (t : Bool). begins_piece kind.Plus ps || t) (next_ahead kind.Minus h);
   starts = adding;
   joins = not_star;
   some = λ c. omega arith;
 }
 
-abbrev sum_of : SignedText × List SignedText → SumText
+abbrev pub sum_of : SignedText × List SignedText → SumText
 sum_of c = record { negative = c.0.0; first = c.0.1; further = c.1 }
 
-abbrev parts_of : SumText → SignedText × List SignedText
+abbrev pub parts_of : SumText → SignedText × List SignedText
 parts_of s = ((s.negative, s.first), s.further)
 
-abbrev make_sum : ℤ × Option Var → List (ℤ × Option Var) → Sum
+abbrev pub make_sum : ℤ × Option Var → List (ℤ × Option Var) → Sum
 make_sum p ps = record { terms = p ∷ ps }
 
-further_is : (ds : List SignedText) → flat_map further_piece ds ≡ further_pieces ds
+pub further_is : (ds : List SignedText) → flat_map further_piece ds ≡ further_pieces ds
 further_is [] = refl
 further_is (d ∷ ds) = ap (λ (ps : List Piece). further_piece d ++ ps) (further_is ds)
 
@@ -256,7 +250,7 @@ sum_unfit scope s h = (
   (fits_as scope (λ names. AllFurther names s.further) _ (λ names g. all_to (λ (p : SignedText). ProductFits names p.1) s.further g) (fits_second scope (λ names. ProductFits names s.first) (λ names. AllFurther names s.further) h)),
 )
 
-further_joins : (ds : List SignedText) (rest : List Piece) → SumEnds rest → Not kind.Star (flat_map further_piece ds ++ rest)
+pub further_joins : (ds : List SignedText) (rest : List Piece) → SumEnds rest → Not kind.Star (flat_map further_piece ds ++ rest)
 further_joins [] rest stop = stop.1
 further_joins ((true, c) ∷ ds) rest stop = refl
 further_joins ((false, c) ∷ ds) rest stop = refl
@@ -270,4 +264,4 @@ sum_exact n scope =
     (sum_unfit scope)
     (λ c ps y h. subst (λ (z : Sum). SumSays scope (sum_of c) ps z) (sym h.is)
       (says_two scope make_sum (λ names. signed c.0.0 (product_tree names c.0.1)) (λ names. further_trees names c.1) h.first h.second h.said_first (further_said scope c.1 _ h.second h.said_second)))
-    (both_exact make_sum (record { found = first_found n scope; again = first_again n scope }) (while_exact adds begins_adding (further_goes_on scope) (record { found = further_found n scope; again = further_again n scope })) (λ ds rest fit stop. further_joins ds rest stop))
+    (both_exact make_sum (record { found = first_found n scope; again = first_again n scope }) (while_exact adds begins_adding further_goes_on (record { found = further_found n scope; again = further_again n scope })) (λ ds rest fit stop. further_joins ds rest stop))
