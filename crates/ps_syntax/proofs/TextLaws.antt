@@ -11,7 +11,8 @@ use Rattle.ps_syntax.specs.declared.read_refusal.ReadRefusal.{ReadRefusal}
 use Rattle.ps_syntax.specs.declared.read_refusal.ReadRefusal.TheVariants as refusal
 use Rattle.ps_syntax.specs.Words.{Tells, words_of}
 use Rattle.ps_syntax.specs.Items.{program_of}
-use Rattle.ps_syntax.specs.Texts.{IsProgram, TokenIsBad, end_of, uncut}
+use Rattle.ps_syntax.specs.Texts.{IsProgram, TokenIsBad, GrammarIsFault, end_of, uncut}
+use Rattle.ps_syntax.proofs.ProgramGuards.{program_of_grammar}
 use Rattle.ps_syntax.proofs.NoTokens.{Never, program_never}
 use Rattle.ps_syntax.proofs.ProgramLaws.{program_of_found, program_of_again}
 
@@ -62,3 +63,20 @@ cut_token bytes ts (Err (refusal.NotLinear place)) tells = tt
 cut_token bytes ts (Err (refusal.LoopInAtomic place)) tells = tt
 cut_token bytes ts (Err (refusal.Limit place l)) tells = tt
 cut_token bytes ts (Err (refusal.Memory e)) tells = tt
+
+-- ---- where a fault of the grammar stands
+
+pub uncut_grammar : (bytes : List ℕ) (end : TokenEnd) → GrammarIsFault bytes (uncut end)
+uncut_grammar bytes (token.BadToken place) = tt
+uncut_grammar bytes (token.Memory e) = tt
+
+pub cut_grammar : (bytes : List ℕ) (ts : List Token) (result : Result Program ReadRefusal) → AreTokens bytes ts → Tells (λ (p : Program). p) result (program_of (words_of bytes ts) (end_of bytes)) → IfErr result (GrammarIsFault bytes)
+cut_grammar bytes ts (Ok p) cut tells = tt
+cut_grammar bytes ts (Err (refusal.Token place)) cut tells = tt
+cut_grammar bytes ts (Err (refusal.Grammar place)) cut tells = record { tokens = ts; cut = cut; is = program_of_grammar (words_of bytes ts) (end_of bytes) place tells }
+cut_grammar bytes ts (Err (refusal.UnknownName place)) cut tells = tt
+cut_grammar bytes ts (Err (refusal.Twice place)) cut tells = tt
+cut_grammar bytes ts (Err (refusal.NotLinear place)) cut tells = tt
+cut_grammar bytes ts (Err (refusal.LoopInAtomic place)) cut tells = tt
+cut_grammar bytes ts (Err (refusal.Limit place l)) cut tells = tt
+cut_grammar bytes ts (Err (refusal.Memory e)) cut tells = tt

@@ -8,7 +8,7 @@ use Rattle.ps_text.specs.declared.token_end.TokenEnd.{TokenEnd}
 use Rattle.ps_text.specs.declared.token_end.TokenEnd.TheVariants as token
 use Rattle.ps_syntax.specs.declared.read_refusal.ReadRefusal.{ReadRefusal}
 use Rattle.ps_syntax.specs.declared.read_refusal.ReadRefusal.TheVariants as refusal
-use Rattle.ps_syntax.specs.Reads.{IsProgramText}
+use Rattle.ps_syntax.specs.Reads.{IsProgramText, IsFirstFault}
 use Rattle.ps_syntax.specs.Words.{words_of}
 
 -- Where a text ends: just after its last byte.
@@ -30,3 +30,14 @@ uncut (token.Memory e) = refusal.Memory e
 abbrev pub TokenIsBad : List ℕ → ReadRefusal → Type 0
 TokenIsBad bytes (refusal.Token place) = IsBadAt bytes place
 TokenIsBad bytes e = Unit {0}
+
+-- The text has tokens, and at the place its words first go on as no text of the grammar.
+pub record IsFaultAt (bytes : List ℕ) (place : Place) : Type 0 where
+  pub tokens : List Token
+  pub cut : AreTokens bytes tokens
+  pub is : IsFirstFault (words_of bytes tokens) (end_of bytes) place
+
+-- A refusal that says a fault of the grammar stands at it.
+abbrev pub GrammarIsFault : List ℕ → ReadRefusal → Type 0
+GrammarIsFault bytes (refusal.Grammar place) = IsFaultAt bytes place
+GrammarIsFault bytes e = Unit {0}

@@ -9,7 +9,7 @@ ghost use Rattle.ps_syntax.specs.declared.read_refusal.ReadRefusal.TheVariants a
 ghost use Rattle.ps_syntax.specs.Within.{AreWithin};
 ghost use Rattle.ps_syntax.specs.Words.{Tells, words_of};
 ghost use Rattle.ps_syntax.specs.Items.{program_at, program_of};
-ghost use Rattle.ps_syntax.specs.Texts.{end_of, uncut, IsProgram, TokenIsBad};
+ghost use Rattle.ps_syntax.specs.Texts.{end_of, uncut, IsProgram, TokenIsBad, GrammarIsFault};
 
 use crate::cursor::Cursor;
 use crate::items::items;
@@ -17,7 +17,7 @@ use crate::parser::Parser;
 use crate::program::Program;
 use crate::read_refusal::ReadRefusal;
 use crate::scope::Scope;
-use ps_text::{Token, TokenEnd, TokenKind, place_of_end, tokens};
+use ps_text::{Token, TokenEnd, TokenKind, end_place, tokens};
 use std::alloc::Global;
 
 // How many levels of `{`, `(` and `!` a program may have.
@@ -47,7 +47,7 @@ fn program_of(alloc: Global, bytes: &[u8], list: &[Token]) -> Result<Program, Re
     requires few { length list.now < 2 ^ 32 }
     ensures { Tells (λ x. x) result (program_of (words_of bytes.now list.now) (end_of bytes.now)) }
 {
-    let mut cursor = Cursor::new(bytes, list, place_of_end(bytes));
+    let mut cursor = Cursor::new(bytes, list, end_place(bytes));
     program(alloc, list.len() as u32, &mut cursor)
 }
 
@@ -74,6 +74,8 @@ pub fn read_program(alloc: Global, bytes: &[u8]) -> Result<Program, ReadRefusal>
     // A bad byte goes before all other refusals, and `Token` is said of nothing else.
     ensures bad { (place : Place) → IsBadAt bytes.now place → Tells {A = Program} (λ x. x) result (Err (refusal.Token place)) }
     ensures token { IfErr result (TokenIsBad bytes.now) }
+    // `Grammar` stands at the first word, or the end, with which no text of the grammar goes on.
+    ensures grammar { IfErr result (GrammarIsFault bytes.now) }
 {
     match tokens(alloc, bytes) {
         Ok(list) => program_of(alloc, bytes, &list),

@@ -1,13 +1,13 @@
 -- The pass over a whole text: what is done so far, and its steps.
-use Rattle.std.proofs.Common.{◌≡◌, ◌≢◌, ℕ, zero, suc, ◌+◌, ◌-◌, ◌<◌, ◌≤◌, Bool, true, false, ◌||◌, eqb, cond, List, [], ◌∷◌, ◌++◌, length, take, drop, get_or, Option, Some, None, slice_index, refl, sym, ◌∙◌, ap, subst, arith, add-one, append_assoc}
+use Rattle.std.proofs.Common.{◌≡◌, ℕ, suc, ◌+◌, ◌-◌, ◌<◌, ◌≤◌, Bool, true, false, eqb, cond, List, [], ◌∷◌, ◌++◌, length, take, drop, get_or, Some, None, refl, sym, ◌∙◌, ap, subst, arith}
 use Rattle.std.specs.Prelude.{slice_range}
-use Rattle.std.proofs.lemmas.List.{length-append, length-take, length-take-le, take-append-drop, length-drop, drop-drop, take_more, get_or-take, get_or-drop}
+use Rattle.std.proofs.lemmas.List.{length-take, take-append-drop, length-drop, drop-drop, take_more, get_or-take, get_or-drop}
 use Rattle.ps_text.specs.declared.place.Place.{Place}
 use Rattle.ps_text.specs.declared.token.Token.{Token}
 use Rattle.ps_text.specs.declared.token_kind.TokenKind.{TokenKind}
-use Rattle.ps_text.specs.Lexing.{next_place, place_after, first_place, place_of, IsToken, IsGap, IsTokenOf, IsGapBetween, AreUpTo, AreTokens, IsBadAt, StartsNoToken}
+use Rattle.ps_text.specs.Lexing.{next_place, place_after, first_place, place_of, IsTokenOf, IsGapBetween, AreUpTo, AreTokens, IsBadAt, StartsNoToken}
 use Rattle.ps_text.specs.Scanning.{gap_len, token_at, IsFrom}
-use Rattle.ps_text.proofs.Gaps.{gap_is, gap_stops, gap_within, starts_no_gap}
+use Rattle.ps_text.proofs.Gaps.{gap_is, gap_stops, starts_no_gap}
 use Rattle.ps_text.proofs.Front.{IsAhead, Ahead, token_ahead, token_found}
 
 -- ---- places

@@ -1,20 +1,20 @@
 -- Tokens: what is found at the front of a text is a token, and any token is found.
-use Rattle.std.proofs.Common.{◌≡◌, ◌≢◌, ℕ, zero, suc, ◌+◌, ◌<◌, ◌≤◌, Bool, true, false, not, ◌&&◌, ◌||◌, eqb, leb, ltb, cond, List, [], ◌∷◌, ◌++◌, length, take, drop, Option, Some, None, slice_index, option_map, refl, sym, ◌∙◌, ap, subst, arith, add-one, lit<}
+use Rattle.std.proofs.Common.{◌≡◌, ◌≢◌, ℕ, suc, ◌+◌, ◌<◌, ◌≤◌, Bool, true, false, ◌&&◌, eqb, leb, cond, List, [], ◌∷◌, ◌++◌, length, take, drop, Option, Some, None, slice_index, option_map, refl, sym, ◌∙◌, ap, subst, arith, lit<}
 use Rattle.std.specs.Prelude.{codes}
 use Rattle.std.specs.List.{list_all, prefix_len}
 use Rattle.std.specs.Str.{bytes_eq}
-use Rattle.std.proofs.lemmas.Bool.{eqb-true}
+use Rattle.std.proofs.lemmas.Bool.{eqb-true, and_parts}
 use Rattle.std.proofs.lemmas.Bool.Decides.{nat_tests}
 use Rattle.std.proofs.lemmas.Bool.Decides.{nat_tests}
 use Rattle.std.proofs.lemmas.Slice.Eq.{bytes_eq-Decides}
-use Rattle.std.proofs.lemmas.List.{length-append, length-take-le, take-append-drop}
+use Rattle.std.proofs.lemmas.List.{length-take-le}
 use Rattle.std.proofs.lemmas.List.Sums.{prefix_len-le-length}
 use Rattle.std.proofs.Math.Seq.{take-append_seam}
 use Rattle.ps_text.specs.declared.token_kind.TokenKind.{TokenKind}
 use Rattle.ps_text.specs.declared.token_kind.TokenKind.TheVariants.{Name, Number, Global, Local, Init, Thread, Havoc, Assume, Assert, Skip, Atomic, If, Else, While, Becomes, LessEq, GreaterEq, EqualEqual, NotEqual, And, Or, Less, Greater, Not, Equal, Plus, Minus, Star, OpenParen, CloseParen, OpenBrace, CloseBrace, Semicolon}
 use Rattle.ps_text.specs.Decimal.{are_digits}
-use Rattle.ps_text.specs.Lexing.{is_blank, is_letter, is_digit, is_name_byte, spelling, IsWord, IsName, IsNumber, IsSpelled, carries_on, IsWhole, IsToken, StartsNoToken}
-use Rattle.ps_text.specs.Scanning.{gap_len, first_spelled, reserved, double_signs, single_signs, word_kind, double_sign, single_sign, sign_at, number_at, word_at, token_at}
+use Rattle.ps_text.specs.Lexing.{is_letter, is_digit, is_name_byte, spelling, IsWord, IsName, IsNumber, IsSpelled, carries_on, IsWhole, IsToken}
+use Rattle.ps_text.specs.Scanning.{first_spelled, reserved, double_signs, single_signs, word_kind, double_sign, single_sign, sign_at, number_at, word_at, token_at}
 
 -- ---- runs of bytes that pass a test
 
@@ -136,6 +136,10 @@ word_is text w = found_is (IsWordOf text) (λ (k : TokenKind). k) Name reserved 
 word_name : (text : List ℕ) → ((kind : TokenKind) → text ≢ spelling kind) → word_kind text ≡ Name
 word_name text free = found_is (λ k. k ≡ Name) (λ (k : TokenKind). k) Name reserved text
     (λ e. absurd (free Global e), λ _. (λ e. absurd (free Local e), λ _. (λ e. absurd (free Init e), λ _. (λ e. absurd (free Thread e), λ _. (λ e. absurd (free Havoc e), λ _. (λ e. absurd (free Assume e), λ _. (λ e. absurd (free Assert e), λ _. (λ e. absurd (free Skip e), λ _. (λ e. absurd (free Atomic e), λ _. (λ e. absurd (free If e), λ _. (λ e. absurd (free Else e), λ _. (λ e. absurd (free While e), λ _. refl))))))))))))
+
+-- A word of no reserved kind is a name.
+pub name_from_kind : (text : List ℕ) → IsWord text → word_kind text ≡ Name → IsName text
+name_from_kind text w e = (subst (IsWordOf text) e (word_is text w)).spelled
 
 whole_stops : (kind : TokenKind) (p : ℕ → Bool) (after : List ℕ) → ((b : ℕ) → carries_on kind b ≡ p b) → IsWhole kind after → StopsBy p after
 whole_stops kind p [] h w = tt
@@ -288,19 +292,12 @@ word_found kind (b ∷ bs) after w h s =
 digit_no_letter : (b : ℕ) → is_digit b ≡ true → is_letter b ≡ false
 digit_no_letter b h = grind (arith, nat_tests)
 
-all_first : (p : ℕ → Bool) (b : ℕ) (bs : List ℕ) → list_all p (b ∷ bs) ≡ true → p b ≡ true
-all_first p b bs h = first (p b) (list_all p bs) h
-  where
-    first : (x y : Bool) → (x && y) ≡ true → x ≡ true
-    first true y k = refl
-    first false y k = cc
-
 number_found : (text after : List ℕ) → IsNumber text → StopsBy is_digit after → token_at (text ++ after) ≡ Some (Number, length text)
 number_found [] after w s = absurd (let k = w.some in omega arith)
 number_found (b ∷ bs) after w s =
     let digits : list_all is_digit (b ∷ bs) ≡ true = sym (digits_are (b ∷ bs)) ∙ w.digits in
     let n : prefix_len is_digit (b ∷ (bs ++ after)) ≡ length (b ∷ bs) = run_len is_digit (b ∷ bs) after digits s in
-    let d : is_digit b ≡ true = all_first is_digit b bs digits in
+    let d : is_digit b ≡ true = (and_parts (is_digit b) (list_all is_digit bs) digits).0 in
     let l : is_letter b ≡ false = digit_no_letter b d in
     let few : leb (length (b ∷ bs)) 18 ≡ true = (let k = w.few in grind (arith, nat_tests)) in
     let of_letter : token_at (b ∷ (bs ++ after)) ≡ cond (is_digit b) (number_at (prefix_len is_digit (b ∷ (bs ++ after)))) (sign_at b (slice_index (bs ++ after) 0)) = ap (λ (t : Bool). cond t (word_at (prefix_len is_name_byte (b ∷ (bs ++ after))) (b ∷ (bs ++ after))) (cond (is_digit b) (number_at (prefix_len is_digit (b ∷ (bs ++ after)))) (sign_at b (slice_index (bs ++ after) 0)))) l in

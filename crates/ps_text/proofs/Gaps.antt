@@ -1,7 +1,7 @@
 -- Blanks and comments: the count of their bytes gives a gap, and any gap is counted.
-use Rattle.std.proofs.Common.{◌≡◌, ◌≢◌, ℕ, zero, suc, ◌+◌, ◌<◌, ◌≤◌, Bool, true, false, not, ◌&&◌, ◌||◌, eqb, cond, List, [], ◌∷◌, ◌++◌, length, take, drop, Option, Some, None, slice_index, refl, sym, ◌∙◌, ap, subst, arith, add-one, append_assoc, ◌⊎◌, inl, inr}
+use Rattle.std.proofs.Common.{◌≡◌, ℕ, suc, ◌+◌, ◌≤◌, Bool, true, false, not, ◌&&◌, ◌||◌, eqb, cond, List, [], ◌∷◌, ◌++◌, length, take, drop, Option, Some, None, slice_index, refl, sym, ◌∙◌, ap, arith, add-one, append_assoc}
 use Rattle.std.specs.List.{list_all}
-use Rattle.std.proofs.lemmas.Bool.{eqb-true}
+use Rattle.std.proofs.lemmas.Bool.{eqb-true, and_parts}
 use Rattle.std.proofs.lemmas.List.{length-append, length-take-le, take-append-drop}
 use Rattle.ps_text.specs.Lexing.{is_blank, is_comment_byte, EndsComment, IsGap, Nothing, Blank, Comment, StartsNoGap}
 use Rattle.ps_text.specs.Scanning.{gap_step, gap_from, gap_len}
@@ -90,10 +90,6 @@ SoundTail (c ∷ cs) = Sound true cs
 step_other : (b next : ℕ) (t : Bool) → is_blank b ≡ false → (eqb b 47 && eqb next 47) ≡ t → gap_step false b next ≡ cond t (Some true) None
 step_other b next t h e = ap (λ (u : Bool). cond u (Some false) (cond (eqb b 47 && eqb next 47) (Some true) None)) h ∙ ap (λ (u : Bool). cond u (Some true) None) e
 
-both_true : (a b : Bool) → (a && b) ≡ true → (a ≡ true) × (b ≡ true)
-both_true true b h = (refl, h)
-both_true false b h = cc
-
 slashes : (b : ℕ) (bs : List ℕ) → b ≡ 47 → slice_index bs 0 ≡ 47 → gap_step false b (slice_index bs 0) ≡ Some true → SoundTail bs → Sound false (b ∷ bs)
 slashes b [] e f g c = absurd (omega arith)
 slashes b (c ∷ cs) e f g tail =
@@ -105,7 +101,7 @@ slashes b (c ∷ cs) e f g tail =
 
 other_front : (b : ℕ) (bs : List ℕ) (t : Bool) → is_blank b ≡ false → (eqb b 47 && eqb (slice_index bs 0) 47) ≡ t → SoundTail bs → Sound false (b ∷ bs)
 other_front b bs true h e tail =
-    let both = both_true (eqb b 47) (eqb (slice_index bs 0) 47) e in
+    let both = and_parts (eqb b 47) (eqb (slice_index bs 0) 47) e in
     slashes b bs (eqb-true b 47 both.0) (eqb-true (slice_index bs 0) 47 both.1) (step_other b (slice_index bs 0) true h e) tail
 other_front b bs false h e tail = rw (gap_ends false b bs (step_other b (slice_index bs 0) false h e)) Nothing
 

@@ -1,14 +1,14 @@
 -- A text has one list of tokens, or is bad at one place, and never both.
-use Rattle.std.proofs.Common.{◌≡◌, ◌≢◌, ℕ, zero, suc, ◌+◌, ◌-◌, ◌<◌, ◌≤◌, Bool, true, false, ◌||◌, ◌&&◌, eqb, cond, List, [], ◌∷◌, ◌++◌, length, take, drop, Option, Some, None, slice_index, refl, sym, ◌∙◌, ap, ap₂, subst, arith, eq-eqb}
+use Rattle.std.proofs.Common.{◌≡◌, ℕ, ◌+◌, ◌-◌, ◌<◌, ◌≤◌, Bool, true, false, ◌||◌, eqb, cond, List, [], ◌∷◌, ◌++◌, length, take, drop, Option, Some, None, refl, sym, ◌∙◌, ap, ap₂, subst, arith, eq-eqb}
 use Rattle.std.specs.Prelude.{slice_range, All}
 use Rattle.std.proofs.lemmas.List.Elements.{All-nil, All-cons, All-weaker}
 use Rattle.std.proofs.lemmas.Bool.{eqb-true}
-use Rattle.std.proofs.lemmas.List.{length-take, length-drop, take-append-drop, drop-drop}
+use Rattle.std.proofs.lemmas.List.{length-take, take-append-drop}
 use Rattle.std.proofs.Math.Seq.{drop-length}
 use Rattle.ps_text.specs.declared.place.Place.{Place}
 use Rattle.ps_text.specs.declared.token.Token.{Token}
 use Rattle.ps_text.specs.declared.token_kind.TokenKind.{TokenKind}
-use Rattle.ps_text.specs.Lexing.{is_blank, place_of, IsToken, IsGap, IsTokenOf, IsInside, IsGapBetween, AreUpTo, AreTokens, IsBadAt, StartsNoToken, StartsNoGap}
+use Rattle.ps_text.specs.Lexing.{is_blank, place_of, IsToken, IsTokenOf, IsInside, IsGapBetween, AreUpTo, AreTokens, IsBadAt, StartsNoToken, StartsNoGap}
 use Rattle.ps_text.specs.Scanning.{gap_len, token_at}
 use Rattle.ps_text.proofs.Gaps.{gap_counted, counts_no_gap, no_gap_at}
 use Rattle.ps_text.proofs.Front.{IsAhead, Ahead, token_ahead, token_found}

@@ -1,5 +1,5 @@
 -- Texts that are written word by word are cut into these words.
-use Rattle.std.proofs.Common.{◌≡◌, ℕ, ◌+◌, ◌-◌, ◌<◌, ◌≤◌, Bool, true, false, cond, List, [], ◌∷◌, ◌++◌, length, take, drop, map, refl, sym, ◌∙◌, ap, ap₂, arith, append_assoc}
+use Rattle.std.proofs.Common.{◌≡◌, ℕ, ◌+◌, ◌-◌, ◌≤◌, Bool, true, false, cond, List, [], ◌∷◌, ◌++◌, length, take, drop, map, refl, sym, ◌∙◌, ap, ap₂, arith, append_assoc}
 use Rattle.std.specs.Prelude.{slice_range}
 use Rattle.std.specs.Prelude.{All}
 use Rattle.std.specs.List.{flat_map}
@@ -9,7 +9,7 @@ use Rattle.std.proofs.Math.Seq.{take-append_seam, drop-append_seam}
 use Rattle.ps_text.specs.declared.token.Token.{Token}
 use Rattle.ps_text.specs.declared.token_kind.TokenKind.{TokenKind}
 use Rattle.ps_text.specs.declared.token_kind.TokenKind.TheVariants.{Name, Number, Global, Local, Init, Thread, Havoc, Assume, Assert, Skip, Atomic, If, Else, While, Becomes, LessEq, GreaterEq, EqualEqual, NotEqual, And, Or, Less, Greater, Not, Equal, Plus, Minus, Star, OpenParen, CloseParen, OpenBrace, CloseBrace, Semicolon}
-use Rattle.ps_text.specs.Lexing.{place_of, carries_on, IsWhole, IsGap, Nothing, Blank, IsTokenOf, IsGapBetween, AreUpTo, AreTokens, Written, IsWritten, word_bytes, kind_and_text, word_parts, HasTokens}
+use Rattle.ps_text.specs.Lexing.{place_of, carries_on, IsGap, Nothing, Blank, IsGapBetween, AreUpTo, Written, IsWritten, word_bytes, kind_and_text, word_parts, HasTokens}
 
 -- What follows a word.
 abbrev separator : Bool → ℕ

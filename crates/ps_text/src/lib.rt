@@ -1,4 +1,4 @@
-//! Texts as bytes: decimals, lines of fields, and a reader and printers for forms that are lists of lines.
+//! Texts as bytes: decimals, lines of fields, a reader and printers for forms that are lists of lines, and tokens of program texts.
 #![tactic(auto)]
 
 mod decimal;
@@ -49,7 +49,7 @@ pub use splitting::lines;
 pub use token::{Token, text_of};
 pub use token_end::TokenEnd;
 pub use token_kind::TokenKind;
-pub use tokenizing::{place_of_end, tokens};
+pub use tokenizing::{end_place, tokens};
 pub use until::Until;
 
 #[cfg(test)]

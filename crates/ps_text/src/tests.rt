@@ -245,6 +245,7 @@ fn reads_a_token(rt: HostRuntime) -> Result<(), Fail> {
         place: Place { line: 1, column: 3 },
     };
     assert_eq!(rt; text_of(text, token), b"007".as_slice());
+    assert_eq!(rt; end_place(b"x\n 007"), Place { line: 2, column: 5 });
     assert_eq!(rt; number_value(b"007"), 7);
     assert_eq!(rt;
         number_value(b"999999999999999999"),

@@ -11,6 +11,9 @@ use crate::token_end::TokenEnd;
 use crate::token_kind::TokenKind;
 use std::alloc::Global;
 
+// Where a text begins.
+const FIRST: Place = Place { line: 1, column: 1 };
+
 // Where the gap that begins at an index ends.
 fn gap_end(bytes: &[u8], at: usize) -> usize
     requires { at ≤ length bytes.now }
@@ -67,12 +70,12 @@ fn place_at(bytes: &[u8], from: usize, to: usize, place: Place) -> Place
     moved
 }
 
-/// Where a program text ends: just after its last byte. Looks at each byte once.
-pub fn place_of_end(bytes: &[u8]) -> Place
+/// The place just after the last byte of a text. Looks at each byte once.
+pub fn end_place(bytes: &[u8]) -> Place
     requires { length bytes.now + 1 < 2 ^ 32 }
     ensures { result ≡ place_of bytes.now (length bytes.now) }
 {
-    place_at(bytes, 0, bytes.len(), Place { line: 1, column: 1 })
+    place_at(bytes, 0, bytes.len(), FIRST)
 }
 
 /// Cuts a program text into names, numbers and signs, with their places. Blanks and comments only separate them.
@@ -86,7 +89,7 @@ pub fn tokens(alloc: Global, bytes: &[u8]) -> Result<Vec<Token>, TokenEnd>
 {
     let mut list = Vec::new(alloc);
     let mut at = 0;
-    let mut place = Place { line: 1, column: 1 };
+    let mut place = FIRST;
     'cutting: loop {
         let start = gap_end(bytes, at);
         place = place_at(bytes, at, start, place);

@@ -4,7 +4,7 @@ use Rattle.ps_text.specs.Lexing.{AreTokens, IsInside}
 use Rattle.ps_syntax.specs.Items.{program_of}
 use Rattle.ps_syntax.specs.Words.{words_of}
 use Rattle.ps_syntax.specs.Texts.{end_of, IsProgram}
-use Rattle.ps_syntax.proofs.TextLaws.{cut_found, cut_only, cut_exact, cut_not_bad, cut_token, uncut_exact, uncut_bad, uncut_token}
+use Rattle.ps_syntax.proofs.TextLaws.{cut_found, cut_only, cut_exact, cut_not_bad, cut_token, cut_grammar, uncut_exact, uncut_bad, uncut_token, uncut_grammar}
 use Rattle.ps_syntax.proofs.WordsWithin.{tokens_within, tokens_few}
 use Rattle.ps_syntax.proofs.reading.read_program.Goals as goal
 
@@ -40,3 +40,9 @@ returns-in-Ok-clause-token c = cut_token c.args.bytes.now c.in-Ok.list.items c.p
 
 pub returns-in-Err-clause-token : goal.returns-in-Err-clause-token
 returns-in-Err-clause-token c = rw c.uncut.ensures (uncut_token c.args.bytes.now c.in-Err.end c.in-Err.ensures.bad)
+
+pub returns-in-Ok-clause-grammar : goal.returns-in-Ok-clause-grammar
+returns-in-Ok-clause-grammar c = cut_grammar c.args.bytes.now c.in-Ok.list.items c.program_of.result c.in-Ok.ensures.tokens (rw c.deref.ensures.value at c.program_of.ensures)
+
+pub returns-in-Err-clause-grammar : goal.returns-in-Err-clause-grammar
+returns-in-Err-clause-grammar c = rw c.uncut.ensures (uncut_grammar c.args.bytes.now c.in-Err.end)

@@ -1,4 +1,4 @@
-use Rattle.std.proofs.Common.{◌≡◌, ◌+◌, ◌<◌, ◌≤◌, List, ℕ, length, drop, Some, arith, sym, ◌∙◌, ap}
+use Rattle.std.proofs.Common.{◌≡◌, ◌+◌, ◌≤◌, length, drop, Some, arith, sym, ◌∙◌, ap}
 use Rattle.ps_text.specs.Scanning.{token_at}
 use Rattle.ps_text.proofs.Cuts.{from_ahead}
 use Rattle.ps_text.proofs.tokenizing.token_from.Goals as goal
