@@ -1,6 +1,11 @@
 pub mod Sum
 pub mod Cond
 pub mod Words
+pub mod Within
+pub mod Seen
+pub mod Scoped
+pub mod Signed
+pub mod Steps
 pub mod Names
 pub mod Sums
 pub mod Conds
@@ -10,3 +15,6 @@ pub mod Grammar
 pub mod Spelling
 pub mod Trees
 pub mod Fits
+pub mod Reads
+pub mod Texts
+pub mod Refusals

@@ -1,10 +1,11 @@
 -- The words of a program text, and reading them from left to right with the first refusal.
-use Rattle.std.specs.Prelude.{◌≡◌, ℕ, zero, suc, Bool, true, false, List, [], ◌∷◌, ◌==◌, Result, Ok, Err, if◌then◌else◌}
+use Rattle.std.specs.Prelude.{◌≡◌, ℕ, zero, suc, Bool, true, false, List, [], ◌∷◌, ◌++◌, map, slice_range, ◌==◌, Result, Ok, Err, if◌then◌else◌}
 use Rattle.ps_text.specs.declared.place.Place.{Place}
+use Rattle.ps_text.specs.declared.token.Token.{Token}
 use Rattle.ps_text.specs.declared.token_kind.TokenKind.{TokenKind}
 use Rattle.ps_text.specs.declared.token_kind.TokenKind.TheVariants as kind
 use Rattle.ps_syntax.specs.declared.read_refusal.ReadRefusal.{ReadRefusal}
-use Rattle.ps_syntax.specs.declared.read_refusal.ReadRefusal.TheVariants.{Grammar}
+use Rattle.ps_syntax.specs.declared.read_refusal.ReadRefusal.TheVariants.{Grammar, Memory}
 
 -- A word: what it is, its bytes, and the place of the first of them.
 pub record Word : Type 0 where
@@ -16,6 +17,14 @@ pub record Word : Type 0 where
 pub record At : Type 0 where
   pub words : List Word
   pub end : Place
+
+-- the word that a token of a text is
+abbrev pub word_of : List ℕ → Token → Word
+word_of bytes token = record { kind = token.kind; text = slice_range bytes token.start token.end; place = token.place }
+
+-- the words that the tokens of a text are
+abbrev pub words_of : List ℕ → List Token → List Word
+words_of bytes tokens = map (word_of bytes) tokens
 
 -- a number for each kind
 abbrev pub kind_number : TokenKind → ℕ
@@ -114,3 +123,24 @@ end_from (w ∷ ws) = Err (Grammar w.place)
 
 abbrev pub end_at : At → Result (Unit {0}) ReadRefusal
 end_at at = end_from at.words
+
+-- What was read before, and what is read from here on.
+abbrev pub with_front : {A : Type 0} → List A → Result (List A × At) ReadRefusal → Result (List A × At) ReadRefusal
+with_front front read = read >>= λ xs. Ok (front ++ xs.0, xs.1)
+
+-- ---- what calls promise
+
+-- A refusal is the one that is read, or memory ran out.
+abbrev pub Refuses : {A : Type 0} → ReadRefusal → Result A ReadRefusal → Type 0
+Refuses (Memory e) read = Unit {0}
+Refuses refusal read = read ≡ Err refusal
+
+-- A call answers what a reading function gives, unless memory runs out. After a refusal nothing is said of the place.
+abbrev pub Gives : {X A : Type 0} → (X → A) → Result X ReadRefusal → At → Result (A × At) ReadRefusal → Type 0
+Gives view (Ok x) now read = read ≡ Ok (view x, now)
+Gives view (Err refusal) now read = Refuses refusal read
+
+-- The same of a call that reads a whole text: its answer is this one, unless memory runs out.
+abbrev pub Tells : {X A : Type 0} → (X → A) → Result X ReadRefusal → Result A ReadRefusal → Type 0
+Tells view (Ok x) answer = answer ≡ Ok (view x)
+Tells view (Err refusal) answer = Refuses refusal answer

@@ -1,7 +1,11 @@
 //! Why a text is no program.
+
+ghost use Rattle.std.specs.Prelude.{◌≡◌};
+ghost use Rattle.ps_syntax.specs.declared.read_refusal.ReadRefusal.TheVariants.{Memory};
+
 use crate::limit_name::LimitName;
 use ps_text::Place;
-use std::alloc::AllocError;
+use std::alloc::{AllocError, AllocFailed};
 use thiserror::Error;
 
 /// Why no program was read: the first refusal, with its place.
@@ -31,4 +35,20 @@ pub enum ReadRefusal {
     /// No memory was left.
     #[error("out of memory")]
     Memory(AllocError),
+}
+
+impl From<AllocError> for ReadRefusal {
+    ghost from_gives = { λ e refusal. refusal ≡ Memory e };
+
+    fn from(e: AllocError) -> ReadRefusal {
+        ReadRefusal::Memory(e)
+    }
+}
+
+impl<T: Drop> From<AllocFailed<T>> for ReadRefusal {
+    ghost from_gives = { λ _ refusal. refusal ≡ Memory (record {}) };
+
+    fn from(_e: AllocFailed<T>) -> ReadRefusal {
+        ReadRefusal::Memory(AllocError)
+    }
 }

@@ -1,0 +1,219 @@
+-- The laws of refusals, in steps. What is read of a text of the grammar isn't a fault of the grammar; and where there is
+-- one, it rests on the words before its place and the next one alone, and the words before it go on as some text.
+use Rattle.std.proofs.Common.{◌≡◌, ℕ, ◌+◌, ◌<◌, ◌≤◌, Bool, true, false, List, [], ◌∷◌, ◌++◌, length, Result, Ok, Err, refl, sym, ap, subst, ◌∙◌, arith, length-append}
+use Rattle.std.specs.Prelude.{if◌then◌else◌}
+use Rattle.std.proofs.lemmas.Bool.{cond-true, cond-false}
+use Rattle.std.proofs.lemmas.List.{map-append, length-map}
+use Rattle.ps_text.specs.declared.place.Place.{Place}
+use Rattle.ps_text.specs.declared.token_kind.TokenKind.{TokenKind}
+use Rattle.ps_syntax.specs.declared.read_refusal.ReadRefusal.{ReadRefusal}
+use Rattle.ps_syntax.specs.declared.read_refusal.ReadRefusal.TheVariants.{Grammar}
+use Rattle.ps_syntax.specs.Words.{Word, At, Read, and_then, ◌>>=◌, is_kind, begins_with, next_is, place_of_next, word_from, word_at}
+use Rattle.ps_syntax.specs.Spelling.{Piece, piece_of_kind, pieces}
+use Rattle.ps_syntax.specs.Reads.{BeginAlike}
+use Rattle.ps_syntax.proofs.Steps.{one_kind, kind_of, kind_of_piece, Ahead, Always, Gets, gets_end, gets_true}
+use Rattle.ps_syntax.proofs.Sequences.{word_exact}
+
+-- ---- faults of the grammar
+
+abbrev pub IsGrammar : ReadRefusal → Type 0
+IsGrammar (Grammar p) = Unit {0}
+IsGrammar e = ⊥
+
+abbrev IsRefused : {A : Type 0} → Result A ReadRefusal → Type 0
+IsRefused (Ok x) = ⊥
+IsRefused (Err e) = IsGrammar e
+
+-- it is a fault of the grammar
+pub record Refused {A : Type 0} (r : Result A ReadRefusal) : Type 0 where
+  pub is : IsRefused r
+
+abbrev LetsOf : {A : Type 0} → Result A ReadRefusal → (A → Type 0) → Type 0
+LetsOf (Ok x) Q = Q x
+LetsOf (Err (Grammar p)) Q = ⊥
+LetsOf (Err e) Q = Unit {0}
+
+-- it is no fault of the grammar
+pub record Lets {A : Type 0} (r : Result A ReadRefusal) (Q : A → Type 0) : Type 0 where
+  pub is : LetsOf r Q
+
+abbrev KeepsOf : {A : Type 0} → Result A ReadRefusal → (A → Type 0) → (Place → Type 0) → Type 0
+KeepsOf (Ok x) Q R = Q x
+KeepsOf (Err (Grammar p)) Q R = R p
+KeepsOf (Err e) Q R = Unit {0}
+
+-- what holds of what it is, or of the place where it is a fault of the grammar
+pub record Keeps {A : Type 0} (r : Result A ReadRefusal) (Q : A → Type 0) (R : Place → Type 0) : Type 0 where
+  pub is : KeepsOf r Q R
+
+pub refused_bind : {A B : Type 0} (r : Result A ReadRefusal) (f : A → Result B ReadRefusal) → Refused r → Refused (r >>= f)
+unfolding and_then
+refused_bind (Ok x) f h = absurd h.is
+refused_bind (Err e) f h = record { is = h.is }
+
+pub refused_after : {A B : Type 0} (r : Result A ReadRefusal) (f : A → Result B ReadRefusal) (Q : A → Type 0) → Gets r Q → ((x : A) → Q x → Refused (f x)) → Refused (r >>= f)
+unfolding and_then
+refused_after r f Q h k = subst (λ s. Refused (and_then s f)) (sym h.ok) (k h.value h.is)
+
+pub refused_true : {A : Type 0} (t : Bool) (r s : Result A ReadRefusal) → t ≡ true → Refused r → Refused (if t then r else s)
+refused_true t r s e h = subst Refused (sym (cond-true _ _ _ e)) h
+
+pub refused_false : {A : Type 0} (t : Bool) (r s : Result A ReadRefusal) → t ≡ false → Refused s → Refused (if t then r else s)
+refused_false t r s e h = subst Refused (sym (cond-false _ _ _ e)) h
+
+pub lets_bind : {A B : Type 0} (r : Result A ReadRefusal) (f : A → Result B ReadRefusal) (Q : A → Type 0) (R : B → Type 0) → Lets r Q → ((x : A) → Q x → Lets (f x) R) → Lets (r >>= f) R
+unfolding and_then
+lets_bind (Ok x) f Q R h k = k x h.is
+lets_bind (Err (Grammar p)) f Q R h k = absurd h.is
+lets_bind (Err e) f Q R h k = record { is = tt }
+
+pub lets_end : {A : Type 0} (y : A) (R : A → Type 0) → R y → Lets (Ok y) R
+lets_end y R h = record { is = h }
+
+pub lets_true : {A : Type 0} (t : Bool) (r s : Result A ReadRefusal) (R : A → Type 0) → t ≡ true → Lets r R → Lets (if t then r else s) R
+lets_true t r s R e h = subst (λ u. Lets u R) (sym (cond-true _ _ _ e)) h
+
+pub lets_false : {A : Type 0} (t : Bool) (r s : Result A ReadRefusal) (R : A → Type 0) → t ≡ false → Lets s R → Lets (if t then r else s) R
+lets_false t r s R e h = subst (λ u. Lets u R) (sym (cond-false _ _ _ e)) h
+
+pub lets_gets : {A : Type 0} (r : Result A ReadRefusal) (Q R : A → Type 0) → Gets r Q → ((x : A) → Q x → R x) → Lets r R
+lets_gets r Q R h k = subst (λ u. Lets u R) (sym h.ok) (record { is = k h.value h.is })
+
+pub keeps_bind : {A B : Type 0} (r : Result A ReadRefusal) (f : A → Result B ReadRefusal) (Q : A → Type 0) (R : Place → Type 0) (Q' : B → Type 0) (R' : Place → Type 0)
+    → Keeps r Q R → ((x : A) → Q x → Keeps (f x) Q' R') → ((p : Place) → R p → R' p) → Keeps (r >>= f) Q' R'
+unfolding and_then
+keeps_bind (Ok x) f Q R Q' R' h k m = k x h.is
+keeps_bind (Err (Grammar p)) f Q R Q' R' h k m = record { is = m p h.is }
+keeps_bind (Err e) f Q R Q' R' h k m = record { is = tt }
+
+pub keeps_end : {A : Type 0} (y : A) (Q : A → Type 0) (R : Place → Type 0) → Q y → Keeps (Ok y) Q R
+keeps_end y Q R h = record { is = h }
+
+pub keeps_more : {A : Type 0} (r : Result A ReadRefusal) (Q : A → Type 0) (R : Place → Type 0) (Q' : A → Type 0) (R' : Place → Type 0) → Keeps r Q R → ((x : A) → Q x → Q' x) → ((p : Place) → R p → R' p) → Keeps r Q' R'
+keeps_more (Ok x) Q R Q' R' h k m = record { is = k x h.is }
+keeps_more (Err (Grammar p)) Q R Q' R' h k m = record { is = m p h.is }
+keeps_more (Err e) Q R Q' R' h k m = record { is = tt }
+
+-- ---- beginnings
+
+pub alike_itself : (ws : List Word) → BeginAlike ws ws
+alike_itself [] = tt
+alike_itself (w ∷ ws) = refl
+
+pub alike_after : (front : List Word) (ws vs : List Word) → BeginAlike ws vs → BeginAlike (front ++ ws) (front ++ vs)
+alike_after [] ws vs h = h
+alike_after (w ∷ front) ws vs h = refl
+
+-- a test that the next word decides
+pub record IsTest (goes : At → Bool) : Type 0 where
+  pub same : (at at' : At) → BeginAlike at.words at'.words → goes at ≡ goes at'
+
+alike_begins : (k : TokenKind) (ws vs : List Word) → BeginAlike ws vs → begins_with k ws ≡ begins_with k vs
+alike_begins k [] [] h = refl
+alike_begins k [] (v ∷ vs) h = absurd h
+alike_begins k (w ∷ ws) [] h = absurd h
+alike_begins k (w ∷ ws) (v ∷ vs) h = ap (λ (j : TokenKind). is_kind j k) (sym (kind_of_piece w.kind w.text) ∙ ap kind_of h ∙ kind_of_piece v.kind v.text)
+
+pub next_test : (k : TokenKind) → IsTest (next_is k)
+next_test k = record { same = λ at at' h. alike_begins k at.words at'.words h }
+
+-- ---- the laws
+
+-- What was read is spelled so, and is read alike of other words that begin so and go on alike.
+pub record Went {C A : Type 0} (n' : ℕ → ℕ) (read' : ℕ → Read A) (spell : C → List Piece) (okay : C → Type 0) (alike : A → A → Type 0) (at : At) (y : A × At) : Type 0 where
+  pub text : C
+  pub fine : okay text
+  pub front : List Word
+  pub split : at.words ≡ front ++ y.1.words
+  pub ends : y.1.end ≡ at.end
+  pub spelled : pieces front ≡ spell text
+  pub same : (i : ℕ) (at' : At) (other : List Word) → length at'.words < n' i → BeginAlike y.1.words other → at'.words ≡ front ++ other → Gets (read' i at') (λ z. alike y.0 z.0 × (z.1.words ≡ other))
+
+-- Where a fault is, the words before it go on as some text, and others that begin so and go on alike have it too.
+pub record Stood {C A : Type 0} (n' : ℕ → ℕ) (read' : ℕ → Read A) (spell : C → List Piece) (okay : C → Type 0) (at : At) (p : Place) : Type 0 where
+  pub text : C
+  pub fine : okay text
+  pub front : List Word
+  pub rest : List Word
+  pub more : List Word
+  pub split : at.words ≡ front ++ rest
+  pub place : p ≡ place_of_next rest at.end
+  pub spelled : pieces (front ++ more) ≡ spell text
+  pub same : (i : ℕ) (at' : At) (other : List Word) → length at'.words < n' i → BeginAlike rest other → at'.words ≡ front ++ other → Refused (read' i at')
+
+-- The laws of a reading function, and of one that is like it with another bound, where fewer words are left than those
+-- numbers, and at most so many: one like it for each number.
+pub record Guards {C A : Type 0} (n : ℕ) (n' most : ℕ → ℕ) (read : Read A) (read' : ℕ → Read A) (spell : C → List Piece) (okay : C → Type 0) (alike : A → A → Type 0) (follows : List Piece → Type 0) : Type 0 where
+  pub never : (i : ℕ) (at : At) (c : C) (rest : List Piece) → okay c → Ahead (most i) at (spell c ++ rest) → follows rest → Lets (read' i at) (λ y. Ahead (most i) y.1 rest)
+  pub stuck : (at : At) → length at.words < n → Keeps (read at) (Went n' read' spell okay alike at) (Stood n' read' spell okay at)
+
+abbrev pub Any : {A : Type 0} → A → A → Type 0
+Any x y = Unit {0}
+
+abbrev pub Same : {A : Type 0} → A → A → Type 0
+Same x y = x ≡ y
+
+-- some text, and words that spell it
+pub record Example {C : Type 0} (spell : C → List Piece) (okay : C → Type 0) : Type 0 where
+  pub text : C
+  pub fine : okay text
+  pub words : List Word
+  pub spelled : pieces words ≡ spell text
+
+pub pieces_both : (a b : List Word) → pieces (a ++ b) ≡ pieces a ++ pieces b
+pieces_both a b = map-append (λ (w : Word). piece_of_kind w.kind w.text) a b
+
+pub pieces_are : (a b : List Word) (ps qs : List Piece) → pieces a ≡ ps → pieces b ≡ qs → pieces (a ++ b) ≡ ps ++ qs
+pieces_are a b ps qs p q = pieces_both a b ∙ ap (λ (xs : List Piece). xs ++ pieces b) p ∙ ap (λ (xs : List Piece). ps ++ xs) q
+
+-- fewer words are left after a front
+pub room_left : (n m : ℕ) (ws front vs : List Word) (ps : List Piece) → length ws < n → ws ≡ front ++ vs → pieces front ≡ ps → n ≤ length ps + m → length vs < m
+room_left n m ws front vs ps h e k le =
+    let l : length ws ≡ length front + length vs = ap (λ (xs : List Word). length xs) e ∙ length-append front vs in
+    let f : length front ≡ length ps = sym (length-map front (λ (w : Word). piece_of_kind w.kind w.text)) ∙ ap (λ (xs : List Piece). length xs) k in
+    omega (arith, h, l, f, le)
+
+-- ---- words
+
+word_of : TokenKind → Word
+word_of k = record { kind = k; text = []; place = record { line = 0; column = 0 } }
+
+no_word : (k : TokenKind) (vs : List Word) (end : Place) → BeginAlike [] vs → Refused (word_from k vs end)
+no_word k [] end h = record { is = tt }
+no_word k (v ∷ vs) end h = absurd h
+
+wrong_word : (k : TokenKind) (w : Word) (ws vs : List Word) (end : Place) → is_kind w.kind k ≡ false → BeginAlike (w ∷ ws) vs → Refused (word_from k vs end)
+wrong_word k w ws [] end e h = absurd h
+wrong_word k w ws (v ∷ vs) end e h = refused_false (is_kind v.kind k) _ _ (sym (alike_begins k (w ∷ ws) (v ∷ vs) h) ∙ e) (record { is = tt })
+
+abbrev pub piece_list : TokenKind → List ℕ → List Piece
+piece_list k t = piece_of_kind k t ∷ []
+
+word_stuck : (n' : ℕ → ℕ) (k : TokenKind) (ws : List Word) (end : Place)
+    → Keeps (word_from k ws end) (Went n' (λ i at. word_from k at.words at.end) (piece_list k) Always Same (record { words = ws; end = end })) (Stood n' (λ (i : ℕ) (at : At). word_from k at.words at.end) (piece_list k) Always (record { words = ws; end = end }))
+unfolding word_of
+word_stuck n' k [] end = record { is = record {
+  text = []; fine = tt; front = []; rest = []; more = word_of k ∷ []; split = refl; place = refl; spelled = refl;
+  same = λ i at' other room h e. subst (λ (vs : List Word). Refused (word_from k vs at'.end)) (sym e) (no_word k other at'.end h);
+} }
+word_stuck n' k (w ∷ ws) end = by_test (is_kind w.kind k) refl
+  where
+    by_test : (t : Bool) → is_kind w.kind k ≡ t
+        → Keeps (if t then Ok (w, record { words = ws; end = end }) else Err (Grammar w.place)) (Went n' (λ i at. word_from k at.words at.end) (piece_list k) Always Same (record { words = w ∷ ws; end = end })) (Stood n' (λ (i : ℕ) (at : At). word_from k at.words at.end) (piece_list k) Always (record { words = w ∷ ws; end = end }))
+    by_test true e = record { is = record {
+      text = w.text; fine = tt; front = w ∷ []; split = refl; ends = refl;
+      spelled = ap (λ (j : TokenKind). piece_of_kind j w.text ∷ []) (one_kind w.kind k e);
+      same = λ i at' other room h s. subst (λ (vs : List Word). Gets (word_from k vs at'.end) (λ z. (w ≡ z.0) × (z.1.words ≡ other))) (sym s)
+        (gets_true (is_kind w.kind k) _ _ _ e (gets_end _ _ (refl, refl)));
+    } }
+    by_test false e = record { is = record {
+      text = []; fine = tt; front = []; rest = w ∷ ws; more = word_of k ∷ []; split = refl; place = refl; spelled = refl;
+      same = λ i at' other room h s. subst (λ (vs : List Word). Refused (word_from k vs at'.end)) (sym s) (wrong_word k w ws other at'.end e h);
+    } }
+
+pub word_guards : (n : ℕ) (n' most : ℕ → ℕ) (k : TokenKind) → Guards n n' most (word_at k) (λ i. word_at k) (piece_list k) Always Same Always
+unfolding word_at
+word_guards n n' most k = record {
+  never = λ i at t rest fine h _. lets_gets _ _ _ ((word_exact (most i) k).again at t rest tt h tt) (λ y p. p.1);
+  stuck = λ at room. word_stuck n' k at.words at.end;
+}

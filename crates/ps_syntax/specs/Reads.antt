@@ -1,0 +1,49 @@
+-- Which program the words of a text are, and where words stop being the beginning of one.
+use Rattle.std.specs.Prelude.{◌≡◌, ◌≢◌, List, [], ◌∷◌, ◌++◌, map, All}
+use Rattle.ps_text.specs.declared.place.Place.{Place}
+use Rattle.ps_syntax.specs.declared.program.Program.{Program}
+use Rattle.ps_syntax.specs.declared.relation.Sign.TheVariants as sign
+use Rattle.ps_syntax.specs.Fits.{ProgramFits}
+use Rattle.ps_syntax.specs.Grammar.{RelationText, ItemText, global, local, init, ProgramText}
+use Rattle.ps_syntax.specs.Spelling.{pieces, piece_of_kind, program_pieces}
+use Rattle.ps_syntax.specs.Trees.{program_tree}
+use Rattle.ps_syntax.specs.Words.{Word, place_of_next}
+
+-- The words spell a text of the grammar that fits, and the program is its tree.
+pub record IsProgramText (words : List Word) (p : Program) : Type 0 where
+  pub text : ProgramText
+  pub spelled : pieces words ≡ program_pieces text
+  pub fits : ProgramFits text
+  pub tree : p ≡ program_tree text (map (λ (w : Word). w.place) words)
+
+-- ---- where no text of the grammar goes on
+
+-- no relation of an `init` has the sign `!=`
+abbrev pub HasInitSigns : ItemText → Type 0
+HasInitSigns (global x v) = Unit {0}
+HasInitSigns (local x) = Unit {0}
+HasInitSigns (init r rs) = All (λ (s : RelationText). s.sign ≢ sign.NotEqual) (r ∷ rs)
+
+-- The words are a text of the grammar.
+pub record IsText (words : List Word) : Type 0 where
+  pub text : ProgramText
+  pub spelled : pieces words ≡ program_pieces text
+  pub signs : All HasInitSigns text.items
+
+-- Both begin with words that are spelled alike, or both are empty.
+abbrev pub BeginAlike : List Word → List Word → Type 0
+BeginAlike [] [] = Unit {0}
+BeginAlike [] (v ∷ vs) = ⊥
+BeginAlike (w ∷ ws) [] = ⊥
+BeginAlike (w ∷ ws) (v ∷ vs) = piece_of_kind w.kind w.text ≡ piece_of_kind v.kind v.text
+
+-- The place of the first word that no text of the grammar goes on with, or of the end that none has there: the words
+-- before it go on as some text, and with the next word, or ended there, they go on as none.
+pub record IsFirstFault (words : List Word) (end : Place) (place : Place) : Type 0 where
+  pub before : List Word
+  pub rest : List Word
+  pub split : words ≡ before ++ rest
+  pub place_is : place ≡ place_of_next rest end
+  pub others : List Word
+  pub goes_on : IsText (before ++ others)
+  pub stops : (others : List Word) → BeginAlike rest others → IsText (before ++ others) → ⊥

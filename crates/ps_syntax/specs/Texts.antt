@@ -1,0 +1,43 @@
+-- Which program a text of bytes is, and what it is read as.
+use Rattle.std.specs.Prelude.{ℕ, List, length}
+use Rattle.ps_text.specs.declared.place.Place.{Place}
+use Rattle.ps_text.specs.declared.token.Token.{Token}
+use Rattle.ps_text.specs.Lexing.{AreTokens, IsBadAt, place_of}
+use Rattle.ps_syntax.specs.declared.program.Program.{Program}
+use Rattle.ps_text.specs.declared.token_end.TokenEnd.{TokenEnd}
+use Rattle.ps_text.specs.declared.token_end.TokenEnd.TheVariants as token
+use Rattle.ps_syntax.specs.declared.read_refusal.ReadRefusal.{ReadRefusal}
+use Rattle.ps_syntax.specs.declared.read_refusal.ReadRefusal.TheVariants as refusal
+use Rattle.ps_syntax.specs.Reads.{IsProgramText, IsFirstFault}
+use Rattle.ps_syntax.specs.Words.{words_of}
+
+-- Where a text ends: just after its last byte.
+abbrev pub end_of : List ℕ → Place
+end_of bytes = place_of bytes (length bytes)
+
+-- The text has tokens, and its words are the program.
+pub record IsProgram (bytes : List ℕ) (program : Program) : Type 0 where
+  pub tokens : List Token
+  pub cut : AreTokens bytes tokens
+  pub is : IsProgramText (words_of bytes tokens) program
+
+-- The refusal of a text that isn't cut into tokens.
+abbrev pub uncut : TokenEnd → ReadRefusal
+uncut (token.BadToken place) = refusal.Token place
+uncut (token.Memory e) = refusal.Memory e
+
+-- A refusal that says a bad byte stands at the first one.
+abbrev pub TokenIsBad : List ℕ → ReadRefusal → Type 0
+TokenIsBad bytes (refusal.Token place) = IsBadAt bytes place
+TokenIsBad bytes e = Unit {0}
+
+-- The text has tokens, and at the place its words first go on as no text of the grammar.
+pub record IsFaultAt (bytes : List ℕ) (place : Place) : Type 0 where
+  pub tokens : List Token
+  pub cut : AreTokens bytes tokens
+  pub is : IsFirstFault (words_of bytes tokens) (end_of bytes) place
+
+-- A refusal that says a fault of the grammar stands at it.
+abbrev pub GrammarIsFault : List ℕ → ReadRefusal → Type 0
+GrammarIsFault bytes (refusal.Grammar place) = IsFaultAt bytes place
+GrammarIsFault bytes e = Unit {0}
