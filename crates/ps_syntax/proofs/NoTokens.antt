@@ -1,5 +1,5 @@
 -- Reading words never gives the refusal of a bad byte.
-use Rattle.std.proofs.Common.{◌≡◌, ℕ, zero, suc, ◌+◌, ℤ, Bool, true, false, List, [], ◌∷◌, Option, Some, None, Result, Ok, Err, ok_or, refl, sym, ap, ◌∙◌, length}
+use Rattle.std.proofs.Common.{◌≡◌, ℕ, zero, suc, ◌+◌, Bool, true, false, List, [], ◌∷◌, Option, Some, None, Result, Ok, Err, ok_or, ap, length}
 use Rattle.std.specs.Prelude.{nat_lt, nat_le, if◌then◌else◌}
 use Rattle.ps_text.specs.declared.place.Place.{Place}
 use Rattle.ps_text.specs.declared.token_kind.TokenKind.{TokenKind}
@@ -9,10 +9,9 @@ use Rattle.ps_syntax.specs.declared.cond.Cond.{Cond}
 use Rattle.ps_syntax.specs.declared.cond.Cond.TheVariants as cond
 use Rattle.ps_syntax.specs.declared.limit_name.LimitName.{LimitName}
 use Rattle.ps_syntax.specs.declared.limit_name.LimitName.TheVariants as limit
-use Rattle.ps_syntax.specs.declared.program.Program.{Program}
 use Rattle.ps_syntax.specs.declared.relation.Sign.{Sign}
 use Rattle.ps_syntax.specs.declared.read_refusal.ReadRefusal.{ReadRefusal}
-use Rattle.ps_syntax.specs.declared.read_refusal.ReadRefusal.TheVariants.{Token, Grammar, UnknownName, Twice, NotLinear, LoopInAtomic, Limit}
+use Rattle.ps_syntax.specs.declared.read_refusal.ReadRefusal.TheVariants.{Token, Grammar, UnknownName, Limit}
 use Rattle.ps_syntax.specs.declared.stmt.Stmt.{Stmt}
 use Rattle.ps_syntax.specs.declared.stmt.StmtKind.{StmtKind}
 use Rattle.ps_syntax.specs.declared.stmt.StmtKind.TheVariants as stmt
@@ -21,7 +20,7 @@ use Rattle.ps_syntax.specs.Conds.{members_at, conj_with, cond_with, opens_at, un
 use Rattle.ps_syntax.specs.Items.{Declared, refused_name, is_declared, names_of, new_name_at, number_at, value_at, global_at, local_at, init_at, counted_item_at, item_at, item_rows, items_at, has_item, most_rows, most_levels, most_globals, most_locals, nothing_declared, program_at, program_of, with_rows}
 use Rattle.ps_syntax.specs.Names.{Names, variable_in, variable_of, variable_at}
 use Rattle.ps_syntax.specs.Sums.{factor_at, number_product_at, name_product_at, product_at, first_product_at, further_product_at, adds, sum_at, sign_from, sign_at, sign_of, init_sign_of, relation_at}
-use Rattle.ps_syntax.specs.Words.{At, Word, Read, and_then, is_kind, next_is, word_from, word_at, after_word, while_at, end_from, end_at}
+use Rattle.ps_syntax.specs.Words.{At, Word, Read, and_then, is_kind, next_is, word_from, word_at, after_word, while_at, end_from}
 
 -- It isn't the refusal of a bad byte.
 pub record Never {A : Type 0} (r : Result A ReadRefusal) : Type 0 where
@@ -191,9 +190,9 @@ statement block h atomic scope n levels at =
     (choose (next_is kind.Skip at) _ _ (skip at)
     (choose (next_is kind.Atomic at) _ _ (bind _ _ (after kind.Atomic (block true) (h true) at) (λ b. ok _))
     (choose (next_is kind.If at) _ _
-      (bind _ _ (after kind.If (parens_at scope n levels) (parens scope n levels) at) (λ t. bind _ _ (h atomic t.1) (λ held. bind _ _ (choose (next_is kind.Else held.1) _ _ (after kind.Else (block atomic) (h atomic) held.1) (ok _)) (λ failed. ok _))))
+    (bind _ _ (after kind.If (parens_at scope n levels) (parens scope n levels) at) (λ t. bind _ _ (h atomic t.1) (λ held. bind _ _ (choose (next_is kind.Else held.1) _ _ (after kind.Else (block atomic) (h atomic) held.1) (ok _)) (λ failed. ok _))))
     (choose (next_is kind.While at) _ _
-      (choose atomic _ _ (record { is = λ place e. absurd cc }) (bind _ _ (after kind.While (parens_at scope n levels) (parens scope n levels) at) (λ t. bind _ _ (h atomic t.1) (λ b. ok _))))
+    (choose atomic _ _ (record { is = λ place e. absurd cc }) (bind _ _ (after kind.While (parens_at scope n levels) (parens scope n levels) at) (λ t. bind _ _ (h atomic t.1) (λ b. ok _))))
     (grammar _))))))))
 
 stmt_never : (block : Bool → Read (List Stmt)) → ((b : Bool) (at : At) → Never (block b at)) → (atomic : Bool) (scope : Option Names) (n levels : ℕ) (at : At) → Never (stmt_at block atomic scope n levels at)
@@ -231,19 +230,19 @@ item : (d : Declared) (n : ℕ) (at : At) → Never (counted_item_at d n at)
 unfolding counted_item_at global_at local_at init_at
 item d n at =
     choose (next_is kind.Global at) _ _
-      (bind _ _ (after kind.Global (new_name_at d (length d.globals) most_globals limit.Globals) (new_name d (length d.globals) most_globals limit.Globals) at) (λ name. bind _ _ (ended value_at value name.1) (λ v. ok _)))
+    (bind _ _ (after kind.Global (new_name_at d (length d.globals) most_globals limit.Globals) (new_name d (length d.globals) most_globals limit.Globals) at) (λ name. bind _ _ (ended value_at value name.1) (λ v. ok _)))
     (choose (next_is kind.Local at) _ _
-      (bind _ _ (after kind.Local (ended_at (new_name_at d (length d.locals) most_locals limit.Locals)) (ended (new_name_at d (length d.locals) most_locals limit.Locals) (new_name d (length d.locals) most_locals limit.Locals)) at) (λ name. ok _))
-      (bind _ _ (after kind.Init (relation_at init_sign_of (Some (names_of d)) n) (relation init_sign_of (Some (names_of d)) n) at) (λ r.
-      bind _ _ (ended (while_at (next_is kind.And) (after_word kind.And (relation_at init_sign_of (Some (names_of d)) n)) n) (many (next_is kind.And) (after_word kind.And (relation_at init_sign_of (Some (names_of d)) n)) (after kind.And (relation_at init_sign_of (Some (names_of d)) n) (relation init_sign_of (Some (names_of d)) n)) n) r.1) (λ rs. ok _))))
+    (bind _ _ (after kind.Local (ended_at (new_name_at d (length d.locals) most_locals limit.Locals)) (ended (new_name_at d (length d.locals) most_locals limit.Locals) (new_name d (length d.locals) most_locals limit.Locals)) at) (λ name. ok _))
+    (bind _ _ (after kind.Init (relation_at init_sign_of (Some (names_of d)) n) (relation init_sign_of (Some (names_of d)) n) at) (λ r.
+    bind _ _ (ended (while_at (next_is kind.And) (after_word kind.And (relation_at init_sign_of (Some (names_of d)) n)) n) (many (next_is kind.And) (after_word kind.And (relation_at init_sign_of (Some (names_of d)) n)) (after kind.And (relation_at init_sign_of (Some (names_of d)) n) (relation init_sign_of (Some (names_of d)) n)) n) r.1) (λ rs. ok _))))
 
 items : (n : ℕ) (d : Declared) (m : ℕ) (at : At) → Never (items_at n d m at)
 unfolding items_at item_at
 items n d zero at = ok _
 items n d (suc m) at =
     choose (has_item at) _ _
-      (bind _ _ (choose (nat_lt most_rows (d.rows + item_rows n at)) _ _ (limited _ limit.Init) (item (with_rows (d.rows + item_rows n at) d) n at)) (λ x. items n x.0 m x.1))
-      (ok _)
+    (bind _ _ (choose (nat_lt most_rows (d.rows + item_rows n at)) _ _ (limited _ limit.Init) (item (with_rows (d.rows + item_rows n at) d) n at)) (λ x. items n x.0 m x.1))
+    (ok _)
 
 text_end : (ws : List Word) → Never (end_from ws)
 text_end [] = ok _

@@ -1,5 +1,5 @@
 -- Looking for a name in a list.
-use Rattle.std.proofs.Common.{◌≡◌, ℕ, ◌+◌, ◌<◌, Bool, true, false, List, [], ◌∷◌, length, get_or, drop, map, Some, refl, sym, ap, subst, ◌∙◌, add-one, drop-cons}
+use Rattle.std.proofs.Common.{◌≡◌, ℕ, ◌+◌, ◌<◌, true, false, List, ◌∷◌, length, get_or, drop, map, Some, refl, add-one, drop-cons}
 use Rattle.std.specs.Str.{bytes_eq}
 use Rattle.ps_syntax.specs.Names.{position_from}
 

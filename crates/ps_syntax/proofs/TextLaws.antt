@@ -1,5 +1,5 @@
 -- What a text is read as, from what its words are.
-use Rattle.std.proofs.Common.{◌≡◌, ℕ, List, Result, Ok, Err, IfOk, IfErr, refl, sym, ap, subst, ◌∙◌}
+use Rattle.std.proofs.Common.{◌≡◌, ℕ, List, Result, Ok, Err, IfOk, IfErr, ap, subst}
 use Rattle.ps_text.specs.declared.place.Place.{Place}
 use Rattle.ps_text.specs.declared.token.Token.{Token}
 use Rattle.ps_text.specs.declared.token_end.TokenEnd.{TokenEnd}
@@ -13,7 +13,7 @@ use Rattle.ps_syntax.specs.Words.{Tells, words_of}
 use Rattle.ps_syntax.specs.Items.{program_of}
 use Rattle.ps_syntax.specs.Texts.{IsProgram, TokenIsBad, GrammarIsFault, end_of, uncut}
 use Rattle.ps_syntax.proofs.ProgramGuards.{program_of_grammar}
-use Rattle.ps_syntax.proofs.NoTokens.{Never, program_never}
+use Rattle.ps_syntax.proofs.NoTokens.{program_never}
 use Rattle.ps_syntax.proofs.ProgramLaws.{program_of_found, program_of_again}
 
 -- the answer is this one, unless memory runs out

@@ -1,11 +1,11 @@
 -- The tokens of a text as its words.
-use Rattle.std.proofs.Common.{◌≡◌, ℕ, ◌+◌, ◌≤◌, ◌<◌, List, [], ◌∷◌, suc, length, refl, sym, ap, arith, true}
+use Rattle.std.proofs.Common.{◌≡◌, ℕ, ◌+◌, ◌≤◌, List, [], ◌∷◌, suc, length, arith, true}
 use Rattle.std.specs.Prelude.{All}
 use Rattle.ps_text.specs.declared.token.Token.{Token}
 use Rattle.ps_text.specs.declared.token_kind.TokenKind.{TokenKind}
 use Rattle.ps_text.specs.declared.token_kind.TokenKind.TheVariants as kind
 use Rattle.ps_text.specs.Lexing.{AreTokens, AreUpTo, IsInside, IsNumber, IsSpelled}
-use Rattle.ps_syntax.specs.Within.{IsWithin, AreWithin}
+use Rattle.ps_syntax.specs.Within.{AreWithin}
 use Rattle.ps_syntax.specs.Words.{is_kind}
 
 is_number : (k : TokenKind) (text : List ℕ) → IsSpelled k text → is_kind k kind.Number ≡ true → IsNumber text

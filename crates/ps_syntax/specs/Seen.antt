@@ -1,5 +1,4 @@
 -- What contracts see of the reader's own types.
-use Rattle.std.specs.Prelude.{List, ℕ}
 use Rattle.ps_syntax.specs.declared.word.Word as code
 use Rattle.ps_syntax.specs.Words.{Word}
 

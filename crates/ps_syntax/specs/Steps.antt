@@ -1,5 +1,5 @@
 -- Parts of the reading functions of declarations, as the code's calls have them.
-use Rattle.std.specs.Prelude.{ℕ, ◌+◌, Bool, List, ◌∷◌, ℤ, Option, Some, None, Result, Ok}
+use Rattle.std.specs.Prelude.{ℕ, ◌+◌, List, ◌∷◌, ℤ, Option, Some, None, Result, Ok}
 use Rattle.ps_text.specs.declared.token_kind.TokenKind.TheVariants as kind
 use Rattle.ps_syntax.specs.declared.read_refusal.ReadRefusal.{ReadRefusal}
 use Rattle.ps_syntax.specs.declared.relation.Relation.{Relation}
@@ -7,7 +7,7 @@ use Rattle.ps_syntax.specs.Blocks.{ended_at}
 use Rattle.ps_syntax.specs.Items.{counted, value_at}
 use Rattle.ps_syntax.specs.Names.{Names}
 use Rattle.ps_syntax.specs.Sums.{init_sign_of, relation_at}
-use Rattle.ps_syntax.specs.Words.{At, Word, Read, ◌>>=◌, after_word, next_is, while_at, word_at}
+use Rattle.ps_syntax.specs.Words.{At, Word, Read, ◌>>=◌, after_word, next_is, while_at}
 
 -- The value of a global, which stands after its name.
 unfoldable pub declared_value_at : Read (Option ℤ)

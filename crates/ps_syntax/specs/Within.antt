@@ -1,5 +1,5 @@
 -- What the reader of words knows of tokens.
-use Rattle.std.specs.Prelude.{◌≡◌, ℕ, ◌≤◌, Bool, true, List, [], ◌∷◌, length, slice_range}
+use Rattle.std.specs.Prelude.{◌≡◌, ℕ, ◌≤◌, true, List, [], ◌∷◌, length, slice_range}
 use Rattle.ps_text.specs.declared.token.Token.{Token}
 use Rattle.ps_text.specs.declared.token_kind.TokenKind.TheVariants.{Number}
 use Rattle.ps_text.specs.Lexing.{IsNumber}

@@ -1,4 +1,4 @@
-use Rattle.std.proofs.Common.{◌≡◌, drop, map, ℕ, List}
+use Rattle.std.proofs.Common.{◌≡◌, drop}
 use Rattle.ps_syntax.specs.Names.{position_from}
 use Rattle.ps_syntax.proofs.declared.local_position.Given as goal
 

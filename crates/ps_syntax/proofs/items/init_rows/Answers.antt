@@ -1,4 +1,4 @@
-use Rattle.std.proofs.Common.{◌+◌, arith, ◌∙◌}
+use Rattle.std.proofs.Common.{arith}
 use Rattle.ps_syntax.specs.Items.{rows_from}
 use Rattle.ps_syntax.proofs.Declarations.{counts_none, counts_stop, counts_more, counts_all}
 use Rattle.ps_syntax.proofs.items.init_rows.Goals as goal

@@ -1,9 +1,7 @@
 use Rattle.std.proofs.Common.{arith, Ok}
-use Rattle.std.specs.Prelude.{All, length}
-use Rattle.ps_text.specs.Lexing.{AreTokens, IsInside}
 use Rattle.ps_syntax.specs.Items.{program_of}
 use Rattle.ps_syntax.specs.Words.{words_of}
-use Rattle.ps_syntax.specs.Texts.{end_of, IsProgram}
+use Rattle.ps_syntax.specs.Texts.{end_of}
 use Rattle.ps_syntax.proofs.TextLaws.{cut_found, cut_only, cut_exact, cut_not_bad, cut_token, cut_grammar, uncut_exact, uncut_bad, uncut_token, uncut_grammar}
 use Rattle.ps_syntax.proofs.WordsWithin.{tokens_within, tokens_few}
 use Rattle.ps_syntax.proofs.reading.read_program.Goals as goal

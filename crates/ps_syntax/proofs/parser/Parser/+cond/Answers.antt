@@ -1,8 +1,7 @@
 use Rattle.std.proofs.Common.{sym, ◌∙◌}
 use Rattle.std.proofs.lemmas.Result.{err_from_is_err_and}
 use Rattle.ps_text.specs.declared.token_kind.TokenKind.TheVariants as kind
-use Rattle.ps_syntax.specs.declared.cond.Cond.{Cond}
-use Rattle.ps_syntax.specs.Words.{Read, with_front, while_at, next_is, after_word}
+use Rattle.ps_syntax.specs.Words.{with_front, while_at, next_is, after_word}
 use Rattle.ps_syntax.specs.Seen.{seen}
 use Rattle.ps_syntax.specs.Scoped.{names_in}
 use Rattle.ps_syntax.specs.Conds.{conj_with, unary_at}
