@@ -13,8 +13,8 @@ use Rattle.ps_syntax.specs.Words.{Word, At, Read, next_is, place_at, after_word}
 use Rattle.ps_syntax.specs.Sums.{sign_of, relation_at}
 use Rattle.ps_syntax.specs.Conds.{one_or_all, members_at, conj_with, cond_with, opens_at, unary_at, cond_at, test_at, parens_at}
 use Rattle.ps_syntax.specs.Spelling.{Piece, Mark, relation_pieces, cond_pieces, conj_pieces, unary_pieces, test_pieces}
-use Rattle.ps_syntax.proofs.Steps.{same_kind, Ahead, begins_piece, next_ahead, Always}
-use Rattle.ps_syntax.proofs.Sequences.{IsMark, mapped, GoesOn, Ends}
+use Rattle.ps_syntax.proofs.Steps.{Ahead, begins_piece, next_ahead, Always}
+use Rattle.ps_syntax.proofs.Sequences.{IsMark, mapped, Ends}
 use Rattle.ps_syntax.proofs.SumLaws.{SumEnds}
 use Rattle.ps_syntax.proofs.RelationLaws.{all_signs, every_sign, SignIn, relation_begins}
 use Rattle.ps_syntax.proofs.CondLaws.{members_go_on, members_pieces, conj_chain, conj_first, conj_rest, conj_back, conj_spelled, ConjEnds, cond_chain, cond_first, cond_rest, cond_back, cond_spelled, CondEnds, inner_pieces, cond_begins, test_spelled}

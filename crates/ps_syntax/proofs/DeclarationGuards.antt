@@ -19,10 +19,10 @@ use Rattle.ps_syntax.specs.Items.{Declared, most_globals, most_locals, most_rows
 use Rattle.ps_syntax.specs.Spelling.{Piece, Mark, relation_pieces, value_pieces, item_pieces}
 use Rattle.ps_syntax.specs.Reads.{HasInitSigns}
 use Rattle.ps_syntax.proofs.Steps.{begins_piece, next_ahead, Not, Always, gets_bind, gets_end, gets_more}
-use Rattle.ps_syntax.proofs.Sequences.{mapped, both, GoesOn}
+use Rattle.ps_syntax.proofs.Sequences.{mapped, both}
 use Rattle.ps_syntax.proofs.SumLaws.{number_piece, SumEnds, all_from}
 use Rattle.ps_syntax.proofs.RelationLaws.{init_signs, every_init_sign, no_init_sign, SignIn}
-use Rattle.ps_syntax.proofs.DeclarationLaws.{relations_go_on, number_pieces, negated, with_global, with_local, with_inits, and_pieces, more_is, relations_join}
+use Rattle.ps_syntax.proofs.DeclarationLaws.{relations_go_on, number_pieces, negated, with_global, with_local, with_inits, more_is, relations_join}
 use Rattle.ps_syntax.proofs.Guards.{Keeps, refused_bind, lets_bind, lets_end, keeps_bind, keeps_end, keeps_more, next_test, Went, Stood, Guards, Any, Same, Example, word_guards}
 use Rattle.ps_syntax.proofs.GuardSteps.{guards_same, guards_as, mapped_guards, mapped_any, paired, pair_up, nothing_guards, both_guards, after_guards, example_closed, OfSort, choice_guards}
 use Rattle.ps_syntax.proofs.GuardLoops.{while_guards}

@@ -16,7 +16,7 @@ use Rattle.ps_syntax.specs.Words.{Word, At, next_is, word_at, after_word}
 use Rattle.ps_syntax.specs.Names.{Names, variable_of}
 use Rattle.ps_syntax.specs.Sums.{number_value, signed, init_sign_of, relation_at}
 use Rattle.ps_syntax.specs.Items.{Declared, most_globals, most_locals, names_of, is_declared, refused_name, new_name_at, number_at, value_at, global_at, local_at, init_at, counted_item_at, with_rows}
-use Rattle.ps_syntax.specs.Spelling.{Piece, NamePiece, NumberPiece, Mark, minus_pieces, relation_pieces, value_pieces, more_relations, item_pieces}
+use Rattle.ps_syntax.specs.Spelling.{Piece, NumberPiece, Mark, minus_pieces, relation_pieces, value_pieces, more_relations, item_pieces}
 use Rattle.ps_syntax.specs.Trees.{relation_tree, value_of, with_item}
 use Rattle.ps_syntax.specs.Fits.{RelationFits, IsNew}
 use Rattle.ps_syntax.proofs.Steps.{places, Takes, takes_none, takes_so, Ahead, begins_piece, next_ahead, Not, Always, Finds, Gets, found_bind, found_end, found_if, found_more, gets_bind, gets_end, gets_true, gets_false, Spelled, Exact}

@@ -16,3 +16,5 @@ pub mod CondGuards
 pub mod StmtGuards
 pub mod DeclarationGuards
 pub mod ProgramGuards
+pub mod OneAnswer
+pub mod Examples

@@ -15,9 +15,9 @@ use Rattle.ps_syntax.specs.Conds.{parens_at}
 use Rattle.ps_syntax.specs.Blocks.{ended_at, assign_at, havoc_at, cond_stmt_at, skip_at, atomic_at, else_at, if_at, while_stmt_at, kind_at, stmt_at, has_more, block_at}
 use Rattle.ps_syntax.specs.Spelling.{Piece, Mark, cond_pieces, test_pieces, stmt_pieces, rest_pieces, block_pieces}
 use Rattle.ps_syntax.proofs.Steps.{begins_piece, next_ahead, Not, Always}
-use Rattle.ps_syntax.proofs.Sequences.{IsMark, GoesOn}
+use Rattle.ps_syntax.proofs.Sequences.{IsMark}
 use Rattle.ps_syntax.proofs.StmtLaws.{else_pieces, if_pieces, if_of, if_spelled, if_is, then_spelled}
-use Rattle.ps_syntax.proofs.BlockLaws.{stmts_go_on, stmt_begins, stmt_some, block_of, stmts_of, block_back, block_spelled, goes_on}
+use Rattle.ps_syntax.proofs.BlockLaws.{stmts_go_on, block_of, stmts_of, block_back, block_spelled, goes_on}
 use Rattle.ps_syntax.proofs.Guards.{IsTest, next_test, Guards, Any, Example, pieces_are}
 use Rattle.ps_syntax.proofs.GuardSteps.{guards_same, guards_as, mapped_guards, placed_guards, refusing_guards, nothing_guards, both_guards, three_is, pair_up, of_pair, after_guards, word_then_guards, word_alone, mark_example, closed_guards, example_after, example_closed, OfSort, choice_guards, last_guards}
 use Rattle.ps_syntax.proofs.GuardLoops.{while_guards}

@@ -16,11 +16,11 @@ use Rattle.ps_syntax.specs.Grammar.{ProductText, number, name, number_name, name
 use Rattle.ps_syntax.specs.Words.{Word, At, Read, ◌>>=◌, next_is, place_at, word_at, after_word}
 use Rattle.ps_syntax.specs.Names.{Names, variable_in, variable_at}
 use Rattle.ps_syntax.specs.Sums.{number_value, factor_at, number_product_at, name_product_at, product_at, signed, first_product_at, further_product_at, adds, sum_at, sign_from, sign_at, relation_at}
-use Rattle.ps_syntax.specs.Spelling.{Piece, NamePiece, NumberPiece, Mark, piece_of_kind, product_pieces, minus_pieces, sum_pieces, relation_pieces}
+use Rattle.ps_syntax.specs.Spelling.{Piece, Mark, piece_of_kind, product_pieces, minus_pieces, sum_pieces, relation_pieces}
 use Rattle.ps_syntax.specs.Reads.{BeginAlike}
 use Rattle.ps_syntax.proofs.Steps.{same_kind, kind_of, kind_of_piece, begins_piece, next_ahead, Not, Always, Gets, gets_bind, gets_end}
-use Rattle.ps_syntax.proofs.Sequences.{IsMark, mapped, both, GoesOn}
-use Rattle.ps_syntax.proofs.SumLaws.{number_piece, further_goes_on, SumEnds, SignedText, first_pieces, further_piece, begins_adding, adding, not_star, further_joins, sum_of, parts_of, make_sum, further_is, product_begins}
+use Rattle.ps_syntax.proofs.Sequences.{IsMark, mapped, both}
+use Rattle.ps_syntax.proofs.SumLaws.{number_piece, further_goes_on, SumEnds, SignedText, first_pieces, further_piece, begins_adding, further_joins, sum_of, parts_of, make_sum, further_is, product_begins}
 use Rattle.ps_syntax.proofs.Scopes.{name_piece}
 use Rattle.ps_syntax.proofs.RelationLaws.{AreSigns, SignIn, sign_piece, sign_mark, sign_exact, sign_ends}
 use Rattle.ps_syntax.proofs.Guards.{Refused, Lets, Keeps, refused_bind, lets_bind, lets_end, lets_gets, keeps_bind, keeps_end, IsTest, next_test, Went, Stood, Guards, Any, Same, Example, pieces_are, word_guards}
