@@ -3,6 +3,7 @@ use Rattle.std.proofs.Common.{◌≡◌, ◌≢◌, ℕ, suc, ◌+◌, ◌<◌, 
 use Rattle.std.specs.Prelude.{nat_lt, nat_le, if◌then◌else◌}
 use Rattle.std.specs.List.{All, AllByRecursion}
 use Rattle.std.proofs.lemmas.List.Elements.{All-head, All-tail}
+use Rattle.std.proofs.lemmas.List.Elements.{All-from_recursion}
 use Rattle.ps_text.specs.declared.token_kind.TokenKind.TheVariants as kind
 use Rattle.ps_term.specs.declared.var.Var.TheVariants.{Global}
 use Rattle.ps_syntax.specs.declared.limit_name.LimitName.{LimitName}
@@ -20,7 +21,7 @@ use Rattle.ps_syntax.specs.Spelling.{Piece, Mark, relation_pieces, value_pieces,
 use Rattle.ps_syntax.specs.Reads.{HasInitSigns}
 use Rattle.ps_syntax.proofs.Steps.{begins_piece, next_ahead, Not, Always, gets_bind, gets_end, gets_more}
 use Rattle.ps_syntax.proofs.Sequences.{mapped, both}
-use Rattle.ps_syntax.proofs.SumLaws.{number_piece, SumEnds, all_from}
+use Rattle.ps_syntax.proofs.SumLaws.{number_piece, SumEnds}
 use Rattle.ps_syntax.proofs.RelationLaws.{init_signs, every_init_sign, no_init_sign, SignIn}
 use Rattle.ps_syntax.proofs.DeclarationLaws.{relations_go_on, number_pieces, negated, with_global, with_local, with_inits, more_is, relations_join}
 use Rattle.ps_syntax.proofs.Guards.{Keeps, refused_bind, lets_bind, lets_end, keeps_bind, keeps_end, keeps_more, next_test, Went, Stood, Guards, Any, Same, Example, word_guards}
@@ -147,7 +148,7 @@ unfolding init_at
 init_guards n d =
     guards_as _ _ (λ c. c) (λ c. c) (λ c. refl)
     (λ c. ap (λ (ps : List Piece). Mark kind.Init ∷ (relation_pieces c.0 ++ (ps ++ Mark kind.Semicolon ∷ []))) (more_is c.1))
-    (λ c h. all_from IsInitSign (c.0 ∷ c.1) (no_init_sign c.0.sign h.0, each c.1 h.1))
+    (λ c h. All-from_recursion IsInitSign (c.0 ∷ c.1) (no_init_sign c.0.sign h.0, each c.1 h.1))
     (λ c h. (every_init_sign c.0.sign (All-head IsInitSign c.0 c.1 h), back c.1 (All-tail IsInitSign c.0 c.1 h)))
     (guards_same _ _ (paired (with_inits d) (after_word kind.Init (relation_at init_sign_of (Some (names_of d)) n)) (ended_at (while_at (next_is kind.And) (after_word kind.And (relation_at init_sign_of (Some (names_of d)) n)) n))) (λ i at. refl)
     (mapped_any (λ (p : Relation × List Relation). with_inits d p.0 p.1) (λ (p : Relation × List Relation). nothing_declared)

@@ -4,6 +4,7 @@ use Rattle.std.specs.Prelude.{if◌then◌else◌}
 use Rattle.std.specs.List.{AllByRecursion}
 use Rattle.std.proofs.lemmas.Bool.{cond-true, cond-false}
 use Rattle.std.proofs.lemmas.List.{append-nil, length-map}
+use Rattle.std.proofs.lemmas.List.Elements.{All-from_recursion, recursion_from_All}
 use Rattle.ps_text.specs.declared.place.Place.{Place}
 use Rattle.ps_text.specs.declared.token_kind.TokenKind.TheVariants as kind
 use Rattle.ps_syntax.specs.declared.program.Program.{Program}
@@ -18,7 +19,6 @@ use Rattle.ps_syntax.specs.Items.{Declared, most_levels, nothing_declared, names
 use Rattle.ps_syntax.specs.Spelling.{Piece, Mark, piece_of_kind, pieces, item_pieces, block_pieces, program_pieces}
 use Rattle.ps_syntax.specs.Reads.{HasInitSigns, IsText, BeginAlike, IsFirstFault}
 use Rattle.ps_syntax.proofs.Steps.{Ahead, ahead_so, Always, Gets, gets_bind}
-use Rattle.ps_syntax.proofs.SumLaws.{all_from, all_to}
 use Rattle.ps_syntax.proofs.ProgramLaws.{items_pieces, begins_item, item_ahead, item_begins, few_items, item_some, end_again}
 use Rattle.ps_syntax.proofs.Guards.{Refused, Lets, Keeps, refused_bind, refused_after, lets_bind, lets_end, lets_true, lets_false, keeps_bind, keeps_end, keeps_more, alike_after, IsTest, next_test, Went, Stood, Guards, Any, Example, pieces_are, room_left}
 use Rattle.ps_syntax.proofs.GuardSteps.{after_guards, alike_two, example_after}
@@ -189,7 +189,7 @@ record Fault (at : At) (p : Place) : Type 0 where
   pub same : (i : ℕ) (at' : At) (other : List Word) → length at'.words < suc i → BeginAlike rest other → at'.words ≡ front ++ other → Refused (free_program i at')
 
 is_text : (is : List ItemText) (b : BlockText) (words : List Word) → AllByRecursion HasInitSigns is → pieces words ≡ items_pieces is ++ Mark kind.Thread ∷ block_pieces b → IsText words
-is_text is b words signs e = record { text = record { items = is; body = b }; spelled = e; signs = all_from HasInitSigns is signs }
+is_text is b words signs e = record { text = record { items = is; body = b }; spelled = e; signs = All-from_recursion HasInitSigns is signs }
 
 end_refused : (ws : List Word) → 1 ≤ length ws → Refused (end_from ws)
 end_refused [] h = absurd (omega (arith, h))
@@ -247,7 +247,7 @@ first_fault words end place f = record {
     let at' : At = record { words = f.front ++ others; end = end } in
     let l : length (program_pieces t.text) ≡ length (f.front ++ others) = sym (ap (λ (ps : List Piece). length ps) t.spelled) ∙ length-map (f.front ++ others) (λ (w : Word). piece_of_kind w.kind w.text) in
     clash (free_program i at') (λ u. Unit {0}) (f.same i at' others (omega arith) alike refl)
-    (free_never i at' t.text (all_to HasInitSigns t.text.items t.signs) (record { is = t.spelled; room = omega (arith, l) }));
+    (free_never i at' t.text (recursion_from_All HasInitSigns t.text.items t.signs) (record { is = t.spelled; room = omega (arith, l) }));
 }
 
 fault_is : (r : Result Program ReadRefusal) (Q : Program → Type 0) (R : Place → Type 0) (p : Place) → Keeps r Q R → r ≡ Err (Grammar p) → R p
