@@ -13,13 +13,13 @@ use Rattle.ps_syntax.specs.Words.{Word, At, Read, next_is, place_at, after_word}
 use Rattle.ps_syntax.specs.Sums.{sign_of, relation_at}
 use Rattle.ps_syntax.specs.Conds.{one_or_all, members_at, conj_with, cond_with, opens_at, unary_at, cond_at, test_at, parens_at}
 use Rattle.ps_syntax.specs.Spelling.{Piece, Mark, relation_pieces, cond_pieces, conj_pieces, unary_pieces, test_pieces}
-use Rattle.ps_syntax.proofs.Steps.{same_kind, Ahead, begins_piece, next_ahead, Always}
-use Rattle.ps_syntax.proofs.Sequences.{IsMark, mapped, GoesOn, Ends}
+use Rattle.ps_syntax.proofs.Steps.{Ahead, begins_piece, next_ahead, Always}
+use Rattle.ps_syntax.proofs.Sequences.{IsMark, mapped, Ends}
 use Rattle.ps_syntax.proofs.SumLaws.{SumEnds}
 use Rattle.ps_syntax.proofs.RelationLaws.{all_signs, every_sign, SignIn, relation_begins}
 use Rattle.ps_syntax.proofs.CondLaws.{members_go_on, members_pieces, conj_chain, conj_first, conj_rest, conj_back, conj_spelled, ConjEnds, cond_chain, cond_first, cond_rest, cond_back, cond_spelled, CondEnds, inner_pieces, cond_begins, test_spelled}
 use Rattle.ps_syntax.proofs.Guards.{IsTest, next_test, Any, Example}
-use Rattle.ps_syntax.proofs.GuardSteps.{guards_as, mapped_guards, refusing_guards, both_guards, after_guards, word_then_guards, word_alone, mark_example, closed_guards, example_after, example_closed, OfSort, choice_guards}
+use Rattle.ps_syntax.proofs.GuardSteps.{guards_as, mapped_guards, refusing_guards, both_guards, after_guards, word_refused_guards, word_alone, mark_example, closed_guards, example_after, example_closed, OfSort, choice_guards}
 use Rattle.ps_syntax.proofs.GuardLoops.{while_guards}
 use Rattle.ps_syntax.proofs.SumGuards.{Two, GuardsIn, all_always, relation_guards, relation_example}
 
@@ -95,7 +95,7 @@ unfolding unary_at
 last_guards t =
     choice_guards unary_pieces Always SumEnds opens_at begins_opening opens_test opens_ahead
     (λ u. u) (λ u. refl) (λ u h. tt) relation (λ r. refl) (λ r h. tt) opening_sort (λ rest h. h) (λ rest h. h)
-    (refusing_guards t.left t.left' t.most' (λ at. Limit (place_at at) limit.Depth) unary_pieces Always Any SumEnds (λ at. record { is = tt }))
+    (refusing_guards t.left t.left' t.most' (λ at. Limit (place_at at) limit.Depth) unary_pieces Always Any SumEnds (λ at. record { is = tt }) (λ at. refl) unary_example)
     (rel_guards t)
 
 -- it isn't a negation
@@ -156,9 +156,7 @@ pub parens_guards : (t : Two) (levels : ℕ) → GuardsIn t (parens_at t.scope t
 unfolding parens_at after_word
 parens_guards t zero =
     guards_as test_pieces Always (λ c. c) (λ c. c) (λ c. refl) test_spelled (λ c h. h) (λ c h. h)
-    (word_then_guards kind.OpenParen (λ u. refl) (omega arith) (λ i. omega arith)
-      (λ w. refusing_guards t.left t.left' t.most' (λ at. Limit w.place limit.Depth) after_open Always Any Always (λ at. record { is = tt }))
-      (example_closed kind.CloseParen (λ u. refl) inner_example))
+    (word_refused_guards t.left t.left' t.most' kind.OpenParen (λ w. Limit w.place limit.Depth) after_open Always Any Always (λ u. refl) (λ w. record { is = tt }) (λ w. refl) (example_closed kind.CloseParen (λ u. refl) inner_example))
 parens_guards t (suc levels) =
     guards_as test_pieces Always (λ c. c) (λ c. c) (λ c. refl) test_spelled (λ c h. h) (λ c h. h)
     (after_guards kind.OpenParen (λ u. refl) (omega arith) (λ i. omega arith) (closed_guards kind.CloseParen (λ u. refl) (λ rest. (refl, (refl, (refl, refl)))) (inner_guards t levels)) (example_closed kind.CloseParen (λ u. refl) inner_example))

@@ -1,15 +1,19 @@
 -- The laws of refusals of declarations, beside a reading of them that asks nothing of names.
-use Rattle.std.proofs.Common.{◌≡◌, ◌≢◌, ℕ, suc, ◌+◌, ◌<◌, ℤ, Bool, true, false, ◌⊎◌, inl, inr, List, [], ◌∷◌, ◌++◌, length, Option, Some, None, Err, refl, ap, arith}
+use Rattle.std.proofs.Common.{◌≡◌, ◌≢◌, ℕ, suc, ◌+◌, ◌<◌, ℤ, Bool, true, false, ◌⊎◌, inl, inr, List, [], ◌∷◌, ◌++◌, length, Option, Some, None, Err, refl, ap, arith, ◌∙◌, sym}
 use Rattle.std.specs.Prelude.{nat_lt, nat_le, if◌then◌else◌}
 use Rattle.std.specs.List.{All, AllByRecursion}
 use Rattle.std.proofs.lemmas.List.Elements.{All-head, All-tail}
+use Rattle.std.proofs.lemmas.List.Elements.{All-from_recursion}
+use Rattle.ps_text.specs.declared.place.Place.{Place}
 use Rattle.ps_text.specs.declared.token_kind.TokenKind.TheVariants as kind
 use Rattle.ps_term.specs.declared.var.Var.TheVariants.{Global}
 use Rattle.ps_syntax.specs.declared.limit_name.LimitName.{LimitName}
 use Rattle.ps_syntax.specs.declared.limit_name.LimitName.TheVariants as limit
 use Rattle.ps_syntax.specs.declared.relation.Relation.{Relation}
 use Rattle.ps_syntax.specs.declared.relation.Sign.TheVariants as sign
-use Rattle.ps_syntax.specs.declared.read_refusal.ReadRefusal.TheVariants.{Limit}
+use Rattle.ps_syntax.specs.declared.read_refusal.ReadRefusal.{ReadRefusal}
+use Rattle.ps_term.specs.declared.var.Var.{Var}
+use Rattle.ps_syntax.specs.declared.read_refusal.ReadRefusal.TheVariants.{Limit, Twice}
 use Rattle.ps_syntax.specs.Grammar.{RelationText, ValueText, ItemText, global, local, init}
 use Rattle.ps_syntax.specs.Words.{Word, At, Read, next_is, place_at, word_at, after_word, while_at}
 use Rattle.ps_syntax.specs.Names.{Names, variable_of}
@@ -17,13 +21,13 @@ use Rattle.ps_syntax.specs.Sums.{number_value, init_sign_of, relation_at}
 use Rattle.ps_syntax.specs.Blocks.{ended_at}
 use Rattle.ps_syntax.specs.Items.{Declared, most_globals, most_locals, most_rows, nothing_declared, names_of, is_declared, refused_name, new_name_at, number_at, value_at, global_at, local_at, init_at, item_rows, counted_item_at, with_rows, item_at}
 use Rattle.ps_syntax.specs.Spelling.{Piece, Mark, relation_pieces, value_pieces, item_pieces}
-use Rattle.ps_syntax.specs.Reads.{HasInitSigns}
+use Rattle.ps_syntax.specs.Reads.{HasInitSigns, refusal_place}
 use Rattle.ps_syntax.proofs.Steps.{begins_piece, next_ahead, Not, Always, gets_bind, gets_end, gets_more}
-use Rattle.ps_syntax.proofs.Sequences.{mapped, both, GoesOn}
-use Rattle.ps_syntax.proofs.SumLaws.{number_piece, SumEnds, all_from}
+use Rattle.ps_syntax.proofs.Sequences.{mapped, both}
+use Rattle.ps_syntax.proofs.SumLaws.{number_piece, SumEnds}
 use Rattle.ps_syntax.proofs.RelationLaws.{init_signs, every_init_sign, no_init_sign, SignIn}
-use Rattle.ps_syntax.proofs.DeclarationLaws.{relations_go_on, number_pieces, negated, with_global, with_local, with_inits, and_pieces, more_is, relations_join}
-use Rattle.ps_syntax.proofs.Guards.{Keeps, refused_bind, lets_bind, lets_end, keeps_bind, keeps_end, keeps_more, next_test, Went, Stood, Guards, Any, Same, Example, word_guards}
+use Rattle.ps_syntax.proofs.DeclarationLaws.{relations_go_on, number_pieces, negated, with_global, with_local, with_inits, more_is, relations_join}
+use Rattle.ps_syntax.proofs.Guards.{Lets, not_grammar, placed_word, Keeps, refused_bind, lets_bind, lets_end, keeps_bind, keeps_end, keeps_more, next_test, Went, Stood, Guards, Any, Same, Example, word_guards}
 use Rattle.ps_syntax.proofs.GuardSteps.{guards_same, guards_as, mapped_guards, mapped_any, paired, pair_up, nothing_guards, both_guards, after_guards, example_closed, OfSort, choice_guards}
 use Rattle.ps_syntax.proofs.GuardLoops.{while_guards}
 use Rattle.ps_syntax.proofs.SumGuards.{Two, Widens, name_example, number_example, relation_guards, relation_example}
@@ -40,18 +44,25 @@ unfolding new_name_at
 new_guards n n' most d count limit' what = record {
   never = λ i at x rest fine h _. lets_bind _ _ _ _ ((word_guards n n' most kind.Name).never i at x rest tt h tt) (λ w p. lets_end _ _ p);
   stuck = λ at room.
-    keeps_bind _ _ _ _ _ _ ((word_guards n n' most kind.Name).stuck at room)
-      (λ w p. by_tests at w p (is_declared (variable_of (names_of d) w.0.text)) (nat_le limit' count))
-      (λ q r. record {
+    keeps_bind _ _ _ _ _ _ (placed_word n n' most kind.Name at room)
+      (λ w p. by_tests at w p.0 p.1 (is_declared (variable_of (names_of d) w.0.text)) (nat_le limit' count))
+      (λ e r. record {
         text = r.text; fine = tt; front = r.front; rest = r.rest; more = r.more; split = r.split; place = r.place; spelled = r.spelled;
-        same = λ i at' other room' s h. refused_bind _ _ (r.same i at' other room' s h);
+        same = λ g i at' other room' s h. refused_bind _ _ (r.same g i at' other room' s h);
       });
 }
   where
-    by_tests : (at : At) (w : Word × At) → Went n' (λ i. word_at kind.Name) name_piece Always Same at w → (t u : Bool) → Keeps (refused_name t u what w) (Went n' (λ i. free_name) name_piece Always Any at) (Stood n' (λ i. free_name) name_piece Always at)
-    by_tests at w p true u = record { is = tt }
-    by_tests at w p false true = record { is = tt }
-    by_tests at w p false false = keeps_end _ _ _ (record {
+    at_name : (at : At) (w : Word × At) (e : ReadRefusal) → place_at at ≡ w.0.place → refusal_place e ≡ Some w.0.place → Lets {A = Var} (Err e) (λ _. ⊥) → Stood n' (λ i. free_name) name_piece Always at e
+    at_name at w e place is other = record {
+      text = []; fine = tt; front = []; rest = at.words; more = record { kind = kind.Name; text = []; place = record { line = 0; column = 0 } } ∷ []; split = refl; spelled = refl;
+      place = is ∙ ap (λ (o : Place). Some o) (sym place);
+      same = λ g i at' more room' s h. absurd (not_grammar e other g);
+    }
+
+    by_tests : (at : At) (w : Word × At) → Went n' (λ i. word_at kind.Name) name_piece Always Same at w → place_at at ≡ w.0.place → (t u : Bool) → Keeps (refused_name t u what w) (Went n' (λ i. free_name) name_piece Always Any at) (Stood n' (λ i. free_name) name_piece Always at)
+    by_tests at w p place true u = record { is = at_name at w (Twice w.0.place) place refl (record { is = tt }) }
+    by_tests at w p place false true = record { is = at_name at w (Limit w.0.place what) place refl (record { is = tt }) }
+    by_tests at w p place false false = keeps_end _ _ _ (record {
       text = p.text; fine = tt; front = p.front; split = p.split; ends = p.ends; spelled = p.spelled;
       same = λ i at' other room' s h. gets_bind _ _ _ _ (p.same i at' other room' s h) (λ w' a. gets_end _ _ (tt, a.1));
     })
@@ -147,7 +158,7 @@ unfolding init_at
 init_guards n d =
     guards_as _ _ (λ c. c) (λ c. c) (λ c. refl)
     (λ c. ap (λ (ps : List Piece). Mark kind.Init ∷ (relation_pieces c.0 ++ (ps ++ Mark kind.Semicolon ∷ []))) (more_is c.1))
-    (λ c h. all_from IsInitSign (c.0 ∷ c.1) (no_init_sign c.0.sign h.0, each c.1 h.1))
+    (λ c h. All-from_recursion IsInitSign (c.0 ∷ c.1) (no_init_sign c.0.sign h.0, each c.1 h.1))
     (λ c h. (every_init_sign c.0.sign (All-head IsInitSign c.0 c.1 h), back c.1 (All-tail IsInitSign c.0 c.1 h)))
     (guards_same _ _ (paired (with_inits d) (after_word kind.Init (relation_at init_sign_of (Some (names_of d)) n)) (ended_at (while_at (next_is kind.And) (after_word kind.And (relation_at init_sign_of (Some (names_of d)) n)) n))) (λ i at. refl)
     (mapped_any (λ (p : Relation × List Relation). with_inits d p.0 p.1) (λ (p : Relation × List Relation). nothing_declared)
@@ -210,5 +221,9 @@ item_guards n d = record {
   where
     by_test : (at : At) → length at.words < suc n → (t : Bool)
         → Keeps (if t then Err (Limit (place_at at) limit.Init) else counted_item_at (with_rows (d.rows + item_rows n at) d) n at) (Went (λ i. suc i) free_item item_pieces HasInitSigns Any at) (Stood (λ i. suc i) free_item item_pieces HasInitSigns at)
-    by_test at room true = record { is = tt }
+    by_test at room true = record { is = record {
+      text = local []; fine = tt; front = []; rest = at.words; split = refl; place = refl; spelled = refl;
+      more = record { kind = kind.Local; text = []; place = record { line = 0; column = 0 } } ∷ record { kind = kind.Name; text = []; place = record { line = 0; column = 0 } } ∷ record { kind = kind.Semicolon; text = []; place = record { line = 0; column = 0 } } ∷ [];
+      same = λ g i at' more room' s h. absurd (not_grammar {A = Var} (Limit (place_at at) limit.Init) (record { is = tt }) g);
+    } }
     by_test at room false = (counted_guards n (with_rows (d.rows + item_rows n at) d)).stuck at room

@@ -4,6 +4,7 @@ use Rattle.std.specs.Prelude.{nat_le}
 use Rattle.std.specs.List.{flat_map, All}
 use Rattle.std.proofs.lemmas.Bool.{leb-false, lt-leb}
 use Rattle.std.proofs.lemmas.List.Elements.{All-cons, All-head, All-tail}
+use Rattle.std.proofs.lemmas.List.Elements.{All-from_recursion, recursion_from_All}
 use Rattle.ps_text.specs.declared.place.Place.{Place}
 use Rattle.ps_text.specs.declared.token_kind.TokenKind.TheVariants as kind
 use Rattle.ps_term.specs.declared.var.Var.{Var}
@@ -16,13 +17,13 @@ use Rattle.ps_syntax.specs.Words.{Word, At, next_is, word_at, after_word}
 use Rattle.ps_syntax.specs.Names.{Names, variable_of}
 use Rattle.ps_syntax.specs.Sums.{number_value, signed, init_sign_of, relation_at}
 use Rattle.ps_syntax.specs.Items.{Declared, most_globals, most_locals, names_of, is_declared, refused_name, new_name_at, number_at, value_at, global_at, local_at, init_at, counted_item_at, with_rows}
-use Rattle.ps_syntax.specs.Spelling.{Piece, NamePiece, NumberPiece, Mark, minus_pieces, relation_pieces, value_pieces, more_relations, item_pieces}
+use Rattle.ps_syntax.specs.Spelling.{Piece, NumberPiece, Mark, minus_pieces, relation_pieces, value_pieces, more_relations, item_pieces}
 use Rattle.ps_syntax.specs.Trees.{relation_tree, value_of, with_item}
 use Rattle.ps_syntax.specs.Fits.{RelationFits, IsNew}
 use Rattle.ps_syntax.proofs.Steps.{places, Takes, takes_none, takes_so, Ahead, begins_piece, next_ahead, Not, Always, Finds, Gets, found_bind, found_end, found_if, found_more, gets_bind, gets_end, gets_true, gets_false, Spelled, Exact}
 use Rattle.ps_syntax.proofs.Sequences.{word_exact, exact_as, mapped, mapped_exact, after_exact, both_exact, ListSays, GoesOn, while_exact}
 use Rattle.ps_syntax.proofs.Scopes.{name_piece}
-use Rattle.ps_syntax.proofs.SumLaws.{SumEnds, all_from, all_to}
+use Rattle.ps_syntax.proofs.SumLaws.{SumEnds}
 use Rattle.ps_syntax.proofs.RelationLaws.{init_signs, every_init_sign, no_init_sign, relation_exact}
 use Rattle.ps_syntax.proofs.CondLaws.{Is}
 use Rattle.ps_syntax.proofs.StmtLaws.{ended_exact, found_as}
@@ -185,8 +186,8 @@ unfolding init_at
 init_exact n d =
     exact_as _ _ _ (λ c. c) (λ c. c) (λ c. refl)
     (λ c. ap (λ (ps : List Piece). Mark kind.Init ∷ (relation_pieces c.0 ++ (ps ++ Mark kind.Semicolon ∷ []))) (more_is c.1))
-    (λ c h. All-cons (InitFits d) c.0 c.1 h.0 (all_from (InitFits d) c.1 h.1))
-    (λ c h. (All-head (InitFits d) c.0 c.1 h, all_to (InitFits d) c.1 (All-tail (InitFits d) c.0 c.1 h)))
+    (λ c h. All-cons (InitFits d) c.0 c.1 h.0 (All-from_recursion (InitFits d) c.1 h.1))
+    (λ c h. (All-head (InitFits d) c.0 c.1 h, recursion_from_All (InitFits d) c.1 (All-tail (InitFits d) c.0 c.1 h)))
     (λ c ps y h. h.is ∙ ap (λ (r : Relation). with_inits d r h.second) h.said_first ∙ ap (with_inits d (relation_tree (names_of d) c.0)) (relations_said (names_of d) c.1 _ h.second h.said_second))
     (both_exact (with_inits d) (after_exact kind.Init (λ t. refl) (init_relation n d))
       (ended_exact (λ rest. (refl, (refl, refl))) (while_exact (next_is kind.And) (begins_piece kind.And) relations_go_on (after_exact kind.And (λ t. refl) (init_relation n d))))

@@ -1,5 +1,5 @@
 -- The laws of refusals of what is read as long as it goes on.
-use Rattle.std.proofs.Common.{◌≡◌, ℕ, zero, suc, ◌-◌, ◌<◌, ◌≤◌, Bool, true, false, List, [], ◌∷◌, ◌++◌, length, Result, Ok, refl, sym, ap, subst, ◌∙◌, arith, append_assoc}
+use Rattle.std.proofs.Common.{◌≡◌, Some, ℕ, zero, suc, ◌-◌, ◌<◌, ◌≤◌, Bool, true, false, List, [], ◌∷◌, ◌++◌, length, Result, Ok, refl, sym, ap, subst, ◌∙◌, arith, append_assoc}
 use Rattle.std.specs.Prelude.{if◌then◌else◌}
 use Rattle.std.specs.List.{flat_map, AllByRecursion}
 use Rattle.std.proofs.lemmas.List.{append-nil}
@@ -45,15 +45,15 @@ while_never {C = C} {most = most} {spell = spell} {follows = follows} goes begin
 
 -- the first turn failed, with its place
 turn_fails : {C A : Type 0} {n : ℕ} {n' most : ℕ → ℕ} {read : Read A} {read' : ℕ → Read A} {spell : C → List Piece} {okay : C → Type 0} {alike : A → A → Type 0} {follows : List Piece → Type 0}
-    (goes : At → Bool) → IsTest goes → Guards n n' most read read' spell okay alike follows → (m' l' : ℕ → ℕ) → ((i : ℕ) → l' i ≤ m' i) → ((i : ℕ) → l' i ≤ n' i) → (at : At) → goes at ≡ true → (p : Place)
+    (goes : At → Bool) → IsTest goes → Guards n n' most read read' spell okay alike follows → (m' l' : ℕ → ℕ) → ((i : ℕ) → l' i ≤ m' i) → ((i : ℕ) → l' i ≤ n' i) → (at : At) → goes at ≡ true → (p : ReadRefusal)
     → Stood n' read' spell okay at p → Stood l' (λ i. while_at goes (read' i) (m' i)) (flat_map spell) (AllByRecursion okay) at p
 turn_fails {read' = read'} {spell = spell} goes test g m' l' a' b' at e p q = record {
   text = q.text ∷ []; fine = (q.fine, tt); front = q.front; rest = q.rest; more = q.more; split = q.split; place = q.place;
   spelled = q.spelled ∙ sym (append-nil (spell q.text));
-  same = λ i at' other room' s h.
+  same = λ g i at' other room' s h.
     let on : goes at' ≡ true = sym (test.same at at' (alike_two at.words at'.words q.front q.rest other q.split h s)) ∙ e in
     subst Refused (sym (turned goes (read' i) (m' i) at' (omega (arith, room', a' i))))
-      (refused_true (goes at') _ _ on (refused_bind _ _ (q.same i at' other (omega (arith, room', b' i)) s h)));
+      (refused_true (goes at') _ _ on (refused_bind _ _ (q.same g i at' other (omega (arith, room', b' i)) s h)));
 }
 
 -- after the first turn, what the others do
@@ -82,16 +82,16 @@ turn_goes {n' = n'} {read' = read'} {spell = spell} goes test some g m' l' a' b'
       (λ f q. record {
         text = p.text ∷ q.text; fine = (p.fine, q.fine); front = p.front ++ q.front; rest = q.rest; more = q.more;
         split = p.split ∙ ap (λ (ws : List Word). p.front ++ ws) q.split ∙ sym (append_assoc p.front q.front q.rest);
-        place = q.place ∙ ap (place_of_next q.rest) p.ends;
+        place = q.place ∙ ap (λ (o : Place). Some (place_of_next q.rest o)) p.ends;
         spelled = ap pieces (append_assoc p.front q.front q.more) ∙ pieces_are p.front (q.front ++ q.more) (spell p.text) (flat_map spell q.text) p.spelled q.spelled;
-        same = λ i at' other room' s k.
+        same = λ g i at' other room' s k.
           let joined : at'.words ≡ p.front ++ (q.front ++ other) = k ∙ append_assoc p.front q.front other in
           let next : BeginAlike x.1.words (q.front ++ other) = subst (λ (ws : List Word). BeginAlike ws (q.front ++ other)) (sym q.split) (alike_after q.front q.rest other s) in
           let on : goes at' ≡ true = sym (test.same at at' (alike_two at.words at'.words p.front x.1.words (q.front ++ other) p.split joined next)) ∙ e in
           subst Refused (sym (turned goes (read' i) (m' i) at' (omega (arith, room', a' i))))
             (refused_true (goes at') _ _ on
             (refused_after _ _ _ (p.same i at' (q.front ++ other) (omega (arith, room', b' i)) next joined) (λ x' a.
-            refused_bind _ _ (q.same i x'.1 other (room_left (l' i) (l' i - 1) at'.words p.front x'.1.words (spell p.text) room' (joined ∙ ap (λ (ws : List Word). p.front ++ ws) (sym a.1)) p.spelled (omega (arith, some p.text, room'))) s a.1))));
+            refused_bind _ _ (q.same g i x'.1 other (room_left (l' i) (l' i - 1) at'.words p.front x'.1.words (spell p.text) room' (joined ∙ ap (λ (ws : List Word). p.front ++ ws) (sym a.1)) p.spelled (omega (arith, some p.text, room'))) s a.1))));
       })
 
 -- where it doesn't go on, neither does the other

@@ -1,5 +1,5 @@
 -- The laws of refusals of what is read of several steps.
-use Rattle.std.proofs.Common.{◌≡◌, ℕ, suc, ◌+◌, ◌<◌, ◌≤◌, Bool, true, false, ◌⊎◌, inl, inr, List, [], ◌∷◌, ◌++◌, length, Result, Ok, Err, refl, sym, ap, subst, ◌∙◌, arith, append_assoc}
+use Rattle.std.proofs.Common.{◌≡◌, Some, ℕ, suc, ◌+◌, ◌<◌, ◌≤◌, Bool, true, false, ◌⊎◌, inl, inr, List, [], ◌∷◌, ◌++◌, length, Result, Ok, Err, refl, sym, ap, subst, ◌∙◌, arith, append_assoc}
 use Rattle.std.specs.Prelude.{if◌then◌else◌}
 use Rattle.ps_text.specs.declared.place.Place.{Place}
 use Rattle.ps_text.specs.declared.token_kind.TokenKind.{TokenKind}
@@ -7,10 +7,10 @@ use Rattle.ps_syntax.specs.declared.read_refusal.ReadRefusal.{ReadRefusal}
 use Rattle.ps_syntax.specs.declared.read_refusal.ReadRefusal.TheVariants.{Grammar}
 use Rattle.ps_syntax.specs.Words.{Word, At, Read, and_then, ◌>>=◌, next_is, place_of_next, place_at, word_at, after_word}
 use Rattle.ps_syntax.specs.Spelling.{Piece, Mark, pieces}
-use Rattle.ps_syntax.specs.Reads.{BeginAlike}
+use Rattle.ps_syntax.specs.Reads.{BeginAlike, refusal_place}
 use Rattle.ps_syntax.proofs.Steps.{Ahead, ahead_so, begins_piece, next_ahead, Always, Gets, gets_bind, gets_end, gets_true, gets_false}
 use Rattle.ps_syntax.proofs.Sequences.{mapped, both, closed, IsMark}
-use Rattle.ps_syntax.proofs.Guards.{Refused, Lets, Keeps, refused_bind, refused_after, refused_true, refused_false, lets_bind, lets_end, lets_true, lets_false, keeps_bind, keeps_end, keeps_more, alike_after, IsTest, next_test, Went, Stood, Guards, Any, Same, Example, pieces_are, room_left, word_guards}
+use Rattle.ps_syntax.proofs.Guards.{not_grammar, placed_word, Refused, Lets, Keeps, refused_bind, refused_after, refused_true, refused_false, lets_bind, lets_end, lets_true, lets_false, keeps_bind, keeps_end, keeps_more, alike_after, IsTest, next_test, Went, Stood, Guards, Any, Same, Example, pieces_are, room_left, word_guards}
 
 -- ---- the same function, and the same texts otherwise
 
@@ -26,7 +26,7 @@ guards_same {n' = n'} {most = most} {spell = spell} {okay = okay} {alike = alike
       })
       (λ p q. record {
         text = q.text; fine = q.fine; front = q.front; rest = q.rest; more = q.more; split = q.split; place = q.place; spelled = q.spelled;
-        same = λ i at' more room' s h. subst (λ r. Refused r) (e' i at') (q.same i at' more room' s h);
+        same = λ g i at' more room' s h. subst (λ r. Refused r) (e' i at') (q.same g i at' more room' s h);
       }));
 }
 
@@ -35,7 +35,7 @@ went_as : {C D A : Type 0} {n' : ℕ → ℕ} {read' : ℕ → Read A} {spell : 
 went_as spell' okay' f spelled fine at y p = record { text = f p.text; fine = fine p.text p.fine; front = p.front; split = p.split; ends = p.ends; spelled = p.spelled ∙ spelled p.text; same = p.same }
 
 stood_as : {C D A : Type 0} {n' : ℕ → ℕ} {read' : ℕ → Read A} {spell : C → List Piece} {okay : C → Type 0} (spell' : D → List Piece) (okay' : D → Type 0) (f : C → D) → ((c : C) → spell c ≡ spell' (f c)) → ((c : C) → okay c → okay' (f c))
-    → (at : At) (p : Place) → Stood n' read' spell okay at p → Stood n' read' spell' okay' at p
+    → (at : At) (p : ReadRefusal) → Stood n' read' spell okay at p → Stood n' read' spell' okay' at p
 stood_as spell' okay' f spelled fine at p q = record { text = f q.text; fine = fine q.text q.fine; front = q.front; rest = q.rest; more = q.more; split = q.split; place = q.place; spelled = q.spelled ∙ spelled q.text; same = q.same }
 
 pub guards_as : {C D A : Type 0} {n : ℕ} {n' most : ℕ → ℕ} {read : Read A} {read' : ℕ → Read A} {spell : C → List Piece} {okay : C → Type 0} {alike : A → A → Type 0} {follows : List Piece → Type 0}
@@ -58,25 +58,24 @@ mapped_guards alike' of liked g = record {
       }))
       (λ p q. record {
         text = q.text; fine = q.fine; front = q.front; rest = q.rest; more = q.more; split = q.split; place = q.place; spelled = q.spelled;
-        same = λ i at' more room' s h. refused_bind _ _ (q.same i at' more room' s h);
+        same = λ g i at' more room' s h. refused_bind _ _ (q.same g i at' more room' s h);
       });
 }
 
--- a refusal that is no fault of the grammar
+-- a refusal at the next word that is no fault of the grammar
 pub refusing_guards : {C A : Type 0} (n : ℕ) (n' most : ℕ → ℕ) (why : At → ReadRefusal) (spell : C → List Piece) (okay : C → Type 0) (alike : A → A → Type 0) (follows : List Piece → Type 0)
-    → ((at : At) → Lets {A = A × At} (Err (why at)) (λ _. ⊥)) → Guards {A = A} n n' most (λ at. Err (why at)) (λ i at. Err (why at)) spell okay alike follows
-refusing_guards n n' most why spell okay alike follows other = record {
+    → ((at : At) → Lets {A = A × At} (Err (why at)) (λ _. ⊥)) → ((at : At) → refusal_place (why at) ≡ Some (place_at at)) → Example spell okay → Guards {A = A} n n' most (λ at. Err (why at)) (λ i at. Err (why at)) spell okay alike follows
+refusing_guards n n' most why spell okay alike follows other place example = record {
   never = λ i at c rest fine h stop. lets_other (why at) _ _ (other at);
-  stuck = λ at room. keeps_other (why at) _ _ _ (other at);
+  stuck = λ at room. record { is = record {
+    text = example.text; fine = example.fine; front = []; rest = at.words; more = example.words; split = refl; place = place at; spelled = example.spelled;
+    same = λ g i at' more room' s h. absurd (not_grammar (why at) (other at) g);
+  } };
 }
   where
     lets_other : {X : Type 0} (e : ReadRefusal) (Q R : X → Type 0) → Lets (Err e) Q → Lets (Err e) R
     lets_other (Grammar p) Q R h = absurd h.is
     lets_other e Q R h = record { is = tt }
-
-    keeps_other : {X : Type 0} (e : ReadRefusal) (Q R : X → Type 0) (S : Place → Type 0) → Lets (Err e) Q → Keeps (Err e) R S
-    keeps_other (Grammar p) Q R S h = absurd h.is
-    keeps_other e Q R S h = record { is = tt }
 
 -- nothing is read
 pub nothing_guards : {A : Type 0} (n : ℕ) (n' most : ℕ → ℕ) (x : A) (alike : A → A → Type 0) → alike x x → (follows : List Piece → Type 0) → Guards n n' most (λ at. Ok (x, at)) (λ i at. Ok (x, at)) (λ (u : Unit {0}). []) Always alike follows
@@ -111,17 +110,17 @@ both_guards {n = n} {m = m} {n' = n'} {m' = m'} {one' = one'} {two' = two'} {spe
         (λ e q. record {
           text = (p.text, q.text); fine = (p.fine, q.fine); front = p.front ++ q.front; rest = q.rest; more = q.more;
           split = p.split ∙ ap (λ (ws : List Word). p.front ++ ws) q.split ∙ sym (append_assoc p.front q.front q.rest);
-          place = q.place ∙ ap (place_of_next q.rest) p.ends;
+          place = q.place ∙ ap (λ (o : Place). Some (place_of_next q.rest o)) p.ends;
           spelled = ap pieces (append_assoc p.front q.front q.more) ∙ pieces_are p.front (q.front ++ q.more) (spell p.text) (spell' q.text) p.spelled q.spelled;
-          same = λ i at' other room' s h.
+          same = λ g i at' other room' s h.
             refused_after _ _ _ (p.same i at' (q.front ++ other) room' (subst (λ (ws : List Word). BeginAlike ws (q.front ++ other)) (sym q.split) (alike_after q.front q.rest other s)) (h ∙ append_assoc p.front q.front other)) (λ x' a.
-            refused_bind _ _ (q.same i x'.1 other (room_left (n' i) (m' i) at'.words p.front x'.1.words (spell p.text) room' (h ∙ append_assoc p.front q.front other ∙ ap (λ (ws : List Word). p.front ++ ws) (sym a.1)) p.spelled (short' i p.text)) s a.1));
+            refused_bind _ _ (q.same g i x'.1 other (room_left (n' i) (m' i) at'.words p.front x'.1.words (spell p.text) room' (h ∙ append_assoc p.front q.front other ∙ ap (λ (ws : List Word). p.front ++ ws) (sym a.1)) p.spelled (short' i p.text)) s a.1));
         }))
       (λ e q. record {
         text = (q.text, example.text); fine = (q.fine, example.fine); front = q.front; rest = q.rest; more = q.more ++ example.words;
         split = q.split; place = q.place;
         spelled = ap pieces (sym (append_assoc q.front q.more example.words)) ∙ pieces_are (q.front ++ q.more) example.words (spell q.text) (spell' example.text) q.spelled example.spelled;
-        same = λ i at' other room' s h. refused_bind _ _ (q.same i at' other room' s h);
+        same = λ g i at' other room' s h. refused_bind _ _ (q.same g i at' other room' s h);
       });
 }
 
@@ -185,18 +184,18 @@ word_then_guards {n = n} {m = m} {n' = n'} {m' = m'} {most = most} {read' = read
         (λ e q. record {
           text = q.text; fine = q.fine; front = p.front ++ q.front; rest = q.rest; more = q.more;
           split = p.split ∙ ap (λ (ws : List Word). p.front ++ ws) q.split ∙ sym (append_assoc p.front q.front q.rest);
-          place = q.place ∙ ap (place_of_next q.rest) p.ends;
+          place = q.place ∙ ap (λ (o : Place). Some (place_of_next q.rest o)) p.ends;
           spelled = ap pieces (append_assoc p.front q.front q.more) ∙ pieces_are p.front (q.front ++ q.more) (Mark k ∷ []) (spell q.text) piece q.spelled;
-          same = λ i at' other room' s h.
+          same = λ g i at' other room' s h.
             refused_after _ _ _ (p.same i at' (q.front ++ other) room' (subst (λ (ws : List Word). BeginAlike ws (q.front ++ other)) (sym q.split) (alike_after q.front q.rest other s)) (h ∙ append_assoc p.front q.front other)) (λ x' a.
             subst (λ (v : Word). Refused (read' i v x'.1)) a.0
-              (q.same i x'.1 other (room_left (n' i) (m' i) at'.words p.front x'.1.words (Mark k ∷ []) room' (h ∙ append_assoc p.front q.front other ∙ ap (λ (ws : List Word). p.front ++ ws) (sym a.1)) piece (omega (arith, low' i))) s a.1));
+              (q.same g i x'.1 other (room_left (n' i) (m' i) at'.words p.front x'.1.words (Mark k ∷ []) room' (h ∙ append_assoc p.front q.front other ∙ ap (λ (ws : List Word). p.front ++ ws) (sym a.1)) piece (omega (arith, low' i))) s a.1));
         }))
       (λ e q. record {
         text = example.text; fine = example.fine; front = q.front; rest = q.rest; more = q.more ++ example.words;
         split = q.split; place = q.place;
         spelled = ap pieces (sym (append_assoc q.front q.more example.words)) ∙ pieces_are (q.front ++ q.more) example.words (Mark k ∷ []) (spell example.text) (q.spelled ∙ ap (λ (r : Piece). r ∷ []) (marked q.text)) example.spelled;
-        same = λ i at' other room' s h. refused_bind _ _ (q.same i at' other room' s h);
+        same = λ g i at' other room' s h. refused_bind _ _ (q.same g i at' other room' s h);
       });
 }
 
@@ -205,6 +204,33 @@ pub after_guards : {C A : Type 0} {n m : ℕ} {n' m' most : ℕ → ℕ} {read :
     → Guards n n' most (after_word k read) (λ i. after_word k (read' i)) (λ c. Mark k ∷ spell c) okay alike follows
 unfolding after_word
 after_guards k marked low low' g example = word_then_guards k marked low low' (λ w. g) example
+
+-- a word, and then a refusal at it that is no fault of the grammar
+pub word_refused_guards : {C A : Type 0} (n : ℕ) (n' most : ℕ → ℕ) (k : TokenKind) (why : Word → ReadRefusal) (spell : C → List Piece) (okay : C → Type 0) (alike : A → A → Type 0) (follows : List Piece → Type 0) → IsMark k
+    → ((w : Word) → Lets {A = A × At} (Err (why w)) (λ _. ⊥)) → ((w : Word) → refusal_place (why w) ≡ Some w.place) → Example spell okay
+    → Guards {A = A} n n' most (λ at. word_at k at >>= λ w. Err (why w.0)) (λ i at. word_at k at >>= λ w. Err (why w.0)) (λ c. Mark k ∷ spell c) okay alike follows
+word_refused_guards {A = A} n n' most k why spell okay alike follows marked other place example = record {
+  never = λ i at c rest fine h stop.
+    lets_bind _ _ _ _ ((word_guards n n' most k).never i at [] (spell c ++ rest) tt (ahead_so (ap (λ (p : Piece). p ∷ (spell c ++ rest)) (sym (marked []))) h) tt) (λ w p. lets_other (why w.0) _ _ (other w.0));
+  stuck = λ at room.
+    keeps_bind _ _ _ _ _ _ (placed_word n n' most k at room)
+      (λ w p. record { is = record {
+        text = example.text; fine = example.fine; front = []; rest = at.words; more = record { kind = k; text = []; place = record { line = 0; column = 0 } } ∷ example.words; split = refl;
+        place = place w.0 ∙ ap (λ (o : Place). Some o) (sym p.1);
+        spelled = ap (λ (p : Piece). p ∷ pieces example.words) (marked []) ∙ ap (λ (ps : List Piece). Mark k ∷ ps) example.spelled;
+        same = λ g i at' more room' s h. absurd (not_grammar (why w.0) (other w.0) g);
+      } })
+      (λ e q. record {
+        text = example.text; fine = example.fine; front = q.front; rest = q.rest; more = q.more ++ example.words;
+        split = q.split; place = q.place;
+        spelled = ap pieces (sym (append_assoc q.front q.more example.words)) ∙ pieces_are (q.front ++ q.more) example.words (Mark k ∷ []) (spell example.text) (q.spelled ∙ ap (λ (r : Piece). r ∷ []) (marked q.text)) example.spelled;
+        same = λ g i at' other room' s h. refused_bind _ _ (q.same g i at' other room' s h);
+      });
+}
+  where
+    lets_other : {X : Type 0} (e : ReadRefusal) (Q R : X → Type 0) → Lets (Err e) Q → Lets (Err e) R
+    lets_other (Grammar p) Q R h = absurd h.is
+    lets_other e Q R h = record { is = tt }
 
 -- a word alone
 pub word_alone : (n : ℕ) (n' most : ℕ → ℕ) (k : TokenKind) → IsMark k → Guards n n' most (word_at k) (λ i. word_at k) (λ (u : Unit {0}). Mark k ∷ []) Always Same Always
@@ -264,7 +290,7 @@ choice_guards {n = n} {n' = n'} {most = most} {one = one} {two = two} {one' = on
         })
         (λ q p. record {
           text = f p.text; fine = fine p.text p.fine; front = p.front; rest = p.rest; more = p.more; split = p.split; place = p.place; spelled = p.spelled ∙ spelled p.text;
-          same = λ i at' other room' s h. refused_true (goes at') _ _ (sym (test.same at at' (alike_two at.words at'.words p.front p.rest other p.split h s)) ∙ e) (p.same i at' other room' s h);
+          same = λ g i at' other room' s h. refused_true (goes at') _ _ (sym (test.same at at' (alike_two at.words at'.words p.front p.rest other p.split h s)) ∙ e) (p.same g i at' other room' s h);
         })
     by_test at room false e =
         keeps_more _ _ _ _ _ (b.stuck at room)
@@ -274,7 +300,7 @@ choice_guards {n = n} {n' = n'} {most = most} {one = one} {two = two} {one' = on
         })
         (λ q p. record {
           text = g p.text; fine = fine' p.text p.fine; front = p.front; rest = p.rest; more = p.more; split = p.split; place = p.place; spelled = p.spelled ∙ spelled' p.text;
-          same = λ i at' other room' s h. refused_false (goes at') _ _ (sym (test.same at at' (alike_two at.words at'.words p.front p.rest other p.split h s)) ∙ e) (p.same i at' other room' s h);
+          same = λ g i at' other room' s h. refused_false (goes at') _ _ (sym (test.same at at' (alike_two at.words at'.words p.front p.rest other p.split h s)) ∙ e) (p.same g i at' other room' s h);
         })
 
 -- a last sort: where the next word isn't its own, that is a fault
@@ -296,11 +322,11 @@ last_guards {n = n} {n' = n'} {one = one} {one' = one'} {spell = spell} {okay = 
         })
         (λ q p. record {
           text = p.text; fine = p.fine; front = p.front; rest = p.rest; more = p.more; split = p.split; place = p.place; spelled = p.spelled;
-          same = λ i at' other room' s h. refused_true (next_is k at') _ _ (sym ((next_test k).same at at' (alike_two at.words at'.words p.front p.rest other p.split h s)) ∙ e) (p.same i at' other room' s h);
+          same = λ g i at' other room' s h. refused_true (next_is k at') _ _ (sym ((next_test k).same at at' (alike_two at.words at'.words p.front p.rest other p.split h s)) ∙ e) (p.same g i at' other room' s h);
         })
     by_test at room false e = record { is = record {
       text = example.text; fine = example.fine; front = []; rest = at.words; more = example.words; split = refl; place = refl; spelled = example.spelled;
-      same = λ i at' other room' s h. refused_false (next_is k at') _ _ (sym ((next_test k).same at at' (subst (λ (ws : List Word). BeginAlike at.words ws) (sym h) s)) ∙ e) (record { is = tt });
+      same = λ g i at' other room' s h. refused_false (next_is k at') _ _ (sym ((next_test k).same at at' (subst (λ (ws : List Word). BeginAlike at.words ws) (sym h) s)) ∙ e) (record { is = tt });
     } }
 
 -- the same with a value of the place and of what was read
@@ -316,7 +342,7 @@ placed_guards of g = record {
       }))
       (λ p q. record {
         text = q.text; fine = q.fine; front = q.front; rest = q.rest; more = q.more; split = q.split; place = q.place; spelled = q.spelled;
-        same = λ i at' more room' s h. refused_bind _ _ (q.same i at' more room' s h);
+        same = λ g i at' more room' s h. refused_bind _ _ (q.same g i at' more room' s h);
       });
 }
 
@@ -333,7 +359,7 @@ mapped_any of of' g = record {
       }))
       (λ p q. record {
         text = q.text; fine = q.fine; front = q.front; rest = q.rest; more = q.more; split = q.split; place = q.place; spelled = q.spelled;
-        same = λ i at' more room' s h. refused_bind _ _ (q.same i at' more room' s h);
+        same = λ g i at' more room' s h. refused_bind _ _ (q.same g i at' more room' s h);
       });
 }
 

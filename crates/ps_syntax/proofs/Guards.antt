@@ -1,6 +1,6 @@
 -- The laws of refusals, in steps. What is read of a text of the grammar isn't a fault of the grammar; and where there is
 -- one, it rests on the words before its place and the next one alone, and the words before it go on as some text.
-use Rattle.std.proofs.Common.{◌≡◌, ℕ, ◌+◌, ◌<◌, ◌≤◌, Bool, true, false, List, [], ◌∷◌, ◌++◌, length, Result, Ok, Err, refl, sym, ap, subst, ◌∙◌, arith, length-append}
+use Rattle.std.proofs.Common.{◌≡◌, Some, ℕ, ◌+◌, ◌<◌, ◌≤◌, Bool, true, false, List, [], ◌∷◌, ◌++◌, length, Result, Ok, Err, refl, sym, ap, subst, ◌∙◌, arith, length-append}
 use Rattle.std.specs.Prelude.{if◌then◌else◌}
 use Rattle.std.proofs.lemmas.Bool.{cond-true, cond-false}
 use Rattle.std.proofs.lemmas.List.{map-append, length-map}
@@ -10,8 +10,8 @@ use Rattle.ps_syntax.specs.declared.read_refusal.ReadRefusal.{ReadRefusal}
 use Rattle.ps_syntax.specs.declared.read_refusal.ReadRefusal.TheVariants.{Grammar}
 use Rattle.ps_syntax.specs.Words.{Word, At, Read, and_then, ◌>>=◌, is_kind, begins_with, next_is, place_of_next, word_from, word_at}
 use Rattle.ps_syntax.specs.Spelling.{Piece, piece_of_kind, pieces}
-use Rattle.ps_syntax.specs.Reads.{BeginAlike}
-use Rattle.ps_syntax.proofs.Steps.{one_kind, kind_of, kind_of_piece, Ahead, Always, Gets, gets_end, gets_true}
+use Rattle.ps_syntax.specs.Reads.{BeginAlike, refusal_place}
+use Rattle.ps_syntax.proofs.Steps.{Finds, found_if, one_kind, kind_of, kind_of_piece, Ahead, Always, Gets, gets_end, gets_true}
 use Rattle.ps_syntax.proofs.Sequences.{word_exact}
 
 -- ---- faults of the grammar
@@ -37,13 +37,12 @@ LetsOf (Err e) Q = Unit {0}
 pub record Lets {A : Type 0} (r : Result A ReadRefusal) (Q : A → Type 0) : Type 0 where
   pub is : LetsOf r Q
 
-abbrev KeepsOf : {A : Type 0} → Result A ReadRefusal → (A → Type 0) → (Place → Type 0) → Type 0
+abbrev KeepsOf : {A : Type 0} → Result A ReadRefusal → (A → Type 0) → (ReadRefusal → Type 0) → Type 0
 KeepsOf (Ok x) Q R = Q x
-KeepsOf (Err (Grammar p)) Q R = R p
-KeepsOf (Err e) Q R = Unit {0}
+KeepsOf (Err e) Q R = R e
 
--- what holds of what it is, or of the place where it is a fault of the grammar
-pub record Keeps {A : Type 0} (r : Result A ReadRefusal) (Q : A → Type 0) (R : Place → Type 0) : Type 0 where
+-- what holds of what it is, or of the refusal that it is
+pub record Keeps {A : Type 0} (r : Result A ReadRefusal) (Q : A → Type 0) (R : ReadRefusal → Type 0) : Type 0 where
   pub is : KeepsOf r Q R
 
 pub refused_bind : {A B : Type 0} (r : Result A ReadRefusal) (f : A → Result B ReadRefusal) → Refused r → Refused (r >>= f)
@@ -79,20 +78,26 @@ lets_false t r s R e h = subst (λ u. Lets u R) (sym (cond-false _ _ _ e)) h
 pub lets_gets : {A : Type 0} (r : Result A ReadRefusal) (Q R : A → Type 0) → Gets r Q → ((x : A) → Q x → R x) → Lets r R
 lets_gets r Q R h k = subst (λ u. Lets u R) (sym h.ok) (record { is = k h.value h.is })
 
-pub keeps_bind : {A B : Type 0} (r : Result A ReadRefusal) (f : A → Result B ReadRefusal) (Q : A → Type 0) (R : Place → Type 0) (Q' : B → Type 0) (R' : Place → Type 0)
-    → Keeps r Q R → ((x : A) → Q x → Keeps (f x) Q' R') → ((p : Place) → R p → R' p) → Keeps (r >>= f) Q' R'
+pub keeps_bind : {A B : Type 0} (r : Result A ReadRefusal) (f : A → Result B ReadRefusal) (Q : A → Type 0) (R : ReadRefusal → Type 0) (Q' : B → Type 0) (R' : ReadRefusal → Type 0)
+    → Keeps r Q R → ((x : A) → Q x → Keeps (f x) Q' R') → ((e : ReadRefusal) → R e → R' e) → Keeps (r >>= f) Q' R'
 unfolding and_then
 keeps_bind (Ok x) f Q R Q' R' h k m = k x h.is
-keeps_bind (Err (Grammar p)) f Q R Q' R' h k m = record { is = m p h.is }
-keeps_bind (Err e) f Q R Q' R' h k m = record { is = tt }
+keeps_bind (Err e) f Q R Q' R' h k m = record { is = m e h.is }
 
-pub keeps_end : {A : Type 0} (y : A) (Q : A → Type 0) (R : Place → Type 0) → Q y → Keeps (Ok y) Q R
+pub keeps_end : {A : Type 0} (y : A) (Q : A → Type 0) (R : ReadRefusal → Type 0) → Q y → Keeps (Ok y) Q R
 keeps_end y Q R h = record { is = h }
 
-pub keeps_more : {A : Type 0} (r : Result A ReadRefusal) (Q : A → Type 0) (R : Place → Type 0) (Q' : A → Type 0) (R' : Place → Type 0) → Keeps r Q R → ((x : A) → Q x → Q' x) → ((p : Place) → R p → R' p) → Keeps r Q' R'
+pub keeps_more : {A : Type 0} (r : Result A ReadRefusal) (Q : A → Type 0) (R : ReadRefusal → Type 0) (Q' : A → Type 0) (R' : ReadRefusal → Type 0) → Keeps r Q R → ((x : A) → Q x → Q' x) → ((e : ReadRefusal) → R e → R' e) → Keeps r Q' R'
 keeps_more (Ok x) Q R Q' R' h k m = record { is = k x h.is }
-keeps_more (Err (Grammar p)) Q R Q' R' h k m = record { is = m p h.is }
-keeps_more (Err e) Q R Q' R' h k m = record { is = tt }
+keeps_more (Err e) Q R Q' R' h k m = record { is = m e h.is }
+
+pub keeps_found : {A : Type 0} (r : Result A ReadRefusal) (Q : A → Type 0) (R : ReadRefusal → Type 0) (P : A → Type 0) → Keeps r Q R → Finds r P → Keeps r (λ x. Q x × P x) R
+keeps_found (Ok x) Q R P h k = record { is = (h.is, k.is) }
+keeps_found (Err e) Q R P h k = record { is = h.is }
+
+pub not_grammar : {A : Type 0} (e : ReadRefusal) → Lets {A = A} (Err e) (λ _. ⊥) → IsGrammar e → ⊥
+not_grammar (Grammar p) h g = h.is
+not_grammar e h g = g
 
 -- ---- beginnings
 
@@ -129,17 +134,18 @@ pub record Went {C A : Type 0} (n' : ℕ → ℕ) (read' : ℕ → Read A) (spel
   pub spelled : pieces front ≡ spell text
   pub same : (i : ℕ) (at' : At) (other : List Word) → length at'.words < n' i → BeginAlike y.1.words other → at'.words ≡ front ++ other → Gets (read' i at') (λ z. alike y.0 z.0 × (z.1.words ≡ other))
 
--- Where a fault is, the words before it go on as some text, and others that begin so and go on alike have it too.
-pub record Stood {C A : Type 0} (n' : ℕ → ℕ) (read' : ℕ → Read A) (spell : C → List Piece) (okay : C → Type 0) (at : At) (p : Place) : Type 0 where
+-- Where a refusal stands, the words before it go on as some text; and a fault of the grammar have others too that begin
+-- so and go on alike.
+pub record Stood {C A : Type 0} (n' : ℕ → ℕ) (read' : ℕ → Read A) (spell : C → List Piece) (okay : C → Type 0) (at : At) (refused : ReadRefusal) : Type 0 where
   pub text : C
   pub fine : okay text
   pub front : List Word
   pub rest : List Word
   pub more : List Word
   pub split : at.words ≡ front ++ rest
-  pub place : p ≡ place_of_next rest at.end
+  pub place : refusal_place refused ≡ Some (place_of_next rest at.end)
   pub spelled : pieces (front ++ more) ≡ spell text
-  pub same : (i : ℕ) (at' : At) (other : List Word) → length at'.words < n' i → BeginAlike rest other → at'.words ≡ front ++ other → Refused (read' i at')
+  pub same : IsGrammar refused → (i : ℕ) (at' : At) (other : List Word) → length at'.words < n' i → BeginAlike rest other → at'.words ≡ front ++ other → Refused (read' i at')
 
 -- The laws of a reading function, and of one that is like it with another bound, where fewer words are left than those
 -- numbers, and at most so many: one like it for each number.
@@ -194,7 +200,7 @@ word_stuck : (n' : ℕ → ℕ) (k : TokenKind) (ws : List Word) (end : Place)
 unfolding word_of
 word_stuck n' k [] end = record { is = record {
   text = []; fine = tt; front = []; rest = []; more = word_of k ∷ []; split = refl; place = refl; spelled = refl;
-  same = λ i at' other room h e. subst (λ (vs : List Word). Refused (word_from k vs at'.end)) (sym e) (no_word k other at'.end h);
+  same = λ g i at' other room h e. subst (λ (vs : List Word). Refused (word_from k vs at'.end)) (sym e) (no_word k other at'.end h);
 } }
 word_stuck n' k (w ∷ ws) end = by_test (is_kind w.kind k) refl
   where
@@ -208,7 +214,7 @@ word_stuck n' k (w ∷ ws) end = by_test (is_kind w.kind k) refl
     } }
     by_test false e = record { is = record {
       text = []; fine = tt; front = []; rest = w ∷ ws; more = word_of k ∷ []; split = refl; place = refl; spelled = refl;
-      same = λ i at' other room h s. subst (λ (vs : List Word). Refused (word_from k vs at'.end)) (sym s) (wrong_word k w ws other at'.end e h);
+      same = λ g i at' other room h s. subst (λ (vs : List Word). Refused (word_from k vs at'.end)) (sym s) (wrong_word k w ws other at'.end e h);
     } }
 
 pub word_guards : (n : ℕ) (n' most : ℕ → ℕ) (k : TokenKind) → Guards n n' most (word_at k) (λ i. word_at k) (piece_list k) Always Same Always
@@ -217,3 +223,13 @@ word_guards n n' most k = record {
   never = λ i at t rest fine h _. lets_gets _ _ _ ((word_exact (most i) k).again at t rest tt h tt) (λ y p. p.1);
   stuck = λ at room. word_stuck n' k at.words at.end;
 }
+
+place_found : (k : TokenKind) (ws : List Word) (end : Place) → Finds (word_from k ws end) (λ w. place_of_next ws end ≡ w.0.place)
+place_found k [] end = record { is = tt }
+place_found k (w ∷ ws) end = found_if (is_kind w.kind k) _ _ _ (record { is = refl }) (record { is = tt })
+
+-- the word with its place
+pub placed_word : (n : ℕ) (n' most : ℕ → ℕ) (k : TokenKind) (at : At) → length at.words < n
+    → Keeps (word_at k at) (λ w. Went n' (λ i. word_at k) (piece_list k) Always Same at w × (place_of_next at.words at.end ≡ w.0.place)) (Stood n' (λ i. word_at k) (piece_list k) Always at)
+unfolding word_at
+placed_word n n' most k at room = keeps_found _ _ _ _ ((word_guards n n' most k).stuck at room) (place_found k at.words at.end)

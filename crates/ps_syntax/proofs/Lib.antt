@@ -22,3 +22,5 @@ pub mod CondGuards
 pub mod StmtGuards
 pub mod DeclarationGuards
 pub mod ProgramGuards
+pub mod OneAnswer
+pub mod Examples

@@ -4,6 +4,7 @@ use Rattle.std.specs.Prelude.{if◌then◌else◌}
 use Rattle.std.specs.List.{AllByRecursion}
 use Rattle.std.proofs.lemmas.Bool.{cond-true, cond-false}
 use Rattle.std.proofs.lemmas.List.{append-nil, length-map}
+use Rattle.std.proofs.lemmas.List.Elements.{All-from_recursion, recursion_from_All}
 use Rattle.ps_text.specs.declared.place.Place.{Place}
 use Rattle.ps_text.specs.declared.token_kind.TokenKind.TheVariants as kind
 use Rattle.ps_syntax.specs.declared.program.Program.{Program}
@@ -16,11 +17,10 @@ use Rattle.ps_syntax.specs.Names.{Names}
 use Rattle.ps_syntax.specs.Blocks.{block_at}
 use Rattle.ps_syntax.specs.Items.{Declared, most_levels, nothing_declared, names_of, item_at, has_item, items_at, program_at, program_of}
 use Rattle.ps_syntax.specs.Spelling.{Piece, Mark, piece_of_kind, pieces, item_pieces, block_pieces, program_pieces}
-use Rattle.ps_syntax.specs.Reads.{HasInitSigns, IsText, BeginAlike, IsFirstFault}
+use Rattle.ps_syntax.specs.Reads.{HasInitSigns, IsText, BeginAlike, IsFirstFault, refusal_place, StandsInText}
 use Rattle.ps_syntax.proofs.Steps.{Ahead, ahead_so, Always, Gets, gets_bind}
-use Rattle.ps_syntax.proofs.SumLaws.{all_from, all_to}
 use Rattle.ps_syntax.proofs.ProgramLaws.{items_pieces, begins_item, item_ahead, item_begins, few_items, item_some, end_again}
-use Rattle.ps_syntax.proofs.Guards.{Refused, Lets, Keeps, refused_bind, refused_after, lets_bind, lets_end, lets_true, lets_false, keeps_bind, keeps_end, keeps_more, alike_after, IsTest, next_test, Went, Stood, Guards, Any, Example, pieces_are, room_left}
+use Rattle.ps_syntax.proofs.Guards.{IsGrammar, Refused, Lets, Keeps, refused_bind, refused_after, lets_bind, lets_end, lets_true, lets_false, keeps_bind, keeps_end, keeps_more, alike_after, IsTest, next_test, Went, Stood, Guards, Any, Example, pieces_are, room_left}
 use Rattle.ps_syntax.proofs.GuardSteps.{after_guards, alike_two, example_after}
 use Rattle.ps_syntax.proofs.StmtGuards.{block_guards, block_example}
 use Rattle.ps_syntax.proofs.DeclarationGuards.{beside, free_item, item_guards}
@@ -74,7 +74,7 @@ free_goes n (suc m) at h le =
 abbrev ItemsWent : (ℕ → ℕ) → (ℕ → ℕ) → At → Declared × At → Type 0
 ItemsWent m' l' = Went l' (λ i. free_items i (m' i)) items_pieces (AllByRecursion HasInitSigns) Any
 
-abbrev ItemsStood : (ℕ → ℕ) → (ℕ → ℕ) → At → Place → Type 0
+abbrev ItemsStood : (ℕ → ℕ) → (ℕ → ℕ) → At → ReadRefusal → Type 0
 ItemsStood m' l' = Stood l' (λ i. free_items i (m' i)) items_pieces (AllByRecursion HasInitSigns)
 
 items_none : (m' l' : ℕ → ℕ) (d : Declared) (at : At) → has_item at ≡ false → ItemsWent m' l' at (d, at)
@@ -85,14 +85,14 @@ items_none m' l' d at e = record {
     record { value = (nothing_declared, at'); ok = free_stops i (m' i) at' off; is = (tt, h) };
 }
 
-items_fail : (m' l' : ℕ → ℕ) → ((i : ℕ) → l' i ≤ suc (m' i)) → ((i : ℕ) → l' i ≤ suc i) → (at : At) → has_item at ≡ true → (p : Place) → Stood (λ i. suc i) free_item item_pieces HasInitSigns at p → ItemsStood m' l' at p
+items_fail : (m' l' : ℕ → ℕ) → ((i : ℕ) → l' i ≤ suc (m' i)) → ((i : ℕ) → l' i ≤ suc i) → (at : At) → has_item at ≡ true → (p : ReadRefusal) → Stood (λ i. suc i) free_item item_pieces HasInitSigns at p → ItemsStood m' l' at p
 items_fail m' l' a b at e p q = record {
   text = q.text ∷ []; fine = (q.fine, tt); front = q.front; rest = q.rest; more = q.more; split = q.split; place = q.place;
   spelled = q.spelled ∙ sym (append-nil (item_pieces q.text));
-  same = λ i at' other room' s h.
+  same = λ g i at' other room' s h.
     let on : has_item at' ≡ true = sym (item_test.same at at' (alike_two at.words at'.words q.front q.rest other q.split h s)) ∙ e in
     let some : 1 ≤ length at'.words = an_item at'.words at'.end on in
-    subst Refused (sym (free_goes i (m' i) at' on (omega (arith, room', a i, some)))) (refused_bind _ _ (q.same i at' other (omega (arith, room', b i)) s h));
+    subst Refused (sym (free_goes i (m' i) at' on (omega (arith, room', a i, some)))) (refused_bind _ _ (q.same g i at' other (omega (arith, room', b i)) s h));
 }
 
 items_turn : (m' l' : ℕ → ℕ) → ((i : ℕ) → l' i ≤ suc (m' i)) → ((i : ℕ) → l' i ≤ suc i) → (at : At) → has_item at ≡ true
@@ -117,16 +117,16 @@ items_turn m' l' a b at e x p r h =
       (λ f q. record {
         text = p.text ∷ q.text; fine = (p.fine, q.fine); front = p.front ++ q.front; rest = q.rest; more = q.more;
         split = p.split ∙ ap (λ (ws : List Word). p.front ++ ws) q.split ∙ sym (append_assoc p.front q.front q.rest);
-        place = q.place ∙ ap (place_of_next q.rest) p.ends;
+        place = q.place ∙ ap (λ (o : Place). Some (place_of_next q.rest o)) p.ends;
         spelled = ap pieces (append_assoc p.front q.front q.more) ∙ pieces_are p.front (q.front ++ q.more) (item_pieces p.text) (items_pieces q.text) p.spelled q.spelled;
-        same = λ i at' other room' s k.
+        same = λ g i at' other room' s k.
           let joined : at'.words ≡ p.front ++ (q.front ++ other) = k ∙ append_assoc p.front q.front other in
           let next : BeginAlike x.1.words (q.front ++ other) = subst (λ (ws : List Word). BeginAlike ws (q.front ++ other)) (sym q.split) (alike_after q.front q.rest other s) in
           let on : has_item at' ≡ true = sym (item_test.same at at' (alike_two at.words at'.words p.front x.1.words (q.front ++ other) p.split joined next)) ∙ e in
           let some : 1 ≤ length at'.words = an_item at'.words at'.end on in
           subst Refused (sym (free_goes i (m' i) at' on (omega (arith, room', a i, some))))
             (refused_after _ _ _ (p.same i at' (q.front ++ other) (omega (arith, room', b i)) next joined) (λ x' c.
-            q.same i x'.1 other (room_left (l' i) (l' i - 1) at'.words p.front x'.1.words (item_pieces p.text) room' (joined ∙ ap (λ (ws : List Word). p.front ++ ws) (sym c.1)) p.spelled (omega (arith, item_some p.text, room'))) s c.1));
+            q.same g i x'.1 other (room_left (l' i) (l' i - 1) at'.words p.front x'.1.words (item_pieces p.text) room' (joined ∙ ap (λ (ws : List Word). p.front ++ ws) (sym c.1)) p.spelled (omega (arith, item_some p.text, room'))) s c.1));
       })
 
 items_stuck : (n m l : ℕ) (m' l' : ℕ → ℕ) (d : Declared) → l ≤ suc m → l ≤ suc n → ((i : ℕ) → l' i ≤ suc (m' i)) → ((i : ℕ) → l' i ≤ suc i) → (at : At) → length at.words < l
@@ -178,18 +178,18 @@ free_never i at t fine h =
     lets_bind _ _ _ _ ((thread_guards i (names_of nothing_declared)).never i d.1 t.body [] tt (ahead_so (sym (append-nil body)) p) tt) (λ b q.
     subst (λ r. Lets r (λ u. Unit {0})) (sym (end_again b.1.words q.is)) (record { is = tt })))
 
--- a fault at a place, as the reading that asks less has it too
-record Fault (at : At) (p : Place) : Type 0 where
+-- a refusal with its place, where a fault of the grammar is one of the reading that asks less too
+record Fault (at : At) (refused : ReadRefusal) : Type 0 where
   pub front : List Word
   pub rest : List Word
   pub more : List Word
   pub split : at.words ≡ front ++ rest
-  pub place : p ≡ place_of_next rest at.end
+  pub place : refusal_place refused ≡ Some (place_of_next rest at.end)
   pub goes : IsText (front ++ more)
-  pub same : (i : ℕ) (at' : At) (other : List Word) → length at'.words < suc i → BeginAlike rest other → at'.words ≡ front ++ other → Refused (free_program i at')
+  pub same : IsGrammar refused → (i : ℕ) (at' : At) (other : List Word) → length at'.words < suc i → BeginAlike rest other → at'.words ≡ front ++ other → Refused (free_program i at')
 
 is_text : (is : List ItemText) (b : BlockText) (words : List Word) → AllByRecursion HasInitSigns is → pieces words ≡ items_pieces is ++ Mark kind.Thread ∷ block_pieces b → IsText words
-is_text is b words signs e = record { text = record { items = is; body = b }; spelled = e; signs = all_from HasInitSigns is signs }
+is_text is b words signs e = record { text = record { items = is; body = b }; spelled = e; signs = All-from_recursion HasInitSigns is signs }
 
 end_refused : (ws : List Word) → 1 ≤ length ws → Refused (end_from ws)
 end_refused [] h = absurd (omega (arith, h))
@@ -208,16 +208,16 @@ program_stuck n at room =
         (λ f q. record {
           front = p.front ++ q.front; rest = q.rest; more = q.more;
           split = p.split ∙ ap (λ (ws : List Word). p.front ++ ws) q.split ∙ sym (append_assoc p.front q.front q.rest);
-          place = q.place ∙ ap (place_of_next q.rest) p.ends;
+          place = q.place ∙ ap (λ (o : Place). Some (place_of_next q.rest o)) p.ends;
           goes = is_text p.text q.text _ p.fine (ap pieces (append_assoc p.front q.front q.more) ∙ pieces_are p.front (q.front ++ q.more) (items_pieces p.text) (Mark kind.Thread ∷ block_pieces q.text) p.spelled q.spelled);
-          same = λ i at' other room' s h.
+          same = λ g i at' other room' s h.
             refused_after _ _ _ (p.same i at' (q.front ++ other) room' (subst (λ (ws : List Word). BeginAlike ws (q.front ++ other)) (sym q.split) (alike_after q.front q.rest other s)) (h ∙ append_assoc p.front q.front other)) (λ x' a.
-            refused_bind _ _ (q.same i x'.1 other (room_left (suc i) (suc i) at'.words p.front x'.1.words (items_pieces p.text) room' (h ∙ append_assoc p.front q.front other ∙ ap (λ (ws : List Word). p.front ++ ws) (sym a.1)) p.spelled (omega arith)) s a.1));
+            refused_bind _ _ (q.same g i x'.1 other (room_left (suc i) (suc i) at'.words p.front x'.1.words (items_pieces p.text) room' (h ∙ append_assoc p.front q.front other ∙ ap (λ (ws : List Word). p.front ++ ws) (sym a.1)) p.spelled (omega arith)) s a.1));
         }))
       (λ f q. record {
         front = q.front; rest = q.rest; more = q.more ++ thread_example.words; split = q.split; place = q.place;
         goes = is_text q.text thread_example.text _ q.fine (ap pieces (sym (append_assoc q.front q.more thread_example.words)) ∙ pieces_are (q.front ++ q.more) thread_example.words (items_pieces q.text) (Mark kind.Thread ∷ block_pieces thread_example.text) q.spelled thread_example.spelled);
-        same = λ i at' other room' s h. refused_bind _ _ (q.same i at' other room' s h);
+        same = λ g i at' other room' s h. refused_bind _ _ (q.same g i at' other room' s h);
       })
   where
     by_end : (at : At) (d : Declared × At) (p : ItemsWent (λ i. i) (λ i. suc i) at d) (b : List Stmt × At) (q : Went (λ i. suc i) free_block (λ c. Mark kind.Thread ∷ block_pieces c) Always Any d.1 b)
@@ -228,7 +228,7 @@ program_stuck n at room =
       split = p.split ∙ ap (λ (vs : List Word). p.front ++ vs) (q.split ∙ ap (λ (vs : List Word). q.front ++ vs) e) ∙ sym (append_assoc p.front q.front (w ∷ ws));
       place = refl;
       goes = is_text p.text q.text _ p.fine (ap pieces (append-nil (p.front ++ q.front)) ∙ pieces_are p.front q.front (items_pieces p.text) (Mark kind.Thread ∷ block_pieces q.text) p.spelled q.spelled);
-      same = λ i at' other room' s h.
+      same = λ g i at' other room' s h.
         refused_after _ _ _ (p.same i at' (q.front ++ other) room' (subst (λ (vs : List Word). BeginAlike vs (q.front ++ other)) (sym (q.split ∙ ap (λ (vs : List Word). q.front ++ vs) e)) (alike_after q.front (w ∷ ws) other s)) (h ∙ append_assoc p.front q.front other)) (λ x' a.
         refused_after _ _ _ (q.same i x'.1 other (room_left (suc i) (suc i) at'.words p.front x'.1.words (items_pieces p.text) room' (h ∙ append_assoc p.front q.front other ∙ ap (λ (vs : List Word). p.front ++ vs) (sym a.1)) p.spelled (omega arith)) (subst (λ (vs : List Word). BeginAlike vs other) (sym e) s) a.1) (λ y' c.
         subst (λ (vs : List Word). Refused (end_from vs)) (sym c.1) (end_refused other (alike_some w ws other s))));
@@ -239,24 +239,36 @@ clash (Ok x) Q h k = h.is
 clash (Err (Grammar p)) Q h k = k.is
 clash (Err e) Q h k = h.is
 
-first_fault : (words : List Word) (end place : Place) → Fault (record { words = words; end = end }) place → IsFirstFault words end place
+some_place : (p q : Place) → Some p ≡ Some q → p ≡ q
+some_place p q e = cc
+
+first_fault : (words : List Word) (end place : Place) → Fault (record { words = words; end = end }) (Grammar place) → IsFirstFault words end place
 first_fault words end place f = record {
-  before = f.front; rest = f.rest; split = f.split; place_is = f.place; others = f.more; goes_on = f.goes;
+  before = f.front; rest = f.rest; split = f.split; place_is = some_place place _ f.place; others = f.more; goes_on = f.goes;
   stops = λ others alike t.
     let i : ℕ = length (f.front ++ others) in
     let at' : At = record { words = f.front ++ others; end = end } in
     let l : length (program_pieces t.text) ≡ length (f.front ++ others) = sym (ap (λ (ps : List Piece). length ps) t.spelled) ∙ length-map (f.front ++ others) (λ (w : Word). piece_of_kind w.kind w.text) in
-    clash (free_program i at') (λ u. Unit {0}) (f.same i at' others (omega arith) alike refl)
-    (free_never i at' t.text (all_to HasInitSigns t.text.items t.signs) (record { is = t.spelled; room = omega (arith, l) }));
+    clash (free_program i at') (λ u. Unit {0}) (f.same tt i at' others (omega arith) alike refl)
+    (free_never i at' t.text (recursion_from_All HasInitSigns t.text.items t.signs) (record { is = t.spelled; room = omega (arith, l) }));
 }
 
-fault_is : (r : Result Program ReadRefusal) (Q : Program → Type 0) (R : Place → Type 0) (p : Place) → Keeps r Q R → r ≡ Err (Grammar p) → R p
-fault_is r Q R p h e = kept (subst (λ s. Keeps s Q R) e h)
+refused_is : (r : Result Program ReadRefusal) (Q : Program → Type 0) (R : ReadRefusal → Type 0) (e : ReadRefusal) → Keeps r Q R → r ≡ Err e → R e
+refused_is r Q R e h same = kept (subst (λ s. Keeps s Q R) same h)
   where
-    kept : Keeps {A = Program} (Err (Grammar p)) Q R → R p
+    kept : Keeps {A = Program} (Err e) Q R → R e
     kept k = k.is
+
+fault_of : (words : List Word) (end : Place) (e : ReadRefusal) → program_of words end ≡ Err e → Fault (record { words = words; end = end }) e
+fault_of words end e h =
+    refused_is (program_of words end) (λ p. Unit {0}) (Fault (record { words = words; end = end })) e (program_stuck (length words) (record { words = words; end = end }) (omega arith)) h
 
 -- A fault of the grammar stands where the words first go on as no text of it.
 pub program_of_grammar : (words : List Word) (end place : Place) → program_of words end ≡ Err (Grammar place) → IsFirstFault words end place
-program_of_grammar words end place e =
-    first_fault words end place (fault_is (program_of words end) (λ p. Unit {0}) (Fault (record { words = words; end = end })) place (program_stuck (length words) (record { words = words; end = end }) (omega arith)) e)
+program_of_grammar words end place h = first_fault words end place (fault_of words end (Grammar place) h)
+
+-- Before each refusal the words go on as some text of the grammar.
+pub program_of_refused : (words : List Word) (end : Place) (e : ReadRefusal) → program_of words end ≡ Err e → StandsInText words end e
+program_of_refused words end e h =
+    let f : Fault (record { words = words; end = end }) e = fault_of words end e h in
+    record { before = f.front; rest = f.rest; split = f.split; place_is = f.place; others = f.more; goes_on = f.goes }

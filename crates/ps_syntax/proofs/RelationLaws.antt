@@ -1,6 +1,7 @@
 -- The laws of signs and relations.
 use Rattle.std.proofs.Common.{◌≡◌, ◌≢◌, ℕ, ◌≤◌, Bool, true, false, List, [], ◌∷◌, ◌++◌, Option, Some, None, refl, sym, ap, subst, ◌∙◌, arith, append_assoc}
 use Rattle.std.specs.Prelude.{ok_or}
+use Rattle.std.proofs.lemmas.Option.{none-some}
 use Rattle.ps_text.specs.declared.place.Place.{Place}
 use Rattle.ps_text.specs.declared.token_kind.TokenKind.{TokenKind}
 use Rattle.ps_text.specs.declared.token_kind.TokenKind.TheVariants as kind
@@ -26,7 +27,7 @@ some_is : {A : Type 0} (x y : A) → Some x ≡ Some y → x ≡ y
 some_is x y e = cc
 
 none_is : {A : Type 0} {X : Type 0} (x : A) → None ≡ Some x → X
-none_is x e = absurd cc
+none_is x e = absurd (none-some x e)
 
 -- The signs are those that a partial function of kinds gives, each at its own kind.
 pub record AreSigns (of : TokenKind → Option Sign) : Type 0 where

@@ -15,11 +15,11 @@ use Rattle.ps_syntax.specs.Conds.{parens_at}
 use Rattle.ps_syntax.specs.Blocks.{ended_at, assign_at, havoc_at, cond_stmt_at, skip_at, atomic_at, else_at, if_at, while_stmt_at, kind_at, stmt_at, has_more, block_at}
 use Rattle.ps_syntax.specs.Spelling.{Piece, Mark, cond_pieces, test_pieces, stmt_pieces, rest_pieces, block_pieces}
 use Rattle.ps_syntax.proofs.Steps.{begins_piece, next_ahead, Not, Always}
-use Rattle.ps_syntax.proofs.Sequences.{IsMark, GoesOn}
+use Rattle.ps_syntax.proofs.Sequences.{IsMark}
 use Rattle.ps_syntax.proofs.StmtLaws.{else_pieces, if_pieces, if_of, if_spelled, if_is, then_spelled}
-use Rattle.ps_syntax.proofs.BlockLaws.{stmts_go_on, stmt_begins, stmt_some, block_of, stmts_of, block_back, block_spelled, goes_on}
+use Rattle.ps_syntax.proofs.BlockLaws.{stmts_go_on, block_of, stmts_of, block_back, block_spelled, goes_on}
 use Rattle.ps_syntax.proofs.Guards.{IsTest, next_test, Guards, Any, Example, pieces_are}
-use Rattle.ps_syntax.proofs.GuardSteps.{guards_same, guards_as, mapped_guards, placed_guards, refusing_guards, nothing_guards, both_guards, three_is, pair_up, of_pair, after_guards, word_then_guards, word_alone, mark_example, closed_guards, example_after, example_closed, OfSort, choice_guards, last_guards}
+use Rattle.ps_syntax.proofs.GuardSteps.{guards_same, guards_as, mapped_guards, placed_guards, refusing_guards, nothing_guards, both_guards, three_is, pair_up, of_pair, after_guards, word_refused_guards, word_alone, mark_example, closed_guards, example_after, example_closed, OfSort, choice_guards, last_guards}
 use Rattle.ps_syntax.proofs.GuardLoops.{while_guards}
 use Rattle.ps_syntax.proofs.SumGuards.{Two, GuardsIn, all_always, name_example, variable_guards, sum_guards, sum_example}
 use Rattle.ps_syntax.proofs.CondGuards.{cond_guards, cond_example, parens_guards, test_example}
@@ -71,10 +71,16 @@ atomic_guards t block block' g = mapped_guards Any stmt.Atomic (λ x y h. tt) (a
 abbrev while_pieces : TestText × BlockText → List Piece
 while_pieces c = stmt_pieces (while_do c.0 c.1)
 
+while_example : Example while_pieces Always
+while_example = record {
+  text = (test_example.text, block_example.text); fine = tt; words = record { kind = kind.While; text = []; place = record { line = 0; column = 0 } } ∷ (test_example.words ++ block_example.words);
+  spelled = ap (λ (ps : List Piece). Mark kind.While ∷ ps) (pieces_are test_example.words block_example.words (test_pieces test_example.text) (block_pieces block_example.text) test_example.spelled block_example.spelled);
+}
+
 while_stmt_guards : (t : Two) (levels : ℕ) (inside : Bool) (block : Read (List Stmt)) (block' : ℕ → Read (List Stmt)) → BlockGuards t block block'
     → GuardsIn t (while_stmt_at inside block t.scope t.most levels) (λ i. while_stmt_at inside (block' i) t.scope' (t.most' i) levels) while_pieces Any Always
 unfolding while_stmt_at
-while_stmt_guards t levels true block block' g = refusing_guards t.left t.left' t.most' (λ at. LoopInAtomic (place_at at)) while_pieces Always Any Always (λ at. record { is = tt })
+while_stmt_guards t levels true block block' g = refusing_guards t.left t.left' t.most' (λ at. LoopInAtomic (place_at at)) while_pieces Always Any Always (λ at. record { is = tt }) (λ at. refl) while_example
 while_stmt_guards t levels false block block' g =
     guards_as while_pieces Always (λ c. c) (λ c. c) (λ c. refl) (λ c. refl) (λ c h. tt) (λ c h. (tt, tt))
     (both_guards {m = t.left} {m' = t.left'} Any stmt.While (λ x y z w a b. tt) (after_guards kind.While (λ u. refl) (omega arith) (λ i. omega arith) (parens_guards t levels) test_example) (λ c. omega arith) (λ i c. omega arith) g block_example (λ d rest h. tt))
@@ -149,12 +155,6 @@ sort_if (if_else t b c) ok = inl (record { text = record { test = t; held = b; f
 sort_if (while_do t b) ok = inr (record { text = (t, b); fine = tt; same = refl; tells = λ rest h. refl })
 sort_if s ok = absurd (omega (arith, ok))
 
-while_example : Example while_pieces Always
-while_example = record {
-  text = (test_example.text, block_example.text); fine = tt; words = record { kind = kind.While; text = []; place = record { line = 0; column = 0 } } ∷ (test_example.words ++ block_example.words);
-  spelled = ap (λ (ps : List Piece). Mark kind.While ∷ ps) (pieces_are test_example.words block_example.words (test_pieces test_example.text) (block_pieces block_example.text) test_example.spelled block_example.spelled);
-}
-
 kind_guards : (t : Two) (levels : ℕ) (block : Bool → Read (List Stmt)) (block' : ℕ → Bool → Read (List Stmt)) → ((inside : Bool) → BlockGuards t (block inside) (λ i. block' i inside)) → (inside : Bool)
     → GuardsIn t (kind_at block inside t.scope t.most levels) (λ i. kind_at (block' i) inside t.scope' (t.most' i) levels) stmt_pieces Any (Not kind.Else)
 unfolding kind_at
@@ -192,7 +192,7 @@ rest_example = record { text = block_end; fine = tt; words = record { kind = kin
 pub block_guards : (t : Two) (levels : ℕ) (inside : Bool) → BlockGuards t (block_at t.scope t.most levels inside) (λ i. block_at t.scope' (t.most' i) levels inside)
 unfolding block_at after_word
 block_guards t zero inside =
-    word_then_guards kind.OpenBrace (λ u. refl) (omega arith) (λ i. omega arith) (λ w. refusing_guards t.left t.left' t.most' (λ at. Limit w.place limit.Depth) rest_pieces Always Any Always (λ at. record { is = tt })) rest_example
+    word_refused_guards t.left t.left' t.most' kind.OpenBrace (λ w. Limit w.place limit.Depth) rest_pieces Always Any Always (λ u. refl) (λ w. record { is = tt }) (λ w. refl) rest_example
 block_guards t (suc levels) inside =
     after_guards kind.OpenBrace (λ u. refl) (omega arith) (λ i. omega arith)
     (guards_as rest_pieces Always block_of stmts_of block_back block_spelled (λ ss h. tt) (λ b h. all_always (stmts_of b))

@@ -16,14 +16,14 @@ use Rattle.ps_syntax.specs.Grammar.{ProductText, number, name, number_name, name
 use Rattle.ps_syntax.specs.Words.{Word, At, Read, ◌>>=◌, next_is, place_at, word_at, after_word}
 use Rattle.ps_syntax.specs.Names.{Names, variable_in, variable_at}
 use Rattle.ps_syntax.specs.Sums.{number_value, factor_at, number_product_at, name_product_at, product_at, signed, first_product_at, further_product_at, adds, sum_at, sign_from, sign_at, relation_at}
-use Rattle.ps_syntax.specs.Spelling.{Piece, NamePiece, NumberPiece, Mark, piece_of_kind, product_pieces, minus_pieces, sum_pieces, relation_pieces}
-use Rattle.ps_syntax.specs.Reads.{BeginAlike}
+use Rattle.ps_syntax.specs.Spelling.{Piece, Mark, piece_of_kind, product_pieces, minus_pieces, sum_pieces, relation_pieces}
+use Rattle.ps_syntax.specs.Reads.{BeginAlike, refusal_place}
 use Rattle.ps_syntax.proofs.Steps.{same_kind, kind_of, kind_of_piece, begins_piece, next_ahead, Not, Always, Gets, gets_bind, gets_end}
-use Rattle.ps_syntax.proofs.Sequences.{IsMark, mapped, both, GoesOn}
-use Rattle.ps_syntax.proofs.SumLaws.{number_piece, further_goes_on, SumEnds, SignedText, first_pieces, further_piece, begins_adding, adding, not_star, further_joins, sum_of, parts_of, make_sum, further_is, product_begins}
+use Rattle.ps_syntax.proofs.Sequences.{IsMark, mapped, both}
+use Rattle.ps_syntax.proofs.SumLaws.{number_piece, further_goes_on, SumEnds, SignedText, first_pieces, further_piece, begins_adding, further_joins, sum_of, parts_of, make_sum, further_is, product_begins}
 use Rattle.ps_syntax.proofs.Scopes.{name_piece}
 use Rattle.ps_syntax.proofs.RelationLaws.{AreSigns, SignIn, sign_piece, sign_mark, sign_exact, sign_ends}
-use Rattle.ps_syntax.proofs.Guards.{Refused, Lets, Keeps, refused_bind, lets_bind, lets_end, lets_gets, keeps_bind, keeps_end, IsTest, next_test, Went, Stood, Guards, Any, Same, Example, pieces_are, word_guards}
+use Rattle.ps_syntax.proofs.Guards.{IsGrammar, not_grammar, placed_word, Refused, Lets, Keeps, refused_bind, lets_bind, lets_end, lets_gets, keeps_bind, keeps_end, IsTest, next_test, Went, Stood, Guards, Any, Same, Example, pieces_are, word_guards}
 use Rattle.ps_syntax.proofs.GuardSteps.{guards_same, guards_as, mapped_guards, refusing_guards, nothing_guards, both_guards, three_is, pair_up, of_pair, bind_same, bind_bind, bind_end, after_guards, OfSort, choice_guards}
 use Rattle.ps_syntax.proofs.GuardLoops.{while_guards}
 
@@ -52,11 +52,11 @@ known_lets : (o : Option Var) (p : Place) → Lets (ok_or o (UnknownName p)) Alw
 known_lets None p = record { is = tt }
 known_lets (Some v) p = record { is = tt }
 
-known_keeps : (scope : Option Names) (x : List ℕ) (p : Place) → Keeps (ok_or (variable_in scope x) (UnknownName p)) (λ v. variable_in scope x ≡ Some v) (λ q. ⊥)
+known_keeps : (scope : Option Names) (x : List ℕ) (p : Place) → Keeps (ok_or (variable_in scope x) (UnknownName p)) (λ v. variable_in scope x ≡ Some v) (λ e. e ≡ UnknownName p)
 known_keeps scope x p = by_test (variable_in scope x) refl
   where
-    by_test : (o : Option Var) → variable_in scope x ≡ o → Keeps (ok_or o (UnknownName p)) (λ v. variable_in scope x ≡ Some v) (λ q. ⊥)
-    by_test None e = record { is = tt }
+    by_test : (o : Option Var) → variable_in scope x ≡ o → Keeps (ok_or o (UnknownName p)) (λ v. variable_in scope x ≡ Some v) (λ e. e ≡ UnknownName p)
+    by_test None e = record { is = refl }
     by_test (Some v) e = record { is = e }
 
 known_gets : (scope : Option Names) (x : List ℕ) (e : ReadRefusal) (u : Var) → variable_in scope x ≡ Some u → Gets (ok_or (variable_in scope x) e) Always
@@ -70,19 +70,23 @@ variable_guards t = record {
     lets_bind _ _ _ _ (known_lets (variable_in t.scope' w.0.text) w.0.place) (λ v q.
     lets_end _ _ p));
   stuck = λ at room.
-    keeps_bind _ _ _ _ _ _ ((word_guards t.left t.left' t.most' kind.Name).stuck at room)
+    keeps_bind _ _ _ _ _ _ (placed_word t.left t.left' t.most' kind.Name at room)
       (λ w p. keeps_bind _ _ _ _ _ _ (known_keeps t.scope w.0.text w.0.place)
         (λ v e. keeps_end _ _ _ (record {
-          text = p.text; fine = tt; front = p.front; split = p.split; ends = p.ends; spelled = p.spelled;
+          text = p.0.text; fine = tt; front = p.0.front; split = p.0.split; ends = p.0.ends; spelled = p.0.spelled;
           same = λ i at' other room' s h.
-            gets_bind _ _ _ _ (p.same i at' other room' s h) (λ w' a.
+            gets_bind _ _ _ _ (p.0.same i at' other room' s h) (λ w' a.
             gets_bind _ _ _ _ (known_gets t.scope' w'.0.text (UnknownName w'.0.place) (t.widens w.0.text v e).0 (ap (λ (u : Word). variable_in t.scope' u.text) (sym a.0) ∙ (t.widens w.0.text v e).1)) (λ u b.
             gets_end _ _ (tt, a.1)));
         }))
-        (λ q none. absurd none))
-      (λ q r. record {
+        (λ e q. record {
+          text = []; fine = tt; front = []; rest = at.words; more = record { kind = kind.Name; text = []; place = record { line = 0; column = 0 } } ∷ []; split = refl; spelled = refl;
+          place = ap refusal_place q ∙ ap (λ (o : Place). Some o) (sym p.1);
+          same = λ g i at' other room' s h. absurd (not_grammar {A = Var} (UnknownName w.0.place) (record { is = tt }) (subst IsGrammar q g));
+        }))
+      (λ e r. record {
         text = r.text; fine = tt; front = r.front; rest = r.rest; more = r.more; split = r.split; place = r.place; spelled = r.spelled;
-        same = λ i at' other room' s h. refused_bind _ _ (r.same i at' other room' s h);
+        same = λ g i at' other room' s h. refused_bind _ _ (r.same g i at' other room' s h);
       });
 }
 
@@ -95,21 +99,14 @@ number_example = record { text = []; fine = tt; words = record { kind = kind.Num
 digits_guards : (t : Two) → GuardsIn t (mapped (λ (w : Word). number_value w.text) (word_at kind.Number)) (λ i. mapped (λ (w : Word). number_value w.text) (word_at kind.Number)) number_piece Any Always
 digits_guards t = mapped_guards Any (λ (w : Word). number_value w.text) (λ x y h. tt) (word_guards t.left t.left' t.most' kind.Number)
 
--- no text at all
-abbrev no_pieces : ⊥ → List Piece
-no_pieces x = []
-
 factor_guards : (t : Two) → GuardsIn t factor_at (λ i. factor_at) number_piece Any Always
 unfolding factor_at
 factor_guards t =
     choice_guards number_piece Always Always (next_is kind.Name) (begins_piece kind.Name) (next_test kind.Name) (λ k at ps h. next_ahead kind.Name h)
-    (λ (x : ⊥). []) none (λ x h. tt) (λ d. d) (λ d. refl) (λ d h. tt)
+    (λ d. d) (λ d. refl) (λ d h. tt) (λ d. d) (λ d. refl) (λ d h. tt)
     (λ d ok. inr (record { text = d; fine = tt; same = refl; tells = λ rest h. refl })) (λ rest h. tt) (λ rest h. tt)
-    (refusing_guards t.left t.left' t.most' (λ at. NotLinear (place_at at)) no_pieces Always Any Always (λ at. record { is = tt }))
+    (refusing_guards t.left t.left' t.most' (λ at. NotLinear (place_at at)) number_piece Always Any Always (λ at. record { is = tt }) (λ at. refl) number_example)
     (digits_guards t)
-  where
-    none : (x : ⊥) → no_pieces x ≡ number_piece []
-    none x = absurd x
 
 -- ---- a word and more, or nothing
 
@@ -280,7 +277,7 @@ sign_stuck : (n' : ℕ → ℕ) (of : TokenKind → Option Sign) → AreSigns of
     → Keeps (sign_from of ws end) (Went n' (λ i at. sign_from of at.words at.end) sign_piece (SignIn of) Same (record { words = ws; end = end })) (Stood n' (λ (i : ℕ) (at : At). sign_from of at.words at.end) sign_piece (SignIn of) (record { words = ws; end = end }))
 sign_stuck n' of are less [] end = record { is = record {
   text = sign.Less; fine = less; front = []; rest = []; more = record { kind = kind.Less; text = []; place = record { line = 0; column = 0 } } ∷ []; split = refl; place = refl; spelled = refl;
-  same = λ i at' other room h e. subst (λ (vs : List Word). Refused (sign_from of vs at'.end)) (sym e) (no_sign of other at'.end h);
+  same = λ g i at' other room h e. subst (λ (vs : List Word). Refused (sign_from of vs at'.end)) (sym e) (no_sign of other at'.end h);
 } }
 sign_stuck n' of are less (w ∷ ws) end = by_sign (of w.kind) refl
   where
@@ -294,11 +291,11 @@ sign_stuck n' of are less (w ∷ ws) end = by_sign (of w.kind) refl
           (gets_bind _ _ (λ u. r ≡ u) _ (record { value = s; ok = ap (λ (o : Option Sign). ok_or o (Grammar w.place)) e; is = q }) (λ u c. gets_end _ _ (c, refl)));
       }))
       (λ p none. absurd none)
-    by_sign None e = keeps_bind _ _ (λ r. ⊥) (λ p. p ≡ w.place) _ _ (record { is = refl })
+    by_sign None e = keeps_bind _ _ (λ r. ⊥) (λ e. e ≡ Grammar w.place) _ _ (record { is = refl })
       (λ r none. absurd none)
       (λ p q. record {
-        text = sign.Less; fine = less; front = []; rest = w ∷ ws; more = record { kind = kind.Less; text = []; place = record { line = 0; column = 0 } } ∷ []; split = refl; place = q; spelled = refl;
-        same = λ i at' other room h k. subst (λ (vs : List Word). Refused (sign_from of vs at'.end)) (sym k) (wrong_sign of w ws other at'.end e h);
+        text = sign.Less; fine = less; front = []; rest = w ∷ ws; more = record { kind = kind.Less; text = []; place = record { line = 0; column = 0 } } ∷ []; split = refl; place = ap refusal_place q; spelled = refl;
+        same = λ g i at' other room h k. subst (λ (vs : List Word). Refused (sign_from of vs at'.end)) (sym k) (wrong_sign of w ws other at'.end e h);
       })
 
 sign_guards : (n : ℕ) (n' most : ℕ → ℕ) (of : TokenKind → Option Sign) → AreSigns of → SignIn of sign.Less → Guards n n' most (sign_at of) (λ i. sign_at of) sign_piece (SignIn of) Same Always

@@ -1,7 +1,7 @@
 -- The laws of sums and relations.
 use Rattle.std.proofs.Common.{◌≡◌, ℕ, ℤ, pos, Bool, true, false, ◌||◌, List, [], ◌∷◌, ◌++◌, map, Option, Some, None, refl, sym, ap, subst, ◌∙◌, arith, append_assoc}
 use Rattle.std.specs.List.{flat_map, All, AllByRecursion}
-use Rattle.std.proofs.lemmas.List.Elements.{All-nil, All-cons, All-head, All-tail}
+use Rattle.std.proofs.lemmas.List.Elements.{All-from_recursion, recursion_from_All}
 use Rattle.ps_text.specs.declared.place.Place.{Place}
 use Rattle.ps_text.specs.declared.token_kind.TokenKind.{TokenKind}
 use Rattle.ps_text.specs.declared.token_kind.TokenKind.TheVariants as kind
@@ -211,14 +211,6 @@ pub further_is : (ds : List SignedText) → flat_map further_piece ds ≡ furthe
 further_is [] = refl
 further_is (d ∷ ds) = ap (λ (ps : List Piece). further_piece d ++ ps) (further_is ds)
 
-pub all_from : {X : Type 0} (P : X → Type 0) (xs : List X) → AllByRecursion P xs → All P xs
-all_from P [] h = All-nil P
-all_from P (x ∷ xs) h = All-cons P x xs h.0 (all_from P xs h.1)
-
-pub all_to : {X : Type 0} (P : X → Type 0) (xs : List X) → All P xs → AllByRecursion P xs
-all_to P [] h = tt
-all_to P (x ∷ xs) h = (All-head P x xs h, all_to P xs (All-tail P x xs h))
-
 abbrev further_trees : Names → List SignedText → List (ℤ × Option Var)
 further_trees names ds = map (λ (p : SignedText). signed p.0 (product_tree names p.1)) ds
 
@@ -241,13 +233,13 @@ AllFurther names ds = All (λ (p : SignedText). ProductFits names p.1) ds
 sum_fit : (scope : Option Names) (c : SignedText) (ds : List SignedText) → SignedIn scope c → AllByRecursion (SignedIn scope) ds → SumIn scope (sum_of (c, ds))
 sum_fit scope c ds f g =
     fits_both scope (λ names. ProductFits names c.1) (λ names. AllFurther names ds) f
-    (fits_as scope _ (λ names. AllFurther names ds) (λ names h. all_from (λ (p : SignedText). ProductFits names p.1) ds h) (fits_all scope (λ names p. ProductFits names p.1) ds g))
+    (fits_as scope _ (λ names. AllFurther names ds) (λ names h. All-from_recursion (λ (p : SignedText). ProductFits names p.1) ds h) (fits_all scope (λ names p. ProductFits names p.1) ds g))
 
 sum_unfit : (scope : Option Names) (s : SumText) → SumIn scope s → SignedIn scope (s.negative, s.first) × AllByRecursion (SignedIn scope) s.further
 sum_unfit scope s h = (
   fits_first scope (λ names. ProductFits names s.first) (λ names. AllFurther names s.further) h,
   fits_each scope (λ names p. ProductFits names p.1) s.further
-  (fits_as scope (λ names. AllFurther names s.further) _ (λ names g. all_to (λ (p : SignedText). ProductFits names p.1) s.further g) (fits_second scope (λ names. ProductFits names s.first) (λ names. AllFurther names s.further) h)),
+  (fits_as scope (λ names. AllFurther names s.further) _ (λ names g. recursion_from_All (λ (p : SignedText). ProductFits names p.1) s.further g) (fits_second scope (λ names. ProductFits names s.first) (λ names. AllFurther names s.further) h)),
 )
 
 pub further_joins : (ds : List SignedText) (rest : List Piece) → SumEnds rest → Not kind.Star (flat_map further_piece ds ++ rest)

@@ -1,7 +1,9 @@
 -- Which program the words of a text are, and where words stop being the beginning of one.
-use Rattle.std.specs.Prelude.{◌≡◌, ◌≢◌, List, [], ◌∷◌, ◌++◌, map, All}
+use Rattle.std.specs.Prelude.{◌≡◌, ◌≢◌, List, [], ◌∷◌, ◌++◌, map, All, Option, Some, None}
 use Rattle.ps_text.specs.declared.place.Place.{Place}
 use Rattle.ps_syntax.specs.declared.program.Program.{Program}
+use Rattle.ps_syntax.specs.declared.read_refusal.ReadRefusal.{ReadRefusal}
+use Rattle.ps_syntax.specs.declared.read_refusal.ReadRefusal.TheVariants as refusal
 use Rattle.ps_syntax.specs.declared.relation.Sign.TheVariants as sign
 use Rattle.ps_syntax.specs.Fits.{ProgramFits}
 use Rattle.ps_syntax.specs.Grammar.{RelationText, ItemText, global, local, init, ProgramText}
@@ -47,3 +49,23 @@ pub record IsFirstFault (words : List Word) (end : Place) (place : Place) : Type
   pub others : List Word
   pub goes_on : IsText (before ++ others)
   pub stops : (others : List Word) → BeginAlike rest others → IsText (before ++ others) → ⊥
+
+-- where a refusal stands, if it is one of the text
+abbrev pub refusal_place : ReadRefusal → Option Place
+refusal_place (refusal.Token p) = Some p
+refusal_place (refusal.Grammar p) = Some p
+refusal_place (refusal.UnknownName p) = Some p
+refusal_place (refusal.Twice p) = Some p
+refusal_place (refusal.NotLinear p) = Some p
+refusal_place (refusal.LoopInAtomic p) = Some p
+refusal_place (refusal.Limit p what) = Some p
+refusal_place (refusal.Memory e) = None
+
+-- The refusal stands at a word, or at the end of the text, before which the words go on as some text of the grammar.
+pub record StandsInText (words : List Word) (end : Place) (refused : ReadRefusal) : Type 0 where
+  pub before : List Word
+  pub rest : List Word
+  pub split : words ≡ before ++ rest
+  pub place_is : refusal_place refused ≡ Some (place_of_next rest end)
+  pub others : List Word
+  pub goes_on : IsText (before ++ others)
