@@ -162,11 +162,11 @@ stmt_exact : (n : ℕ) (names : Names) (levels : ℕ) (block : Bool → Read (Li
 unfolding stmt_at
 stmt_exact n names levels block exact inside = record {
   found = λ at.
-    found_bind _ _ _ _ ((kind_exact n names levels block exact inside).found at) (λ k p.
-    found_end _ _ (record { text = p.text; taken = p.taken; fit = p.fit; is = make_stmt names p.text at (pieces k.1.words) k.0 (takes_pieces p.taken) p.is }));
+      found_bind _ _ _ _ ((kind_exact n names levels block exact inside).found at) (λ k p.
+      found_end _ _ (record { text = p.text; taken = p.taken; fit = p.fit; is = make_stmt names p.text at (pieces k.1.words) k.0 (takes_pieces p.taken) p.is }));
   again = λ at s rest fit h stop.
-    gets_bind _ _ _ _ ((kind_exact n names levels block exact inside).again at s rest fit h stop) (λ k p.
-    gets_end _ _ (make_stmt names s at rest k.0 h.is p.0, p.1));
+      gets_bind _ _ _ _ ((kind_exact n names levels block exact inside).again at s rest fit h stop) (λ k p.
+      gets_end _ _ (make_stmt names s at rest k.0 h.is p.0, p.1));
 }
 
 -- ---- blocks
@@ -230,4 +230,4 @@ block_exact n names (suc levels) inside =
     (λ b h. block_unfit names levels inside b (subst (λ (l : ℕ). RestFits names l inside b) (one_less levels) h.1))
     (λ ss ps y h. block_said names ss (drop 1 ps) y h)
     (after_exact kind.OpenBrace (λ t. refl) (closed_exact kind.CloseBrace (λ t. refl) (λ rest. (refl, refl))
-      (while_exact has_more goes_on stmts_go_on (stmt_exact n names levels (block_at (Some names) n levels) (λ t. block_exact n names levels t) inside))))
+    (while_exact has_more goes_on stmts_go_on (stmt_exact n names levels (block_at (Some names) n levels) (λ t. block_exact n names levels t) inside))))

@@ -31,7 +31,7 @@ unfolding members_at
 members_guards {C = C} t read read' spell follows all between marked joins example g =
     guards_as (members_pieces between spell) Always (λ c. c) (λ c. c) (λ c. refl) (λ c. refl) (λ c h. tt) (λ c h. (tt, all_always c.1))
     (both_guards Any (one_or_all all) (λ x y z w a b. tt) g (λ c. omega arith) (λ i c. omega arith)
-      (while_guards (next_is between) (begins_piece between) (next_test between) (members_go_on between spell follows joins) t.low t.low' (after_guards between marked (omega arith) (λ i. omega arith) g example)) (record { text = []; fine = tt; words = []; spelled = refl }) next)
+    (while_guards (next_is between) (begins_piece between) (next_test between) (members_go_on between spell follows joins) t.low t.low' (after_guards between marked (omega arith) (λ i. omega arith) g example)) (record { text = []; fine = tt; words = []; spelled = refl }) next)
   where
     next : (ds : List C) (rest : List Piece) → Ends (begins_piece between) follows rest → follows (flat_map (λ d. Mark between ∷ spell d) ds ++ rest)
     next [] rest stop = stop.1
@@ -78,7 +78,9 @@ opening_sort : (u : UnaryText) → Always u → OfSort begins_opening true unary
 opening_sort (negation u) ok = inl (record { text = negation u; fine = tt; same = refl; tells = λ rest h. refl })
 opening_sort (in_parens c) ok = inl (record { text = in_parens c; fine = tt; same = refl; tells = λ rest h. refl })
 opening_sort (relation r) ok = inr (record {
-  text = r; fine = tt; same = refl;
+  text = r;
+  fine = tt;
+  same = refl;
   tells = λ rest h. ap (λ (t : Bool). t || begins_piece kind.OpenParen (relation_pieces r ++ rest)) (relation_begins kind.Not refl refl refl r rest) ∙ relation_begins kind.OpenParen refl refl refl r rest;
 })
 
@@ -120,9 +122,9 @@ more_guards t levels g =
     negation (λ u. refl) (λ u h. tt) (λ u. u) (λ u. refl) (λ u h. tt) not_sort (λ rest h. h) (λ rest h. h)
     (mapped_guards Any cond.Not (λ x y h. tt) (after_guards kind.Not (λ u. refl) (omega arith) (λ i. omega arith) g unary_example))
     (choice_guards unary_pieces Other SumEnds (next_is kind.OpenParen) (begins_piece kind.OpenParen) (next_test kind.OpenParen) (λ k at ps h. next_ahead kind.OpenParen h)
-      in_parens (λ c. refl) (λ c h. tt) relation (λ r. refl) (λ r h. tt) parens_sort (λ rest h. tt) (λ rest h. h)
-      (closed_guards kind.CloseParen (λ u. refl) (λ rest. (refl, (refl, (refl, refl)))) (after_guards kind.OpenParen (λ u. refl) (omega arith) (λ i. omega arith) (cond_with_guards t _ _ g) cond_example))
-      (rel_guards t))
+    in_parens (λ c. refl) (λ c h. tt) relation (λ r. refl) (λ r h. tt) parens_sort (λ rest h. tt) (λ rest h. h)
+    (closed_guards kind.CloseParen (λ u. refl) (λ rest. (refl, (refl, (refl, refl)))) (after_guards kind.OpenParen (λ u. refl) (omega arith) (λ i. omega arith) (cond_with_guards t _ _ g) cond_example))
+    (rel_guards t))
 
 unary_guards : (t : Two) (levels : ℕ) → UnaryGuards t levels
 unary_guards t zero = last_guards t

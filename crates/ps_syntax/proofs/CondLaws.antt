@@ -196,11 +196,17 @@ unfolding unary_at
 unary_found n names levels exact at =
     found_if (next_is kind.Not at) _ _ _
     (found_more _ _ _ ((not_exact n names levels (unary_at (Some names) n levels) exact).found at) (λ y p. record {
-      text = negation p.text; taken = p.taken; fit = (omega arith, subst (λ (l : ℕ). UnaryFits names l p.text) (sym (one_less levels)) p.fit); is = p.is;
+      text = negation p.text;
+      taken = p.taken;
+      fit = (omega arith, subst (λ (l : ℕ). UnaryFits names l p.text) (sym (one_less levels)) p.fit);
+      is = p.is;
     }))
     (found_if (next_is kind.OpenParen at) _ _ _
     (found_more _ _ _ ((in_parens_exact n names levels (unary_at (Some names) n levels) exact).found at) (λ y p. record {
-      text = in_parens p.text; taken = p.taken; fit = (omega arith, subst (λ (l : ℕ). CondFits names l p.text) (sym (one_less levels)) p.fit); is = p.is;
+      text = in_parens p.text;
+      taken = p.taken;
+      fit = (omega arith, subst (λ (l : ℕ). CondFits names l p.text) (sym (one_less levels)) p.fit);
+      is = p.is;
     }))
     (rel_found n names (suc levels) at))
 

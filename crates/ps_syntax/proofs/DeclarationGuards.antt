@@ -44,17 +44,30 @@ unfolding new_name_at
 new_guards n n' most d count limit' what = record {
   never = λ i at x rest fine h _. lets_bind _ _ _ _ ((word_guards n n' most kind.Name).never i at x rest tt h tt) (λ w p. lets_end _ _ p);
   stuck = λ at room.
-    keeps_bind _ _ _ _ _ _ (placed_word n n' most kind.Name at room)
+      keeps_bind _ _ _ _ _ _ (placed_word n n' most kind.Name at room)
       (λ w p. by_tests at w p.0 p.1 (is_declared (variable_of (names_of d) w.0.text)) (nat_le limit' count))
       (λ e r. record {
-        text = r.text; fine = tt; front = r.front; rest = r.rest; more = r.more; split = r.split; place = r.place; spelled = r.spelled;
+        text = r.text;
+        fine = tt;
+        front = r.front;
+        rest = r.rest;
+        more = r.more;
+        split = r.split;
+        place = r.place;
+        spelled = r.spelled;
         same = λ g i at' other room' s h. refused_bind _ _ (r.same g i at' other room' s h);
       });
 }
   where
     at_name : (at : At) (w : Word × At) (e : ReadRefusal) → place_at at ≡ w.0.place → refusal_place e ≡ Some w.0.place → Lets {A = Var} (Err e) (λ _. ⊥) → Stood n' (λ i. free_name) name_piece Always at e
     at_name at w e place is other = record {
-      text = []; fine = tt; front = []; rest = at.words; more = record { kind = kind.Name; text = []; place = record { line = 0; column = 0 } } ∷ []; split = refl; spelled = refl;
+      text = [];
+      fine = tt;
+      front = [];
+      rest = at.words;
+      more = record { kind = kind.Name; text = []; place = record { line = 0; column = 0 } } ∷ [];
+      split = refl;
+      spelled = refl;
       place = is ∙ ap (λ (o : Place). Some o) (sym place);
       same = λ g i at' more room' s h. absurd (not_grammar e other g);
     }
@@ -63,7 +76,12 @@ new_guards n n' most d count limit' what = record {
     by_tests at w p place true u = record { is = at_name at w (Twice w.0.place) place refl (record { is = tt }) }
     by_tests at w p place false true = record { is = at_name at w (Limit w.0.place what) place refl (record { is = tt }) }
     by_tests at w p place false false = keeps_end _ _ _ (record {
-      text = p.text; fine = tt; front = p.front; split = p.split; ends = p.ends; spelled = p.spelled;
+      text = p.text;
+      fine = tt;
+      front = p.front;
+      split = p.split;
+      ends = p.ends;
+      spelled = p.spelled;
       same = λ i at' other room' s h. gets_bind _ _ _ _ (p.same i at' other room' s h) (λ w' a. gets_end _ _ (tt, a.1));
     })
 
@@ -111,8 +129,8 @@ global_guards n n' most d =
     guards_as _ Always (λ c. c) (λ c. c) (λ c. refl) (λ c. refl) (λ c h. tt) (λ c h. (tt, tt))
     (guards_same _ _ (paired (with_global d) (after_word kind.Global (new_name_at d (length d.globals) most_globals limit.Globals)) (ended_at value_at)) (λ i at. refl)
     (mapped_any (λ (p : List ℕ × Option ℤ). with_global d p.0 p.1) (λ (p : List ℕ × Option ℤ). nothing_declared)
-      (both_guards {m = n} {m' = n'} Any pair_up (λ x y z w a b. tt) (after_guards {m = n} {m' = n'} kind.Global (λ u. refl) (omega arith) (λ i. omega arith) (new_guards n n' most d (length d.globals) most_globals limit.Globals) name_example)
-        (λ c. omega arith) (λ i c. omega arith) (ended_guards (λ rest. refl) (value_guards n n' most)) value_example (λ v rest h. tt))))
+    (both_guards {m = n} {m' = n'} Any pair_up (λ x y z w a b. tt) (after_guards {m = n} {m' = n'} kind.Global (λ u. refl) (omega arith) (λ i. omega arith) (new_guards n n' most d (length d.globals) most_globals limit.Globals) name_example)
+    (λ c. omega arith) (λ i c. omega arith) (ended_guards (λ rest. refl) (value_guards n n' most)) value_example (λ v rest h. tt))))
 
 abbrev free_local : Read Declared
 free_local = mapped (λ (x : List ℕ). nothing_declared) (after_word kind.Local (ended_at free_name))
@@ -140,12 +158,20 @@ init_relation_guards : (n : ℕ) (names : Names) → Guards n (λ i. i) (λ i. i
 init_relation_guards n names = loosen (relation_guards (beside n names) init_sign_of init_signs refl)
   where
     loosen : Guards n (λ i. i) (λ i. i) (relation_at init_sign_of (Some names) n) (λ i. relation_at init_sign_of None i) relation_pieces InitOk (λ r s. r.sign ≡ s.sign) SumEnds → Guards n (λ i. i) (λ i. i) (relation_at init_sign_of (Some names) n) (λ i. relation_at init_sign_of None i) relation_pieces InitOk Any SumEnds
-    loosen g = record { never = g.never; stuck = λ at room. keeps_more _ _ _ _ _ (g.stuck at room)
-      (λ y p. record {
-        text = p.text; fine = p.fine; front = p.front; split = p.split; ends = p.ends; spelled = p.spelled;
-        same = λ i at' more room' s h. gets_more _ _ _ (p.same i at' more room' s h) (λ z q. (tt, q.1));
-      })
-      (λ p q. q) }
+    loosen g = record {
+      never = g.never;
+      stuck = λ at room. keeps_more _ _ _ _ _ (g.stuck at room)
+          (λ y p. record {
+            text = p.text;
+            fine = p.fine;
+            front = p.front;
+            split = p.split;
+            ends = p.ends;
+            spelled = p.spelled;
+            same = λ i at' more room' s h. gets_more _ _ _ (p.same i at' more room' s h) (λ z q. (tt, q.1));
+          })
+          (λ p q. q);
+    }
 
 init_example : Example relation_pieces InitOk
 init_example = relation_example init_sign_of refl
@@ -162,11 +188,11 @@ init_guards n d =
     (λ c h. (every_init_sign c.0.sign (All-head IsInitSign c.0 c.1 h), back c.1 (All-tail IsInitSign c.0 c.1 h)))
     (guards_same _ _ (paired (with_inits d) (after_word kind.Init (relation_at init_sign_of (Some (names_of d)) n)) (ended_at (while_at (next_is kind.And) (after_word kind.And (relation_at init_sign_of (Some (names_of d)) n)) n))) (λ i at. refl)
     (mapped_any (λ (p : Relation × List Relation). with_inits d p.0 p.1) (λ (p : Relation × List Relation). nothing_declared)
-      (both_guards {m = n} {m' = λ i. i} Any pair_up (λ x y z w a b. tt) (after_guards {m = n} {m' = λ i. i} kind.Init (λ u. refl) (omega arith) (λ i. omega arith) (init_relation_guards n (names_of d)) init_example)
-        (λ c. omega arith) (λ i c. omega arith)
-        (ended_guards (λ rest. (refl, (refl, refl))) (while_guards (next_is kind.And) (begins_piece kind.And) (next_test kind.And) relations_go_on (omega arith) (λ i. omega arith) (after_guards {m = n} {m' = λ i. i} kind.And (λ u. refl) (omega arith) (λ i. omega arith) (init_relation_guards n (names_of d)) init_example)))
-        (record { text = []; fine = tt; words = record { kind = kind.Semicolon; text = []; place = record { line = 0; column = 0 } } ∷ []; spelled = refl })
-        (λ rs rest h. relations_join rs rest))))
+    (both_guards {m = n} {m' = λ i. i} Any pair_up (λ x y z w a b. tt) (after_guards {m = n} {m' = λ i. i} kind.Init (λ u. refl) (omega arith) (λ i. omega arith) (init_relation_guards n (names_of d)) init_example)
+    (λ c. omega arith) (λ i c. omega arith)
+    (ended_guards (λ rest. (refl, (refl, refl))) (while_guards (next_is kind.And) (begins_piece kind.And) (next_test kind.And) relations_go_on (omega arith) (λ i. omega arith) (after_guards {m = n} {m' = λ i. i} kind.And (λ u. refl) (omega arith) (λ i. omega arith) (init_relation_guards n (names_of d)) init_example)))
+    (record { text = []; fine = tt; words = record { kind = kind.Semicolon; text = []; place = record { line = 0; column = 0 } } ∷ []; spelled = refl })
+    (λ rs rest h. relations_join rs rest))))
   where
     each : (rs : List RelationText) → AllByRecursion InitOk rs → AllByRecursion (λ (s : RelationText). s.sign ≢ sign.NotEqual) rs
     each [] h = tt
@@ -209,8 +235,8 @@ counted_guards n d =
     (λ c. global c.0 c.1) (λ c. refl) (λ c h. tt) (λ i. i) (λ i. refl) other_signs global_sort (λ rest h. tt) (λ rest h. tt)
     (global_guards (suc n) (λ i. suc i) (λ i. i) d)
     (choice_guards item_pieces Other Always (next_is kind.Local) (begins_piece kind.Local) (next_test kind.Local) (λ k at ps h. next_ahead kind.Local h)
-      local (λ c. refl) (λ c h. tt) (λ c. init c.0 c.1) (λ c. refl) (λ c h. h) local_sort (λ rest h. tt) (λ rest h. tt)
-      (local_guards (suc n) (λ i. suc i) (λ i. i) d) (init_guards n d))
+    local (λ c. refl) (λ c h. tt) (λ c. init c.0 c.1) (λ c. refl) (λ c h. h) local_sort (λ rest h. tt) (λ rest h. tt)
+    (local_guards (suc n) (λ i. suc i) (λ i. i) d) (init_guards n d))
 
 pub item_guards : (n : ℕ) (d : Declared) → Guards (suc n) (λ i. suc i) (λ i. i) (item_at d n) free_item item_pieces HasInitSigns Any Always
 unfolding item_at
@@ -221,9 +247,17 @@ item_guards n d = record {
   where
     by_test : (at : At) → length at.words < suc n → (t : Bool)
         → Keeps (if t then Err (Limit (place_at at) limit.Init) else counted_item_at (with_rows (d.rows + item_rows n at) d) n at) (Went (λ i. suc i) free_item item_pieces HasInitSigns Any at) (Stood (λ i. suc i) free_item item_pieces HasInitSigns at)
-    by_test at room true = record { is = record {
-      text = local []; fine = tt; front = []; rest = at.words; split = refl; place = refl; spelled = refl;
-      more = record { kind = kind.Local; text = []; place = record { line = 0; column = 0 } } ∷ record { kind = kind.Name; text = []; place = record { line = 0; column = 0 } } ∷ record { kind = kind.Semicolon; text = []; place = record { line = 0; column = 0 } } ∷ [];
-      same = λ g i at' more room' s h. absurd (not_grammar {A = Var} (Limit (place_at at) limit.Init) (record { is = tt }) g);
-    } }
+    by_test at room true = record {
+      is = record {
+        text = local [];
+        fine = tt;
+        front = [];
+        rest = at.words;
+        split = refl;
+        place = refl;
+        spelled = refl;
+        more = record { kind = kind.Local; text = []; place = record { line = 0; column = 0 } } ∷ record { kind = kind.Name; text = []; place = record { line = 0; column = 0 } } ∷ record { kind = kind.Semicolon; text = []; place = record { line = 0; column = 0 } } ∷ [];
+        same = λ g i at' more room' s h. absurd (not_grammar {A = Var} (Limit (place_at at) limit.Init) (record { is = tt }) g);
+      };
+    }
     by_test at room false = (counted_guards n (with_rows (d.rows + item_rows n at) d)).stuck at room

@@ -49,19 +49,19 @@ new_exact : (n : ℕ) (d : Declared) (count most : ℕ) (what : LimitName) → E
 unfolding new_name_at
 new_exact n d count most what = record {
   found = λ at.
-    found_bind _ _ _ _ ((word_exact n kind.Name).found at) (λ w p.
-    found_more _ _ _ (refused_found d count most what w) (λ y q. record {
-      text = w.0.text;
-      taken = subst (λ (v : List ℕ × At). Takes at.words (name_piece w.0.text) v.1.words) (sym q.1) (takes_so (ap name_piece (sym p.is)) p.taken);
-      fit = q.0;
-      is = ap (λ (v : List ℕ × At). v.0) q.1;
-    }));
+      found_bind _ _ _ _ ((word_exact n kind.Name).found at) (λ w p.
+      found_more _ _ _ (refused_found d count most what w) (λ y q. record {
+        text = w.0.text;
+        taken = subst (λ (v : List ℕ × At). Takes at.words (name_piece w.0.text) v.1.words) (sym q.1) (takes_so (ap name_piece (sym p.is)) p.taken);
+        fit = q.0;
+        is = ap (λ (v : List ℕ × At). v.0) q.1;
+      }));
   again = λ at x rest fit h _.
-    gets_bind _ _ _ _ ((word_exact n kind.Name).again at x rest tt h tt) (λ w p.
-    let fresh : variable_of (names_of d) w.0.text ≡ None = ap (variable_of (names_of d)) p.0 ∙ fit.0 in
-    let passes : refused_name (is_declared (variable_of (names_of d) w.0.text)) (nat_le most count) what w ≡ Ok (w.0.text, w.1) =
+      gets_bind _ _ _ _ ((word_exact n kind.Name).again at x rest tt h tt) (λ w p.
+      let fresh : variable_of (names_of d) w.0.text ≡ None = ap (variable_of (names_of d)) p.0 ∙ fit.0 in
+      let passes : refused_name (is_declared (variable_of (names_of d) w.0.text)) (nat_le most count) what w ≡ Ok (w.0.text, w.1) =
       ap (λ (o : Option Var). refused_name (is_declared o) (nat_le most count) what w) fresh ∙ ap (λ (t : Bool). refused_name false t what w) (lt-leb most count fit.1) in
-    record { value = (w.0.text, w.1); ok = passes; is = (p.0, p.1) });
+      record { value = (w.0.text, w.1); ok = passes; is = (p.0, p.1) });
 }
 
 -- ---- a value
@@ -91,9 +91,9 @@ number_exact : (n : ℕ) → Exact n number_at number_pieces Always (Is value_nu
 unfolding number_at
 number_exact n = record {
   found = λ at.
-    found_if (next_is kind.Minus at) _ _ _
-    (found_more _ _ _ ((minus_exact n).found at) (λ y p. record { text = record { negative = true; digits = p.text }; taken = p.taken; fit = tt; is = p.is }))
-    (found_more _ _ _ ((digits_exact n number_value).found at) (λ y p. record { text = record { negative = false; digits = p.text }; taken = p.taken; fit = tt; is = p.is }));
+      found_if (next_is kind.Minus at) _ _ _
+      (found_more _ _ _ ((minus_exact n).found at) (λ y p. record { text = record { negative = true; digits = p.text }; taken = p.taken; fit = tt; is = p.is }))
+      (found_more _ _ _ ((digits_exact n number_value).found at) (λ y p. record { text = record { negative = false; digits = p.text }; taken = p.taken; fit = tt; is = p.is }));
   again = λ at v rest fit h _. number_again n at v.negative v.digits rest h;
 }
 
@@ -109,9 +109,9 @@ pub value_exact : (n : ℕ) → Exact n value_at value_pieces Always (Is value_o
 unfolding value_at
 value_exact n = record {
   found = λ at.
-    found_if (next_is kind.Equal at) _ _ _
-    (found_more _ _ _ ((some_exact n).found at) (λ y p. record { text = Some p.text; taken = p.taken; fit = tt; is = p.is }))
-    (found_end _ _ (record { text = None; taken = takes_none at.words; fit = tt; is = refl }));
+      found_if (next_is kind.Equal at) _ _ _
+      (found_more _ _ _ ((some_exact n).found at) (λ y p. record { text = Some p.text; taken = p.taken; fit = tt; is = p.is }))
+      (found_end _ _ (record { text = None; taken = takes_none at.words; fit = tt; is = refl }));
   again = λ at v rest fit h stop. value_again n at v rest h stop;
 }
 
@@ -190,8 +190,8 @@ init_exact n d =
     (λ c h. (All-head (InitFits d) c.0 c.1 h, recursion_from_All (InitFits d) c.1 (All-tail (InitFits d) c.0 c.1 h)))
     (λ c ps y h. h.is ∙ ap (λ (r : Relation). with_inits d r h.second) h.said_first ∙ ap (with_inits d (relation_tree (names_of d) c.0)) (relations_said (names_of d) c.1 _ h.second h.said_second))
     (both_exact (with_inits d) (after_exact kind.Init (λ t. refl) (init_relation n d))
-      (ended_exact (λ rest. (refl, (refl, refl))) (while_exact (next_is kind.And) (begins_piece kind.And) relations_go_on (after_exact kind.And (λ t. refl) (init_relation n d))))
-      (λ rs rest fit stop. relations_join rs rest))
+    (ended_exact (λ rest. (refl, (refl, refl))) (while_exact (next_is kind.And) (begins_piece kind.And) relations_go_on (after_exact kind.And (λ t. refl) (init_relation n d))))
+    (λ rs rest fit stop. relations_join rs rest))
 
 item_found : (n : ℕ) (d : Declared) (at : At) → Finds (counted_item_at d n at) (Spelled item_pieces (DeclaredFits d) (Declares d) at)
 unfolding counted_item_at

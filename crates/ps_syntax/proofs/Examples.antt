@@ -39,8 +39,8 @@ program = record {
   locals = [];
   inits = [];
   body =
-    record { place = record { line = 1; column = 9 }; kind = stmt.Havoc (Global 0) }
-    ∷ record { place = record { line = 1; column = 12 }; kind = stmt.If test.Star (record { place = record { line = 1; column = 17 }; kind = stmt.Skip } ∷ []) [] } ∷ [];
+      record { place = record { line = 1; column = 9 }; kind = stmt.Havoc (Global 0) }
+      ∷ record { place = record { line = 1; column = 12 }; kind = stmt.If test.Star (record { place = record { line = 1; column = 17 }; kind = stmt.Skip } ∷ []) [] } ∷ [];
 }
 
 known : Some (Global 0) ≢ None

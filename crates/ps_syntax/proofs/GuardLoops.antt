@@ -48,11 +48,17 @@ turn_fails : {C A : Type 0} {n : ℕ} {n' most : ℕ → ℕ} {read : Read A} {r
     (goes : At → Bool) → IsTest goes → Guards n n' most read read' spell okay alike follows → (m' l' : ℕ → ℕ) → ((i : ℕ) → l' i ≤ m' i) → ((i : ℕ) → l' i ≤ n' i) → (at : At) → goes at ≡ true → (p : ReadRefusal)
     → Stood n' read' spell okay at p → Stood l' (λ i. while_at goes (read' i) (m' i)) (flat_map spell) (AllByRecursion okay) at p
 turn_fails {read' = read'} {spell = spell} goes test g m' l' a' b' at e p q = record {
-  text = q.text ∷ []; fine = (q.fine, tt); front = q.front; rest = q.rest; more = q.more; split = q.split; place = q.place;
+  text = q.text ∷ [];
+  fine = (q.fine, tt);
+  front = q.front;
+  rest = q.rest;
+  more = q.more;
+  split = q.split;
+  place = q.place;
   spelled = q.spelled ∙ sym (append-nil (spell q.text));
   same = λ g i at' other room' s h.
-    let on : goes at' ≡ true = sym (test.same at at' (alike_two at.words at'.words q.front q.rest other q.split h s)) ∙ e in
-    subst Refused (sym (turned goes (read' i) (m' i) at' (omega (arith, room', a' i))))
+      let on : goes at' ≡ true = sym (test.same at at' (alike_two at.words at'.words q.front q.rest other q.split h s)) ∙ e in
+      subst Refused (sym (turned goes (read' i) (m' i) at' (omega (arith, room', a' i))))
       (refused_true (goes at') _ _ on (refused_bind _ _ (q.same g i at' other (omega (arith, room', b' i)) s h)));
 }
 
@@ -64,44 +70,55 @@ turn_goes : {C A : Type 0} {n : ℕ} {n' most : ℕ → ℕ} {read : Read A} {re
     → Keeps (r >>= λ xs. Ok (x.0 ∷ xs.0, xs.1)) (Went l' (λ i. while_at goes (read' i) (m' i)) (flat_map spell) (AllByRecursion okay) Any at) (Stood l' (λ i. while_at goes (read' i) (m' i)) (flat_map spell) (AllByRecursion okay) at)
 turn_goes {n' = n'} {read' = read'} {spell = spell} goes test some g m' l' a' b' at e x p r h =
     keeps_bind _ _ _ _ _ _ h
-      (λ y q. keeps_end _ _ _ (record {
-        text = p.text ∷ q.text; fine = (p.fine, q.fine); front = p.front ++ q.front;
-        split = p.split ∙ ap (λ (ws : List Word). p.front ++ ws) q.split ∙ sym (append_assoc p.front q.front y.1.words);
-        ends = q.ends ∙ p.ends;
-        spelled = pieces_are p.front q.front (spell p.text) (flat_map spell q.text) p.spelled q.spelled;
-        same = λ i at' other room' s k.
+    (λ y q. keeps_end _ _ _ (record {
+      text = p.text ∷ q.text;
+      fine = (p.fine, q.fine);
+      front = p.front ++ q.front;
+      split = p.split ∙ ap (λ (ws : List Word). p.front ++ ws) q.split ∙ sym (append_assoc p.front q.front y.1.words);
+      ends = q.ends ∙ p.ends;
+      spelled = pieces_are p.front q.front (spell p.text) (flat_map spell q.text) p.spelled q.spelled;
+      same = λ i at' other room' s k.
           let joined : at'.words ≡ p.front ++ (q.front ++ other) = k ∙ append_assoc p.front q.front other in
           let next : BeginAlike x.1.words (q.front ++ other) = subst (λ (ws : List Word). BeginAlike ws (q.front ++ other)) (sym q.split) (alike_after q.front y.1.words other s) in
           let on : goes at' ≡ true = sym (test.same at at' (alike_two at.words at'.words p.front x.1.words (q.front ++ other) p.split joined next)) ∙ e in
           subst (λ u. Gets u (λ z. Unit {0} × (z.1.words ≡ other))) (sym (turned goes (read' i) (m' i) at' (omega (arith, room', a' i))))
-            (gets_true (goes at') _ _ _ on
-            (gets_bind _ _ _ _ (p.same i at' (q.front ++ other) (omega (arith, room', b' i)) next joined) (λ x' a.
-            gets_bind _ _ _ _ (q.same i x'.1 other (room_left (l' i) (l' i - 1) at'.words p.front x'.1.words (spell p.text) room' (joined ∙ ap (λ (ws : List Word). p.front ++ ws) (sym a.1)) p.spelled (omega (arith, some p.text, room'))) s a.1) (λ y' b.
-            gets_end _ _ (tt, b.1)))));
-      }))
-      (λ f q. record {
-        text = p.text ∷ q.text; fine = (p.fine, q.fine); front = p.front ++ q.front; rest = q.rest; more = q.more;
-        split = p.split ∙ ap (λ (ws : List Word). p.front ++ ws) q.split ∙ sym (append_assoc p.front q.front q.rest);
-        place = q.place ∙ ap (λ (o : Place). Some (place_of_next q.rest o)) p.ends;
-        spelled = ap pieces (append_assoc p.front q.front q.more) ∙ pieces_are p.front (q.front ++ q.more) (spell p.text) (flat_map spell q.text) p.spelled q.spelled;
-        same = λ g i at' other room' s k.
+          (gets_true (goes at') _ _ _ on
+          (gets_bind _ _ _ _ (p.same i at' (q.front ++ other) (omega (arith, room', b' i)) next joined) (λ x' a.
+          gets_bind _ _ _ _ (q.same i x'.1 other (room_left (l' i) (l' i - 1) at'.words p.front x'.1.words (spell p.text) room' (joined ∙ ap (λ (ws : List Word). p.front ++ ws) (sym a.1)) p.spelled (omega (arith, some p.text, room'))) s a.1) (λ y' b.
+          gets_end _ _ (tt, b.1)))));
+    }))
+    (λ f q. record {
+      text = p.text ∷ q.text;
+      fine = (p.fine, q.fine);
+      front = p.front ++ q.front;
+      rest = q.rest;
+      more = q.more;
+      split = p.split ∙ ap (λ (ws : List Word). p.front ++ ws) q.split ∙ sym (append_assoc p.front q.front q.rest);
+      place = q.place ∙ ap (λ (o : Place). Some (place_of_next q.rest o)) p.ends;
+      spelled = ap pieces (append_assoc p.front q.front q.more) ∙ pieces_are p.front (q.front ++ q.more) (spell p.text) (flat_map spell q.text) p.spelled q.spelled;
+      same = λ g i at' other room' s k.
           let joined : at'.words ≡ p.front ++ (q.front ++ other) = k ∙ append_assoc p.front q.front other in
           let next : BeginAlike x.1.words (q.front ++ other) = subst (λ (ws : List Word). BeginAlike ws (q.front ++ other)) (sym q.split) (alike_after q.front q.rest other s) in
           let on : goes at' ≡ true = sym (test.same at at' (alike_two at.words at'.words p.front x.1.words (q.front ++ other) p.split joined next)) ∙ e in
           subst Refused (sym (turned goes (read' i) (m' i) at' (omega (arith, room', a' i))))
-            (refused_true (goes at') _ _ on
-            (refused_after _ _ _ (p.same i at' (q.front ++ other) (omega (arith, room', b' i)) next joined) (λ x' a.
-            refused_bind _ _ (q.same g i x'.1 other (room_left (l' i) (l' i - 1) at'.words p.front x'.1.words (spell p.text) room' (joined ∙ ap (λ (ws : List Word). p.front ++ ws) (sym a.1)) p.spelled (omega (arith, some p.text, room'))) s a.1))));
-      })
+          (refused_true (goes at') _ _ on
+          (refused_after _ _ _ (p.same i at' (q.front ++ other) (omega (arith, room', b' i)) next joined) (λ x' a.
+          refused_bind _ _ (q.same g i x'.1 other (room_left (l' i) (l' i - 1) at'.words p.front x'.1.words (spell p.text) room' (joined ∙ ap (λ (ws : List Word). p.front ++ ws) (sym a.1)) p.spelled (omega (arith, some p.text, room'))) s a.1))));
+    })
 
 -- where it doesn't go on, neither does the other
 turn_stops : {C A : Type 0} (read' : ℕ → Read A) (spell : C → List Piece) (okay : C → Type 0) (goes : At → Bool) → IsTest goes → (m' l' : ℕ → ℕ) → ((i : ℕ) → l' i ≤ m' i) → (at : At) → goes at ≡ false
     → Went l' (λ i. while_at goes (read' i) (m' i)) (flat_map spell) (AllByRecursion okay) Any at ([], at)
 turn_stops read' spell okay goes test m' l' a' at e = record {
-  text = []; fine = tt; front = []; split = refl; ends = refl; spelled = refl;
+  text = [];
+  fine = tt;
+  front = [];
+  split = refl;
+  ends = refl;
+  spelled = refl;
   same = λ i at' other room' s k.
-    let off : goes at' ≡ false = sym (test.same at at' (subst (λ (ws : List Word). BeginAlike at.words ws) (sym k) s)) ∙ e in
-    subst (λ u. Gets u (λ z. Unit {0} × (z.1.words ≡ other))) (sym (turned goes (read' i) (m' i) at' (omega (arith, room', a' i))))
+      let off : goes at' ≡ false = sym (test.same at at' (subst (λ (ws : List Word). BeginAlike at.words ws) (sym k) s)) ∙ e in
+      subst (λ u. Gets u (λ z. Unit {0} × (z.1.words ≡ other))) (sym (turned goes (read' i) (m' i) at' (omega (arith, room', a' i))))
       (gets_false (goes at') _ _ _ off (gets_end _ _ (tt, k)));
 }
 
@@ -117,11 +134,11 @@ while_stuck {A = A} {n = n} {n' = n'} {read = read} {read' = read'} {spell = spe
     by_test : (t : Bool) → goes at ≡ t
         → ((mid : At) → length mid.words < l - 1 → Keeps (while_at goes read m mid) (Went (λ i. l' i - 1) (λ i. while_at goes (read' i) (m' i - 1)) (flat_map spell) (AllByRecursion okay) Any mid) (Stood (λ i. l' i - 1) (λ i. while_at goes (read' i) (m' i - 1)) (flat_map spell) (AllByRecursion okay) mid))
         → Keeps {A = List A × At} (if t then (read at >>= λ x. while_at goes read m x.1 >>= λ xs. Ok (x.0 ∷ xs.0, xs.1)) else Ok ([], at))
-          (Went l' (λ i. while_at goes (read' i) (m' i)) (flat_map spell) (AllByRecursion okay) Any at) (Stood l' (λ i. while_at goes (read' i) (m' i)) (flat_map spell) (AllByRecursion okay) at)
+        (Went l' (λ i. while_at goes (read' i) (m' i)) (flat_map spell) (AllByRecursion okay) Any at) (Stood l' (λ i. while_at goes (read' i) (m' i)) (flat_map spell) (AllByRecursion okay) at)
     by_test true e more =
         keeps_bind _ _ _ _ _ _ (g.stuck at (omega (arith, room, b)))
-          (λ x p. turn_goes goes test some g m' l' a' b' at e x p _ (more x.1 (room_left l (l - 1) at.words p.front x.1.words (spell p.text) room p.split p.spelled (omega (arith, some p.text, room)))))
-          (λ p q. turn_fails goes test g m' l' a' b' at e p q)
+        (λ x p. turn_goes goes test some g m' l' a' b' at e x p _ (more x.1 (room_left l (l - 1) at.words p.front x.1.words (spell p.text) room p.split p.spelled (omega (arith, some p.text, room)))))
+        (λ p q. turn_fails goes test g m' l' a' b' at e p q)
     by_test false e more = keeps_end _ _ _ (turn_stops read' spell okay goes test m' l' a' at e)
 
 pub while_guards : {C A : Type 0} {n m : ℕ} {n' m' : ℕ → ℕ} {read : Read A} {read' : ℕ → Read A} {spell : C → List Piece} {okay : C → Type 0} {alike : A → A → Type 0} {follows : List Piece → Type 0}
@@ -129,7 +146,7 @@ pub while_guards : {C A : Type 0} {n m : ℕ} {n' m' : ℕ → ℕ} {read : Read
     → Guards n n' m' (while_at goes read m) (λ i. while_at goes (read' i) (m' i)) (flat_map spell) (AllByRecursion okay) Any (Ends begins follows)
 while_guards {n = n} {m = m} {n' = n'} {m' = m'} {spell = spell} goes begins test on low low' g = record {
   never = λ i at cs rest fine h stop.
-    let le : length cs ≤ length (flat_map spell cs ++ rest) = few spell on.some cs rest in
-    while_never goes begins on g i cs (m' i) at rest (omega (arith, le, h.room)) fine h stop;
+      let le : length cs ≤ length (flat_map spell cs ++ rest) = few spell on.some cs rest in
+      while_never goes begins on g i cs (m' i) at rest (omega (arith, le, h.room)) fine h stop;
   stuck = λ at room. while_stuck goes test on.some g m n m' n' low low' (omega arith) (λ i. omega arith) at room;
 }

@@ -19,13 +19,25 @@ pub guards_same : {C A : Type 0} {n : ℕ} {n' most : ℕ → ℕ} {read : Read 
 guards_same {n' = n'} {most = most} {spell = spell} {okay = okay} {alike = alike} other other' e e' g = record {
   never = λ i at c rest fine h stop. subst (λ r. Lets r (λ y. Ahead (most i) y.1 rest)) (e' i at) (g.never i at c rest fine h stop);
   stuck = λ at room. subst (λ r. Keeps r (Went n' other' spell okay alike at) (Stood n' other' spell okay at)) (e at)
-    (keeps_more _ _ _ _ _ (g.stuck at room)
+      (keeps_more _ _ _ _ _ (g.stuck at room)
       (λ y p. record {
-        text = p.text; fine = p.fine; front = p.front; split = p.split; ends = p.ends; spelled = p.spelled;
+        text = p.text;
+        fine = p.fine;
+        front = p.front;
+        split = p.split;
+        ends = p.ends;
+        spelled = p.spelled;
         same = λ i at' more room' s h. subst (λ r. Gets r (λ z. alike y.0 z.0 × (z.1.words ≡ more))) (e' i at') (p.same i at' more room' s h);
       })
       (λ p q. record {
-        text = q.text; fine = q.fine; front = q.front; rest = q.rest; more = q.more; split = q.split; place = q.place; spelled = q.spelled;
+        text = q.text;
+        fine = q.fine;
+        front = q.front;
+        rest = q.rest;
+        more = q.more;
+        split = q.split;
+        place = q.place;
+        spelled = q.spelled;
         same = λ g i at' more room' s h. subst (λ r. Refused r) (e' i at') (q.same g i at' more room' s h);
       }));
 }
@@ -51,13 +63,25 @@ pub mapped_guards : {C A B : Type 0} {n : ℕ} {n' most : ℕ → ℕ} {read : R
 mapped_guards alike' of liked g = record {
   never = λ i at c rest fine h stop. lets_bind _ _ _ _ (g.never i at c rest fine h stop) (λ y p. lets_end _ _ p);
   stuck = λ at room.
-    keeps_bind _ _ _ _ _ _ (g.stuck at room)
+      keeps_bind _ _ _ _ _ _ (g.stuck at room)
       (λ y p. keeps_end _ _ _ (record {
-        text = p.text; fine = p.fine; front = p.front; split = p.split; ends = p.ends; spelled = p.spelled;
+        text = p.text;
+        fine = p.fine;
+        front = p.front;
+        split = p.split;
+        ends = p.ends;
+        spelled = p.spelled;
         same = λ i at' more room' s h. gets_bind _ _ _ _ (p.same i at' more room' s h) (λ z q. gets_end _ _ (liked y.0 z.0 q.0, q.1));
       }))
       (λ p q. record {
-        text = q.text; fine = q.fine; front = q.front; rest = q.rest; more = q.more; split = q.split; place = q.place; spelled = q.spelled;
+        text = q.text;
+        fine = q.fine;
+        front = q.front;
+        rest = q.rest;
+        more = q.more;
+        split = q.split;
+        place = q.place;
+        spelled = q.spelled;
         same = λ g i at' more room' s h. refused_bind _ _ (q.same g i at' more room' s h);
       });
 }
@@ -67,10 +91,19 @@ pub refusing_guards : {C A : Type 0} (n : ℕ) (n' most : ℕ → ℕ) (why : At
     → ((at : At) → Lets {A = A × At} (Err (why at)) (λ _. ⊥)) → ((at : At) → refusal_place (why at) ≡ Some (place_at at)) → Example spell okay → Guards {A = A} n n' most (λ at. Err (why at)) (λ i at. Err (why at)) spell okay alike follows
 refusing_guards n n' most why spell okay alike follows other place example = record {
   never = λ i at c rest fine h stop. lets_other (why at) _ _ (other at);
-  stuck = λ at room. record { is = record {
-    text = example.text; fine = example.fine; front = []; rest = at.words; more = example.words; split = refl; place = place at; spelled = example.spelled;
-    same = λ g i at' more room' s h. absurd (not_grammar (why at) (other at) g);
-  } };
+  stuck = λ at room. record {
+    is = record {
+      text = example.text;
+      fine = example.fine;
+      front = [];
+      rest = at.words;
+      more = example.words;
+      split = refl;
+      place = place at;
+      spelled = example.spelled;
+      same = λ g i at' more room' s h. absurd (not_grammar (why at) (other at) g);
+    };
+  };
 }
   where
     lets_other : {X : Type 0} (e : ReadRefusal) (Q R : X → Type 0) → Lets (Err e) Q → Lets (Err e) R
@@ -92,33 +125,44 @@ pub both_guards : {C D A B X : Type 0} {n m : ℕ} {n' m' most : ℕ → ℕ} {o
     → Guards n n' most (both of one two) (λ i. both of (one' i) (two' i)) (λ (c : C × D). spell c.0 ++ spell' c.1) (λ (c : C × D). okay c.0 × okay' c.1) alike'' follows'
 both_guards {n = n} {m = m} {n' = n'} {m' = m'} {one' = one'} {two' = two'} {spell = spell} {spell' = spell'} alike'' of liked g short short' g' example joins = record {
   never = λ i at c rest fine h stop.
-    lets_bind _ _ _ _ (g.never i at c.0 (spell' c.1 ++ rest) fine.0 (ahead_so (append_assoc (spell c.0) (spell' c.1) rest) h) (joins c.1 rest stop)) (λ x p.
-    lets_bind _ _ _ _ (g'.never i x.1 c.1 rest fine.1 p stop) (λ y q. lets_end _ _ q));
+      lets_bind _ _ _ _ (g.never i at c.0 (spell' c.1 ++ rest) fine.0 (ahead_so (append_assoc (spell c.0) (spell' c.1) rest) h) (joins c.1 rest stop)) (λ x p.
+      lets_bind _ _ _ _ (g'.never i x.1 c.1 rest fine.1 p stop) (λ y q. lets_end _ _ q));
   stuck = λ at room.
-    keeps_bind _ _ _ _ _ _ (g.stuck at room)
+      keeps_bind _ _ _ _ _ _ (g.stuck at room)
       (λ x p. keeps_bind _ _ _ _ _ _ (g'.stuck x.1 (room_left n m at.words p.front x.1.words (spell p.text) room p.split p.spelled (short p.text)))
-        (λ y q. keeps_end _ _ _ (record {
-          text = (p.text, q.text); fine = (p.fine, q.fine); front = p.front ++ q.front;
-          split = p.split ∙ ap (λ (ws : List Word). p.front ++ ws) q.split ∙ sym (append_assoc p.front q.front y.1.words);
-          ends = q.ends ∙ p.ends;
-          spelled = pieces_are p.front q.front (spell p.text) (spell' q.text) p.spelled q.spelled;
-          same = λ i at' other room' s h.
+      (λ y q. keeps_end _ _ _ (record {
+        text = (p.text, q.text);
+        fine = (p.fine, q.fine);
+        front = p.front ++ q.front;
+        split = p.split ∙ ap (λ (ws : List Word). p.front ++ ws) q.split ∙ sym (append_assoc p.front q.front y.1.words);
+        ends = q.ends ∙ p.ends;
+        spelled = pieces_are p.front q.front (spell p.text) (spell' q.text) p.spelled q.spelled;
+        same = λ i at' other room' s h.
             gets_bind _ _ _ _ (p.same i at' (q.front ++ other) room' (subst (λ (ws : List Word). BeginAlike ws (q.front ++ other)) (sym q.split) (alike_after q.front y.1.words other s)) (h ∙ append_assoc p.front q.front other)) (λ x' a.
             gets_bind _ _ _ _ (q.same i x'.1 other (room_left (n' i) (m' i) at'.words p.front x'.1.words (spell p.text) room' (h ∙ append_assoc p.front q.front other ∙ ap (λ (ws : List Word). p.front ++ ws) (sym a.1)) p.spelled (short' i p.text)) s a.1) (λ y' b.
             gets_end _ _ (liked x.0 x'.0 y.0 y'.0 a.0 b.0, b.1)));
-        }))
-        (λ e q. record {
-          text = (p.text, q.text); fine = (p.fine, q.fine); front = p.front ++ q.front; rest = q.rest; more = q.more;
-          split = p.split ∙ ap (λ (ws : List Word). p.front ++ ws) q.split ∙ sym (append_assoc p.front q.front q.rest);
-          place = q.place ∙ ap (λ (o : Place). Some (place_of_next q.rest o)) p.ends;
-          spelled = ap pieces (append_assoc p.front q.front q.more) ∙ pieces_are p.front (q.front ++ q.more) (spell p.text) (spell' q.text) p.spelled q.spelled;
-          same = λ g i at' other room' s h.
+      }))
+      (λ e q. record {
+        text = (p.text, q.text);
+        fine = (p.fine, q.fine);
+        front = p.front ++ q.front;
+        rest = q.rest;
+        more = q.more;
+        split = p.split ∙ ap (λ (ws : List Word). p.front ++ ws) q.split ∙ sym (append_assoc p.front q.front q.rest);
+        place = q.place ∙ ap (λ (o : Place). Some (place_of_next q.rest o)) p.ends;
+        spelled = ap pieces (append_assoc p.front q.front q.more) ∙ pieces_are p.front (q.front ++ q.more) (spell p.text) (spell' q.text) p.spelled q.spelled;
+        same = λ g i at' other room' s h.
             refused_after _ _ _ (p.same i at' (q.front ++ other) room' (subst (λ (ws : List Word). BeginAlike ws (q.front ++ other)) (sym q.split) (alike_after q.front q.rest other s)) (h ∙ append_assoc p.front q.front other)) (λ x' a.
             refused_bind _ _ (q.same g i x'.1 other (room_left (n' i) (m' i) at'.words p.front x'.1.words (spell p.text) room' (h ∙ append_assoc p.front q.front other ∙ ap (λ (ws : List Word). p.front ++ ws) (sym a.1)) p.spelled (short' i p.text)) s a.1));
-        }))
+      }))
       (λ e q. record {
-        text = (q.text, example.text); fine = (q.fine, example.fine); front = q.front; rest = q.rest; more = q.more ++ example.words;
-        split = q.split; place = q.place;
+        text = (q.text, example.text);
+        fine = (q.fine, example.fine);
+        front = q.front;
+        rest = q.rest;
+        more = q.more ++ example.words;
+        split = q.split;
+        place = q.place;
         spelled = ap pieces (sym (append_assoc q.front q.more example.words)) ∙ pieces_are (q.front ++ q.more) example.words (spell q.text) (spell' example.text) q.spelled example.spelled;
         same = λ g i at' other room' s h. refused_bind _ _ (q.same g i at' other room' s h);
       });
@@ -156,7 +200,9 @@ three_is of a b c at =
 
 pub example_after : {C : Type 0} {spell : C → List Piece} {okay : C → Type 0} (k : TokenKind) → IsMark k → Example spell okay → Example (λ c. Mark k ∷ spell c) okay
 example_after k marked e = record {
-  text = e.text; fine = e.fine; words = record { kind = k; text = []; place = record { line = 0; column = 0 } } ∷ e.words;
+  text = e.text;
+  fine = e.fine;
+  words = record { kind = k; text = []; place = record { line = 0; column = 0 } } ∷ e.words;
   spelled = ap (λ (p : Piece). p ∷ pieces e.words) (marked []) ∙ ap (λ (ps : List Piece). Mark k ∷ ps) e.spelled;
 }
 
@@ -165,35 +211,46 @@ pub word_then_guards : {C A : Type 0} {n m : ℕ} {n' m' most : ℕ → ℕ} {re
     → Guards n n' most (λ at. word_at k at >>= λ w. read w.0 w.1) (λ i at. word_at k at >>= λ w. read' i w.0 w.1) (λ c. Mark k ∷ spell c) okay alike follows
 word_then_guards {n = n} {m = m} {n' = n'} {m' = m'} {most = most} {read' = read'} {spell = spell} {alike = alike} k marked low low' g example = record {
   never = λ i at c rest fine h stop.
-    lets_bind _ _ _ _ ((word_guards n n' most k).never i at [] (spell c ++ rest) tt (ahead_so (ap (λ (p : Piece). p ∷ (spell c ++ rest)) (sym (marked []))) h) tt) (λ w p. (g w.0).never i w.1 c rest fine p stop);
+      lets_bind _ _ _ _ ((word_guards n n' most k).never i at [] (spell c ++ rest) tt (ahead_so (ap (λ (p : Piece). p ∷ (spell c ++ rest)) (sym (marked []))) h) tt) (λ w p. (g w.0).never i w.1 c rest fine p stop);
   stuck = λ at room.
-    keeps_bind _ _ _ _ _ _ ((word_guards n n' most k).stuck at room)
+      keeps_bind _ _ _ _ _ _ ((word_guards n n' most k).stuck at room)
       (λ w p.
-        let piece : pieces p.front ≡ Mark k ∷ [] = p.spelled ∙ ap (λ (q : Piece). q ∷ []) (marked p.text) in
-        keeps_more _ _ _ _ _ ((g w.0).stuck w.1 (room_left n m at.words p.front w.1.words (Mark k ∷ []) room p.split piece (omega (arith, low))))
-        (λ y q. record {
-          text = q.text; fine = q.fine; front = p.front ++ q.front;
-          split = p.split ∙ ap (λ (ws : List Word). p.front ++ ws) q.split ∙ sym (append_assoc p.front q.front y.1.words);
-          ends = q.ends ∙ p.ends;
-          spelled = pieces_are p.front q.front (Mark k ∷ []) (spell q.text) piece q.spelled;
-          same = λ i at' other room' s h.
+      let piece : pieces p.front ≡ Mark k ∷ [] = p.spelled ∙ ap (λ (q : Piece). q ∷ []) (marked p.text) in
+      keeps_more _ _ _ _ _ ((g w.0).stuck w.1 (room_left n m at.words p.front w.1.words (Mark k ∷ []) room p.split piece (omega (arith, low))))
+      (λ y q. record {
+        text = q.text;
+        fine = q.fine;
+        front = p.front ++ q.front;
+        split = p.split ∙ ap (λ (ws : List Word). p.front ++ ws) q.split ∙ sym (append_assoc p.front q.front y.1.words);
+        ends = q.ends ∙ p.ends;
+        spelled = pieces_are p.front q.front (Mark k ∷ []) (spell q.text) piece q.spelled;
+        same = λ i at' other room' s h.
             gets_bind _ _ _ _ (p.same i at' (q.front ++ other) room' (subst (λ (ws : List Word). BeginAlike ws (q.front ++ other)) (sym q.split) (alike_after q.front y.1.words other s)) (h ∙ append_assoc p.front q.front other)) (λ x' a.
             subst (λ (v : Word). Gets (read' i v x'.1) (λ z. alike y.0 z.0 × (z.1.words ≡ other))) a.0
-              (q.same i x'.1 other (room_left (n' i) (m' i) at'.words p.front x'.1.words (Mark k ∷ []) room' (h ∙ append_assoc p.front q.front other ∙ ap (λ (ws : List Word). p.front ++ ws) (sym a.1)) piece (omega (arith, low' i))) s a.1));
-        })
-        (λ e q. record {
-          text = q.text; fine = q.fine; front = p.front ++ q.front; rest = q.rest; more = q.more;
-          split = p.split ∙ ap (λ (ws : List Word). p.front ++ ws) q.split ∙ sym (append_assoc p.front q.front q.rest);
-          place = q.place ∙ ap (λ (o : Place). Some (place_of_next q.rest o)) p.ends;
-          spelled = ap pieces (append_assoc p.front q.front q.more) ∙ pieces_are p.front (q.front ++ q.more) (Mark k ∷ []) (spell q.text) piece q.spelled;
-          same = λ g i at' other room' s h.
+            (q.same i x'.1 other (room_left (n' i) (m' i) at'.words p.front x'.1.words (Mark k ∷ []) room' (h ∙ append_assoc p.front q.front other ∙ ap (λ (ws : List Word). p.front ++ ws) (sym a.1)) piece (omega (arith, low' i))) s a.1));
+      })
+      (λ e q. record {
+        text = q.text;
+        fine = q.fine;
+        front = p.front ++ q.front;
+        rest = q.rest;
+        more = q.more;
+        split = p.split ∙ ap (λ (ws : List Word). p.front ++ ws) q.split ∙ sym (append_assoc p.front q.front q.rest);
+        place = q.place ∙ ap (λ (o : Place). Some (place_of_next q.rest o)) p.ends;
+        spelled = ap pieces (append_assoc p.front q.front q.more) ∙ pieces_are p.front (q.front ++ q.more) (Mark k ∷ []) (spell q.text) piece q.spelled;
+        same = λ g i at' other room' s h.
             refused_after _ _ _ (p.same i at' (q.front ++ other) room' (subst (λ (ws : List Word). BeginAlike ws (q.front ++ other)) (sym q.split) (alike_after q.front q.rest other s)) (h ∙ append_assoc p.front q.front other)) (λ x' a.
             subst (λ (v : Word). Refused (read' i v x'.1)) a.0
-              (q.same g i x'.1 other (room_left (n' i) (m' i) at'.words p.front x'.1.words (Mark k ∷ []) room' (h ∙ append_assoc p.front q.front other ∙ ap (λ (ws : List Word). p.front ++ ws) (sym a.1)) piece (omega (arith, low' i))) s a.1));
-        }))
+            (q.same g i x'.1 other (room_left (n' i) (m' i) at'.words p.front x'.1.words (Mark k ∷ []) room' (h ∙ append_assoc p.front q.front other ∙ ap (λ (ws : List Word). p.front ++ ws) (sym a.1)) piece (omega (arith, low' i))) s a.1));
+      }))
       (λ e q. record {
-        text = example.text; fine = example.fine; front = q.front; rest = q.rest; more = q.more ++ example.words;
-        split = q.split; place = q.place;
+        text = example.text;
+        fine = example.fine;
+        front = q.front;
+        rest = q.rest;
+        more = q.more ++ example.words;
+        split = q.split;
+        place = q.place;
         spelled = ap pieces (sym (append_assoc q.front q.more example.words)) ∙ pieces_are (q.front ++ q.more) example.words (Mark k ∷ []) (spell example.text) (q.spelled ∙ ap (λ (r : Piece). r ∷ []) (marked q.text)) example.spelled;
         same = λ g i at' other room' s h. refused_bind _ _ (q.same g i at' other room' s h);
       });
@@ -211,18 +268,30 @@ pub word_refused_guards : {C A : Type 0} (n : ℕ) (n' most : ℕ → ℕ) (k : 
     → Guards {A = A} n n' most (λ at. word_at k at >>= λ w. Err (why w.0)) (λ i at. word_at k at >>= λ w. Err (why w.0)) (λ c. Mark k ∷ spell c) okay alike follows
 word_refused_guards {A = A} n n' most k why spell okay alike follows marked other place example = record {
   never = λ i at c rest fine h stop.
-    lets_bind _ _ _ _ ((word_guards n n' most k).never i at [] (spell c ++ rest) tt (ahead_so (ap (λ (p : Piece). p ∷ (spell c ++ rest)) (sym (marked []))) h) tt) (λ w p. lets_other (why w.0) _ _ (other w.0));
+      lets_bind _ _ _ _ ((word_guards n n' most k).never i at [] (spell c ++ rest) tt (ahead_so (ap (λ (p : Piece). p ∷ (spell c ++ rest)) (sym (marked []))) h) tt) (λ w p. lets_other (why w.0) _ _ (other w.0));
   stuck = λ at room.
-    keeps_bind _ _ _ _ _ _ (placed_word n n' most k at room)
-      (λ w p. record { is = record {
-        text = example.text; fine = example.fine; front = []; rest = at.words; more = record { kind = k; text = []; place = record { line = 0; column = 0 } } ∷ example.words; split = refl;
-        place = place w.0 ∙ ap (λ (o : Place). Some o) (sym p.1);
-        spelled = ap (λ (p : Piece). p ∷ pieces example.words) (marked []) ∙ ap (λ (ps : List Piece). Mark k ∷ ps) example.spelled;
-        same = λ g i at' more room' s h. absurd (not_grammar (why w.0) (other w.0) g);
-      } })
+      keeps_bind _ _ _ _ _ _ (placed_word n n' most k at room)
+      (λ w p. record {
+        is = record {
+          text = example.text;
+          fine = example.fine;
+          front = [];
+          rest = at.words;
+          more = record { kind = k; text = []; place = record { line = 0; column = 0 } } ∷ example.words;
+          split = refl;
+          place = place w.0 ∙ ap (λ (o : Place). Some o) (sym p.1);
+          spelled = ap (λ (p : Piece). p ∷ pieces example.words) (marked []) ∙ ap (λ (ps : List Piece). Mark k ∷ ps) example.spelled;
+          same = λ g i at' more room' s h. absurd (not_grammar (why w.0) (other w.0) g);
+        };
+      })
       (λ e q. record {
-        text = example.text; fine = example.fine; front = q.front; rest = q.rest; more = q.more ++ example.words;
-        split = q.split; place = q.place;
+        text = example.text;
+        fine = example.fine;
+        front = q.front;
+        rest = q.rest;
+        more = q.more ++ example.words;
+        split = q.split;
+        place = q.place;
         spelled = ap pieces (sym (append_assoc q.front q.more example.words)) ∙ pieces_are (q.front ++ q.more) example.words (Mark k ∷ []) (spell example.text) (q.spelled ∙ ap (λ (r : Piece). r ∷ []) (marked q.text)) example.spelled;
         same = λ g i at' other room' s h. refused_bind _ _ (q.same g i at' other room' s h);
       });
@@ -248,7 +317,9 @@ closed_guards {n = n} {n' = n'} {most = most} {spell = spell} {okay = okay} {ali
 
 pub example_closed : {C : Type 0} {spell : C → List Piece} {okay : C → Type 0} (k : TokenKind) → IsMark k → Example spell okay → Example (λ c. spell c ++ Mark k ∷ []) okay
 example_closed {spell = spell} k marked e = record {
-  text = e.text; fine = e.fine; words = e.words ++ record { kind = k; text = []; place = record { line = 0; column = 0 } } ∷ [];
+  text = e.text;
+  fine = e.fine;
+  words = e.words ++ record { kind = k; text = []; place = record { line = 0; column = 0 } } ∷ [];
   spelled = pieces_are e.words _ (spell e.text) (Mark k ∷ []) e.spelled (ap (λ (p : Piece). p ∷ []) (marked []));
 }
 
@@ -273,10 +344,10 @@ pub choice_guards : {C D E A : Type 0} {n : ℕ} {n' most : ℕ → ℕ} {one tw
     → Guards n n' most (λ at. if goes at then one at else two at) (λ i at. if goes at then one' i at else two' i at) spell'' okay'' alike follows''
 choice_guards {n = n} {n' = n'} {most = most} {one = one} {two = two} {one' = one'} {two' = two'} {alike = alike} spell'' okay'' follows'' goes begins test ahead f spelled fine g spelled' fine' sort stops stops' a b = record {
   never = λ i at e rest ok h stop.
-    elim (sort e ok) [
-      inl s ↦ lets_true (goes at) (one' i at) (two' i at) (λ y. Ahead (most i) y.1 rest) (ahead (most i) at _ h ∙ s.tells rest stop) (a.never i at s.text rest s.fine (ahead_so (ap (λ (ps : List Piece). ps ++ rest) s.same) h) (stops rest stop))
-      | inr s ↦ lets_false (goes at) (one' i at) (two' i at) (λ y. Ahead (most i) y.1 rest) (ahead (most i) at _ h ∙ s.tells rest stop) (b.never i at s.text rest s.fine (ahead_so (ap (λ (ps : List Piece). ps ++ rest) s.same) h) (stops' rest stop))
-    ];
+      elim (sort e ok) [
+        | inl s ↦ lets_true (goes at) (one' i at) (two' i at) (λ y. Ahead (most i) y.1 rest) (ahead (most i) at _ h ∙ s.tells rest stop) (a.never i at s.text rest s.fine (ahead_so (ap (λ (ps : List Piece). ps ++ rest) s.same) h) (stops rest stop))
+        | inr s ↦ lets_false (goes at) (one' i at) (two' i at) (λ y. Ahead (most i) y.1 rest) (ahead (most i) at _ h ∙ s.tells rest stop) (b.never i at s.text rest s.fine (ahead_so (ap (λ (ps : List Piece). ps ++ rest) s.same) h) (stops' rest stop))
+      ];
   stuck = λ at room. by_test at room (goes at) refl;
 }
   where
@@ -285,21 +356,45 @@ choice_guards {n = n} {n' = n'} {most = most} {one = one} {two = two} {one' = on
     by_test at room true e =
         keeps_more _ _ _ _ _ (a.stuck at room)
         (λ y p. record {
-          text = f p.text; fine = fine p.text p.fine; front = p.front; split = p.split; ends = p.ends; spelled = p.spelled ∙ spelled p.text;
+          text = f p.text;
+          fine = fine p.text p.fine;
+          front = p.front;
+          split = p.split;
+          ends = p.ends;
+          spelled = p.spelled ∙ spelled p.text;
           same = λ i at' other room' s h. gets_true (goes at') _ _ _ (sym (test.same at at' (alike_two at.words at'.words p.front y.1.words other p.split h s)) ∙ e) (p.same i at' other room' s h);
         })
         (λ q p. record {
-          text = f p.text; fine = fine p.text p.fine; front = p.front; rest = p.rest; more = p.more; split = p.split; place = p.place; spelled = p.spelled ∙ spelled p.text;
+          text = f p.text;
+          fine = fine p.text p.fine;
+          front = p.front;
+          rest = p.rest;
+          more = p.more;
+          split = p.split;
+          place = p.place;
+          spelled = p.spelled ∙ spelled p.text;
           same = λ g i at' other room' s h. refused_true (goes at') _ _ (sym (test.same at at' (alike_two at.words at'.words p.front p.rest other p.split h s)) ∙ e) (p.same g i at' other room' s h);
         })
     by_test at room false e =
         keeps_more _ _ _ _ _ (b.stuck at room)
         (λ y p. record {
-          text = g p.text; fine = fine' p.text p.fine; front = p.front; split = p.split; ends = p.ends; spelled = p.spelled ∙ spelled' p.text;
+          text = g p.text;
+          fine = fine' p.text p.fine;
+          front = p.front;
+          split = p.split;
+          ends = p.ends;
+          spelled = p.spelled ∙ spelled' p.text;
           same = λ i at' other room' s h. gets_false (goes at') _ _ _ (sym (test.same at at' (alike_two at.words at'.words p.front y.1.words other p.split h s)) ∙ e) (p.same i at' other room' s h);
         })
         (λ q p. record {
-          text = g p.text; fine = fine' p.text p.fine; front = p.front; rest = p.rest; more = p.more; split = p.split; place = p.place; spelled = p.spelled ∙ spelled' p.text;
+          text = g p.text;
+          fine = fine' p.text p.fine;
+          front = p.front;
+          rest = p.rest;
+          more = p.more;
+          split = p.split;
+          place = p.place;
+          spelled = p.spelled ∙ spelled' p.text;
           same = λ g i at' other room' s h. refused_false (goes at') _ _ (sym (test.same at at' (alike_two at.words at'.words p.front p.rest other p.split h s)) ∙ e) (p.same g i at' other room' s h);
         })
 
@@ -317,17 +412,38 @@ last_guards {n = n} {n' = n'} {one = one} {one' = one'} {spell = spell} {okay = 
     by_test at room true e =
         keeps_more _ _ _ _ _ (a.stuck at room)
         (λ y p. record {
-          text = p.text; fine = p.fine; front = p.front; split = p.split; ends = p.ends; spelled = p.spelled;
+          text = p.text;
+          fine = p.fine;
+          front = p.front;
+          split = p.split;
+          ends = p.ends;
+          spelled = p.spelled;
           same = λ i at' other room' s h. gets_true (next_is k at') _ _ _ (sym ((next_test k).same at at' (alike_two at.words at'.words p.front y.1.words other p.split h s)) ∙ e) (p.same i at' other room' s h);
         })
         (λ q p. record {
-          text = p.text; fine = p.fine; front = p.front; rest = p.rest; more = p.more; split = p.split; place = p.place; spelled = p.spelled;
+          text = p.text;
+          fine = p.fine;
+          front = p.front;
+          rest = p.rest;
+          more = p.more;
+          split = p.split;
+          place = p.place;
+          spelled = p.spelled;
           same = λ g i at' other room' s h. refused_true (next_is k at') _ _ (sym ((next_test k).same at at' (alike_two at.words at'.words p.front p.rest other p.split h s)) ∙ e) (p.same g i at' other room' s h);
         })
-    by_test at room false e = record { is = record {
-      text = example.text; fine = example.fine; front = []; rest = at.words; more = example.words; split = refl; place = refl; spelled = example.spelled;
-      same = λ g i at' other room' s h. refused_false (next_is k at') _ _ (sym ((next_test k).same at at' (subst (λ (ws : List Word). BeginAlike at.words ws) (sym h) s)) ∙ e) (record { is = tt });
-    } }
+    by_test at room false e = record {
+      is = record {
+        text = example.text;
+        fine = example.fine;
+        front = [];
+        rest = at.words;
+        more = example.words;
+        split = refl;
+        place = refl;
+        spelled = example.spelled;
+        same = λ g i at' other room' s h. refused_false (next_is k at') _ _ (sym ((next_test k).same at at' (subst (λ (ws : List Word). BeginAlike at.words ws) (sym h) s)) ∙ e) (record { is = tt });
+      };
+    }
 
 -- the same with a value of the place and of what was read
 pub placed_guards : {C A B : Type 0} {n : ℕ} {n' most : ℕ → ℕ} {read : Read A} {read' : ℕ → Read A} {spell : C → List Piece} {okay : C → Type 0} {alike : A → A → Type 0} {follows : List Piece → Type 0}
@@ -335,13 +451,25 @@ pub placed_guards : {C A B : Type 0} {n : ℕ} {n' most : ℕ → ℕ} {read : R
 placed_guards of g = record {
   never = λ i at c rest fine h stop. lets_bind _ _ _ _ (g.never i at c rest fine h stop) (λ y p. lets_end _ _ p);
   stuck = λ at room.
-    keeps_bind _ _ _ _ _ _ (g.stuck at room)
+      keeps_bind _ _ _ _ _ _ (g.stuck at room)
       (λ y p. keeps_end _ _ _ (record {
-        text = p.text; fine = p.fine; front = p.front; split = p.split; ends = p.ends; spelled = p.spelled;
+        text = p.text;
+        fine = p.fine;
+        front = p.front;
+        split = p.split;
+        ends = p.ends;
+        spelled = p.spelled;
         same = λ i at' more room' s h. gets_bind _ _ _ _ (p.same i at' more room' s h) (λ z q. gets_end _ _ (tt, q.1));
       }))
       (λ p q. record {
-        text = q.text; fine = q.fine; front = q.front; rest = q.rest; more = q.more; split = q.split; place = q.place; spelled = q.spelled;
+        text = q.text;
+        fine = q.fine;
+        front = q.front;
+        rest = q.rest;
+        more = q.more;
+        split = q.split;
+        place = q.place;
+        spelled = q.spelled;
         same = λ g i at' more room' s h. refused_bind _ _ (q.same g i at' more room' s h);
       });
 }
@@ -352,13 +480,25 @@ pub mapped_any : {C A B : Type 0} {n : ℕ} {n' most : ℕ → ℕ} {read : Read
 mapped_any of of' g = record {
   never = λ i at c rest fine h stop. lets_bind _ _ _ _ (g.never i at c rest fine h stop) (λ y p. lets_end _ _ p);
   stuck = λ at room.
-    keeps_bind _ _ _ _ _ _ (g.stuck at room)
+      keeps_bind _ _ _ _ _ _ (g.stuck at room)
       (λ y p. keeps_end _ _ _ (record {
-        text = p.text; fine = p.fine; front = p.front; split = p.split; ends = p.ends; spelled = p.spelled;
+        text = p.text;
+        fine = p.fine;
+        front = p.front;
+        split = p.split;
+        ends = p.ends;
+        spelled = p.spelled;
         same = λ i at' more room' s h. gets_bind _ _ _ _ (p.same i at' more room' s h) (λ z q. gets_end _ _ (tt, q.1));
       }))
       (λ p q. record {
-        text = q.text; fine = q.fine; front = q.front; rest = q.rest; more = q.more; split = q.split; place = q.place; spelled = q.spelled;
+        text = q.text;
+        fine = q.fine;
+        front = q.front;
+        rest = q.rest;
+        more = q.more;
+        split = q.split;
+        place = q.place;
+        spelled = q.spelled;
         same = λ g i at' more room' s h. refused_bind _ _ (q.same g i at' more room' s h);
       });
 }

@@ -198,24 +198,48 @@ piece_list k t = piece_of_kind k t ∷ []
 word_stuck : (n' : ℕ → ℕ) (k : TokenKind) (ws : List Word) (end : Place)
     → Keeps (word_from k ws end) (Went n' (λ i at. word_from k at.words at.end) (piece_list k) Always Same (record { words = ws; end = end })) (Stood n' (λ (i : ℕ) (at : At). word_from k at.words at.end) (piece_list k) Always (record { words = ws; end = end }))
 unfolding word_of
-word_stuck n' k [] end = record { is = record {
-  text = []; fine = tt; front = []; rest = []; more = word_of k ∷ []; split = refl; place = refl; spelled = refl;
-  same = λ g i at' other room h e. subst (λ (vs : List Word). Refused (word_from k vs at'.end)) (sym e) (no_word k other at'.end h);
-} }
+word_stuck n' k [] end = record {
+  is = record {
+    text = [];
+    fine = tt;
+    front = [];
+    rest = [];
+    more = word_of k ∷ [];
+    split = refl;
+    place = refl;
+    spelled = refl;
+    same = λ g i at' other room h e. subst (λ (vs : List Word). Refused (word_from k vs at'.end)) (sym e) (no_word k other at'.end h);
+  };
+}
 word_stuck n' k (w ∷ ws) end = by_test (is_kind w.kind k) refl
   where
     by_test : (t : Bool) → is_kind w.kind k ≡ t
         → Keeps (if t then Ok (w, record { words = ws; end = end }) else Err (Grammar w.place)) (Went n' (λ i at. word_from k at.words at.end) (piece_list k) Always Same (record { words = w ∷ ws; end = end })) (Stood n' (λ (i : ℕ) (at : At). word_from k at.words at.end) (piece_list k) Always (record { words = w ∷ ws; end = end }))
-    by_test true e = record { is = record {
-      text = w.text; fine = tt; front = w ∷ []; split = refl; ends = refl;
-      spelled = ap (λ (j : TokenKind). piece_of_kind j w.text ∷ []) (one_kind w.kind k e);
-      same = λ i at' other room h s. subst (λ (vs : List Word). Gets (word_from k vs at'.end) (λ z. (w ≡ z.0) × (z.1.words ≡ other))) (sym s)
-        (gets_true (is_kind w.kind k) _ _ _ e (gets_end _ _ (refl, refl)));
-    } }
-    by_test false e = record { is = record {
-      text = []; fine = tt; front = []; rest = w ∷ ws; more = word_of k ∷ []; split = refl; place = refl; spelled = refl;
-      same = λ g i at' other room h s. subst (λ (vs : List Word). Refused (word_from k vs at'.end)) (sym s) (wrong_word k w ws other at'.end e h);
-    } }
+    by_test true e = record {
+      is = record {
+        text = w.text;
+        fine = tt;
+        front = w ∷ [];
+        split = refl;
+        ends = refl;
+        spelled = ap (λ (j : TokenKind). piece_of_kind j w.text ∷ []) (one_kind w.kind k e);
+        same = λ i at' other room h s. subst (λ (vs : List Word). Gets (word_from k vs at'.end) (λ z. (w ≡ z.0) × (z.1.words ≡ other))) (sym s)
+            (gets_true (is_kind w.kind k) _ _ _ e (gets_end _ _ (refl, refl)));
+      };
+    }
+    by_test false e = record {
+      is = record {
+        text = [];
+        fine = tt;
+        front = [];
+        rest = w ∷ ws;
+        more = word_of k ∷ [];
+        split = refl;
+        place = refl;
+        spelled = refl;
+        same = λ g i at' other room h s. subst (λ (vs : List Word). Refused (word_from k vs at'.end)) (sym s) (wrong_word k w ws other at'.end e h);
+      };
+    }
 
 pub word_guards : (n : ℕ) (n' most : ℕ → ℕ) (k : TokenKind) → Guards n n' most (word_at k) (λ i. word_at k) (piece_list k) Always Same Always
 unfolding word_at

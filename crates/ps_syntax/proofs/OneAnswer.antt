@@ -49,9 +49,9 @@ compare [] (w ∷ t) r s e = inr (inl (record { word = w; tail = t; is = refl; l
 compare (w ∷ t) [] r s e = inr (inr (record { word = w; tail = t; is = refl; left = sym e }))
 compare (x ∷ a) (y ∷ b) r s e =
     elim (compare a b r s (tail_is x y (a ++ r) (b ++ s) e)) [
-      inl h ↦ inl (record { left = h.left })
+      | inl h ↦ inl (record { left = h.left })
       | inr h ↦ elim h [
-        inl k ↦ inr (inl (longer_after x y a b r s (head_is x y (a ++ r) (b ++ s) e) k))
+        | inl k ↦ inr (inl (longer_after x y a b r s (head_is x y (a ++ r) (b ++ s) e) k))
         | inr k ↦ inr (inr (longer_after y x b a s r (sym (head_is x y (a ++ r) (b ++ s) e)) k))
       ]
     ]
@@ -68,9 +68,9 @@ not_longer words end p q f g h =
 pub one_fault : (words : List Word) (end p q : Place) → IsFirstFault words end p → IsFirstFault words end q → p ≡ q
 one_fault words end p q f g =
     elim (compare f.before g.before f.rest g.rest (sym f.split ∙ g.split)) [
-      inl h ↦ f.place_is ∙ ap (λ (ws : List Word). place_of_next ws end) h.left ∙ sym g.place_is
+      | inl h ↦ f.place_is ∙ ap (λ (ws : List Word). place_of_next ws end) h.left ∙ sym g.place_is
       | inr h ↦ elim h [
-        inl k ↦ absurd (not_longer words end p q f g k)
+        | inl k ↦ absurd (not_longer words end p q f g k)
         | inr k ↦ absurd (not_longer words end q p g f k)
       ]
     ]
@@ -79,10 +79,10 @@ one_fault words end p q f g =
 pub not_after : (words : List Word) (end p : Place) (f : IsFirstFault words end p) (before rest others : List Word) → words ≡ before ++ rest → IsText (before ++ others) → (tail : List Word) × (f.before ≡ before ++ tail)
 not_after words end p f before rest others split text =
     elim (compare f.before before f.rest rest (sym f.split ∙ split)) [
-      inl h ↦ ([], same_front f.before before f.rest rest (sym f.split ∙ split) h.left ∙ sym (append-nil before))
+      | inl h ↦ ([], same_front f.before before f.rest rest (sym f.split ∙ split) h.left ∙ sym (append-nil before))
       | inr h ↦ elim h [
-        inl k ↦ absurd (f.stops (k.word ∷ (k.tail ++ others)) (subst (λ (ws : List Word). BeginAlike ws (k.word ∷ (k.tail ++ others))) (sym k.left) refl)
-          (subst IsText (ap (λ (ws : List Word). ws ++ others) k.is ∙ append_assoc f.before (k.word ∷ k.tail) others) text))
+        | inl k ↦ absurd (f.stops (k.word ∷ (k.tail ++ others)) (subst (λ (ws : List Word). BeginAlike ws (k.word ∷ (k.tail ++ others))) (sym k.left) refl)
+            (subst IsText (ap (λ (ws : List Word). ws ++ others) k.is ∙ append_assoc f.before (k.word ∷ k.tail) others) text))
         | inr k ↦ (k.word ∷ k.tail, k.is)
       ]
     ]

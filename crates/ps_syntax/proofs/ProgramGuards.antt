@@ -41,9 +41,9 @@ free_program n at = free_items n n at >>= λ d. free_block n d.1 >>= λ b. end_a
 item_test : IsTest has_item
 item_test = record {
   same = λ at at' h.
-    ap (λ (t : Bool). t || next_is kind.Local at || next_is kind.Init at) ((next_test kind.Global).same at at' h)
-    ∙ ap (λ (t : Bool). next_is kind.Global at' || t || next_is kind.Init at) ((next_test kind.Local).same at at' h)
-    ∙ ap (λ (t : Bool). next_is kind.Global at' || next_is kind.Local at' || t) ((next_test kind.Init).same at at' h);
+      ap (λ (t : Bool). t || next_is kind.Local at || next_is kind.Init at) ((next_test kind.Global).same at at' h)
+      ∙ ap (λ (t : Bool). next_is kind.Global at' || t || next_is kind.Init at) ((next_test kind.Local).same at at' h)
+      ∙ ap (λ (t : Bool). next_is kind.Global at' || next_is kind.Local at' || t) ((next_test kind.Init).same at at' h);
 }
 
 no_item : (ws : List Word) (end : Place) → length ws < 1 → has_item (record { words = ws; end = end }) ≡ false
@@ -79,20 +79,31 @@ ItemsStood m' l' = Stood l' (λ i. free_items i (m' i)) items_pieces (AllByRecur
 
 items_none : (m' l' : ℕ → ℕ) (d : Declared) (at : At) → has_item at ≡ false → ItemsWent m' l' at (d, at)
 items_none m' l' d at e = record {
-  text = []; fine = tt; front = []; split = refl; ends = refl; spelled = refl;
+  text = [];
+  fine = tt;
+  front = [];
+  split = refl;
+  ends = refl;
+  spelled = refl;
   same = λ i at' other room' s h.
-    let off : has_item at' ≡ false = sym (item_test.same at at' (subst (λ (ws : List Word). BeginAlike at.words ws) (sym h) s)) ∙ e in
-    record { value = (nothing_declared, at'); ok = free_stops i (m' i) at' off; is = (tt, h) };
+      let off : has_item at' ≡ false = sym (item_test.same at at' (subst (λ (ws : List Word). BeginAlike at.words ws) (sym h) s)) ∙ e in
+      record { value = (nothing_declared, at'); ok = free_stops i (m' i) at' off; is = (tt, h) };
 }
 
 items_fail : (m' l' : ℕ → ℕ) → ((i : ℕ) → l' i ≤ suc (m' i)) → ((i : ℕ) → l' i ≤ suc i) → (at : At) → has_item at ≡ true → (p : ReadRefusal) → Stood (λ i. suc i) free_item item_pieces HasInitSigns at p → ItemsStood m' l' at p
 items_fail m' l' a b at e p q = record {
-  text = q.text ∷ []; fine = (q.fine, tt); front = q.front; rest = q.rest; more = q.more; split = q.split; place = q.place;
+  text = q.text ∷ [];
+  fine = (q.fine, tt);
+  front = q.front;
+  rest = q.rest;
+  more = q.more;
+  split = q.split;
+  place = q.place;
   spelled = q.spelled ∙ sym (append-nil (item_pieces q.text));
   same = λ g i at' other room' s h.
-    let on : has_item at' ≡ true = sym (item_test.same at at' (alike_two at.words at'.words q.front q.rest other q.split h s)) ∙ e in
-    let some : 1 ≤ length at'.words = an_item at'.words at'.end on in
-    subst Refused (sym (free_goes i (m' i) at' on (omega (arith, room', a i, some)))) (refused_bind _ _ (q.same g i at' other (omega (arith, room', b i)) s h));
+      let on : has_item at' ≡ true = sym (item_test.same at at' (alike_two at.words at'.words q.front q.rest other q.split h s)) ∙ e in
+      let some : 1 ≤ length at'.words = an_item at'.words at'.end on in
+      subst Refused (sym (free_goes i (m' i) at' on (omega (arith, room', a i, some)))) (refused_bind _ _ (q.same g i at' other (omega (arith, room', b i)) s h));
 }
 
 items_turn : (m' l' : ℕ → ℕ) → ((i : ℕ) → l' i ≤ suc (m' i)) → ((i : ℕ) → l' i ≤ suc i) → (at : At) → has_item at ≡ true
@@ -100,34 +111,40 @@ items_turn : (m' l' : ℕ → ℕ) → ((i : ℕ) → l' i ≤ suc (m' i)) → (
     → Keeps r (ItemsWent (λ i. m' i - 1) (λ i. l' i - 1) x.1) (ItemsStood (λ i. m' i - 1) (λ i. l' i - 1) x.1) → Keeps r (ItemsWent m' l' at) (ItemsStood m' l' at)
 items_turn m' l' a b at e x p r h =
     keeps_more _ _ _ _ _ h
-      (λ y q. record {
-        text = p.text ∷ q.text; fine = (p.fine, q.fine); front = p.front ++ q.front;
-        split = p.split ∙ ap (λ (ws : List Word). p.front ++ ws) q.split ∙ sym (append_assoc p.front q.front y.1.words);
-        ends = q.ends ∙ p.ends;
-        spelled = pieces_are p.front q.front (item_pieces p.text) (items_pieces q.text) p.spelled q.spelled;
-        same = λ i at' other room' s k.
+    (λ y q. record {
+      text = p.text ∷ q.text;
+      fine = (p.fine, q.fine);
+      front = p.front ++ q.front;
+      split = p.split ∙ ap (λ (ws : List Word). p.front ++ ws) q.split ∙ sym (append_assoc p.front q.front y.1.words);
+      ends = q.ends ∙ p.ends;
+      spelled = pieces_are p.front q.front (item_pieces p.text) (items_pieces q.text) p.spelled q.spelled;
+      same = λ i at' other room' s k.
           let joined : at'.words ≡ p.front ++ (q.front ++ other) = k ∙ append_assoc p.front q.front other in
           let next : BeginAlike x.1.words (q.front ++ other) = subst (λ (ws : List Word). BeginAlike ws (q.front ++ other)) (sym q.split) (alike_after q.front y.1.words other s) in
           let on : has_item at' ≡ true = sym (item_test.same at at' (alike_two at.words at'.words p.front x.1.words (q.front ++ other) p.split joined next)) ∙ e in
           let some : 1 ≤ length at'.words = an_item at'.words at'.end on in
           subst (λ u. Gets u (λ z. Unit {0} × (z.1.words ≡ other))) (sym (free_goes i (m' i) at' on (omega (arith, room', a i, some))))
-            (gets_bind _ _ _ _ (p.same i at' (q.front ++ other) (omega (arith, room', b i)) next joined) (λ x' c.
-            q.same i x'.1 other (room_left (l' i) (l' i - 1) at'.words p.front x'.1.words (item_pieces p.text) room' (joined ∙ ap (λ (ws : List Word). p.front ++ ws) (sym c.1)) p.spelled (omega (arith, item_some p.text, room'))) s c.1));
-      })
-      (λ f q. record {
-        text = p.text ∷ q.text; fine = (p.fine, q.fine); front = p.front ++ q.front; rest = q.rest; more = q.more;
-        split = p.split ∙ ap (λ (ws : List Word). p.front ++ ws) q.split ∙ sym (append_assoc p.front q.front q.rest);
-        place = q.place ∙ ap (λ (o : Place). Some (place_of_next q.rest o)) p.ends;
-        spelled = ap pieces (append_assoc p.front q.front q.more) ∙ pieces_are p.front (q.front ++ q.more) (item_pieces p.text) (items_pieces q.text) p.spelled q.spelled;
-        same = λ g i at' other room' s k.
+          (gets_bind _ _ _ _ (p.same i at' (q.front ++ other) (omega (arith, room', b i)) next joined) (λ x' c.
+          q.same i x'.1 other (room_left (l' i) (l' i - 1) at'.words p.front x'.1.words (item_pieces p.text) room' (joined ∙ ap (λ (ws : List Word). p.front ++ ws) (sym c.1)) p.spelled (omega (arith, item_some p.text, room'))) s c.1));
+    })
+    (λ f q. record {
+      text = p.text ∷ q.text;
+      fine = (p.fine, q.fine);
+      front = p.front ++ q.front;
+      rest = q.rest;
+      more = q.more;
+      split = p.split ∙ ap (λ (ws : List Word). p.front ++ ws) q.split ∙ sym (append_assoc p.front q.front q.rest);
+      place = q.place ∙ ap (λ (o : Place). Some (place_of_next q.rest o)) p.ends;
+      spelled = ap pieces (append_assoc p.front q.front q.more) ∙ pieces_are p.front (q.front ++ q.more) (item_pieces p.text) (items_pieces q.text) p.spelled q.spelled;
+      same = λ g i at' other room' s k.
           let joined : at'.words ≡ p.front ++ (q.front ++ other) = k ∙ append_assoc p.front q.front other in
           let next : BeginAlike x.1.words (q.front ++ other) = subst (λ (ws : List Word). BeginAlike ws (q.front ++ other)) (sym q.split) (alike_after q.front q.rest other s) in
           let on : has_item at' ≡ true = sym (item_test.same at at' (alike_two at.words at'.words p.front x.1.words (q.front ++ other) p.split joined next)) ∙ e in
           let some : 1 ≤ length at'.words = an_item at'.words at'.end on in
           subst Refused (sym (free_goes i (m' i) at' on (omega (arith, room', a i, some))))
-            (refused_after _ _ _ (p.same i at' (q.front ++ other) (omega (arith, room', b i)) next joined) (λ x' c.
-            q.same g i x'.1 other (room_left (l' i) (l' i - 1) at'.words p.front x'.1.words (item_pieces p.text) room' (joined ∙ ap (λ (ws : List Word). p.front ++ ws) (sym c.1)) p.spelled (omega (arith, item_some p.text, room'))) s c.1));
-      })
+          (refused_after _ _ _ (p.same i at' (q.front ++ other) (omega (arith, room', b i)) next joined) (λ x' c.
+          q.same g i x'.1 other (room_left (l' i) (l' i - 1) at'.words p.front x'.1.words (item_pieces p.text) room' (joined ∙ ap (λ (ws : List Word). p.front ++ ws) (sym c.1)) p.spelled (omega (arith, item_some p.text, room'))) s c.1));
+    })
 
 items_stuck : (n m l : ℕ) (m' l' : ℕ → ℕ) (d : Declared) → l ≤ suc m → l ≤ suc n → ((i : ℕ) → l' i ≤ suc (m' i)) → ((i : ℕ) → l' i ≤ suc i) → (at : At) → length at.words < l
     → Keeps (items_at n d m at) (ItemsWent m' l' at) (ItemsStood m' l' at)
@@ -147,8 +164,8 @@ items_stuck n (suc m) l m' l' d a b a' b' at room =
         → Keeps (if t then (item_at d n at >>= λ x. items_at n x.0 m x.1) else Ok (d, at)) (ItemsWent m' l' at) (ItemsStood m' l' at)
     by_test true e more =
         keeps_bind _ _ _ _ _ _ ((item_guards n d).stuck at (omega (arith, room, b)))
-          (λ x p. items_turn m' l' a' b' at e x p _ (more x.0 x.1 (room_left l (l - 1) at.words p.front x.1.words (item_pieces p.text) room p.split p.spelled (omega (arith, item_some p.text, room)))))
-          (λ p q. items_fail m' l' a' b' at e p q)
+        (λ x p. items_turn m' l' a' b' at e x p _ (more x.0 x.1 (room_left l (l - 1) at.words p.front x.1.words (item_pieces p.text) room p.split p.spelled (omega (arith, item_some p.text, room)))))
+        (λ p q. items_fail m' l' a' b' at e p q)
     by_test false e more = keeps_end _ _ _ (items_none m' l' d at e)
 
 items_never : (i : ℕ) (is : List ItemText) (m : ℕ) (at : At) (rest : List Piece) → length is ≤ m → AllByRecursion HasInitSigns is → Ahead i at (items_pieces is ++ rest) → begins_item rest ≡ false → Lets (free_items i m at) (λ y. Ahead i y.1 rest)
@@ -203,36 +220,46 @@ program_stuck : (n : ℕ) (at : At) → length at.words < suc n → Keeps (progr
 unfolding program_at free_program
 program_stuck n at room =
     keeps_bind _ _ _ _ _ _ (items_stuck n n (suc n) (λ i. i) (λ i. suc i) nothing_declared (omega arith) (omega arith) (λ i. omega arith) (λ i. omega arith) at room)
-      (λ d p. keeps_bind _ _ _ _ _ _ ((thread_guards n (names_of d.0)).stuck d.1 (room_left (suc n) (suc n) at.words p.front d.1.words (items_pieces p.text) room p.split p.spelled (omega arith)))
-        (λ b q. keeps_bind _ _ _ _ _ _ (by_end at d p b q b.1.words refl) (λ e none. record { is = tt }) (λ f g. g))
-        (λ f q. record {
-          front = p.front ++ q.front; rest = q.rest; more = q.more;
-          split = p.split ∙ ap (λ (ws : List Word). p.front ++ ws) q.split ∙ sym (append_assoc p.front q.front q.rest);
-          place = q.place ∙ ap (λ (o : Place). Some (place_of_next q.rest o)) p.ends;
-          goes = is_text p.text q.text _ p.fine (ap pieces (append_assoc p.front q.front q.more) ∙ pieces_are p.front (q.front ++ q.more) (items_pieces p.text) (Mark kind.Thread ∷ block_pieces q.text) p.spelled q.spelled);
-          same = λ g i at' other room' s h.
-            refused_after _ _ _ (p.same i at' (q.front ++ other) room' (subst (λ (ws : List Word). BeginAlike ws (q.front ++ other)) (sym q.split) (alike_after q.front q.rest other s)) (h ∙ append_assoc p.front q.front other)) (λ x' a.
-            refused_bind _ _ (q.same g i x'.1 other (room_left (suc i) (suc i) at'.words p.front x'.1.words (items_pieces p.text) room' (h ∙ append_assoc p.front q.front other ∙ ap (λ (ws : List Word). p.front ++ ws) (sym a.1)) p.spelled (omega arith)) s a.1));
-        }))
-      (λ f q. record {
-        front = q.front; rest = q.rest; more = q.more ++ thread_example.words; split = q.split; place = q.place;
-        goes = is_text q.text thread_example.text _ q.fine (ap pieces (sym (append_assoc q.front q.more thread_example.words)) ∙ pieces_are (q.front ++ q.more) thread_example.words (items_pieces q.text) (Mark kind.Thread ∷ block_pieces thread_example.text) q.spelled thread_example.spelled);
-        same = λ g i at' other room' s h. refused_bind _ _ (q.same g i at' other room' s h);
-      })
+    (λ d p. keeps_bind _ _ _ _ _ _ ((thread_guards n (names_of d.0)).stuck d.1 (room_left (suc n) (suc n) at.words p.front d.1.words (items_pieces p.text) room p.split p.spelled (omega arith)))
+    (λ b q. keeps_bind _ _ _ _ _ _ (by_end at d p b q b.1.words refl) (λ e none. record { is = tt }) (λ f g. g))
+    (λ f q. record {
+      front = p.front ++ q.front;
+      rest = q.rest;
+      more = q.more;
+      split = p.split ∙ ap (λ (ws : List Word). p.front ++ ws) q.split ∙ sym (append_assoc p.front q.front q.rest);
+      place = q.place ∙ ap (λ (o : Place). Some (place_of_next q.rest o)) p.ends;
+      goes = is_text p.text q.text _ p.fine (ap pieces (append_assoc p.front q.front q.more) ∙ pieces_are p.front (q.front ++ q.more) (items_pieces p.text) (Mark kind.Thread ∷ block_pieces q.text) p.spelled q.spelled);
+      same = λ g i at' other room' s h.
+          refused_after _ _ _ (p.same i at' (q.front ++ other) room' (subst (λ (ws : List Word). BeginAlike ws (q.front ++ other)) (sym q.split) (alike_after q.front q.rest other s)) (h ∙ append_assoc p.front q.front other)) (λ x' a.
+          refused_bind _ _ (q.same g i x'.1 other (room_left (suc i) (suc i) at'.words p.front x'.1.words (items_pieces p.text) room' (h ∙ append_assoc p.front q.front other ∙ ap (λ (ws : List Word). p.front ++ ws) (sym a.1)) p.spelled (omega arith)) s a.1));
+    }))
+    (λ f q. record {
+      front = q.front;
+      rest = q.rest;
+      more = q.more ++ thread_example.words;
+      split = q.split;
+      place = q.place;
+      goes = is_text q.text thread_example.text _ q.fine (ap pieces (sym (append_assoc q.front q.more thread_example.words)) ∙ pieces_are (q.front ++ q.more) thread_example.words (items_pieces q.text) (Mark kind.Thread ∷ block_pieces thread_example.text) q.spelled thread_example.spelled);
+      same = λ g i at' other room' s h. refused_bind _ _ (q.same g i at' other room' s h);
+    })
   where
     by_end : (at : At) (d : Declared × At) (p : ItemsWent (λ i. i) (λ i. suc i) at d) (b : List Stmt × At) (q : Went (λ i. suc i) free_block (λ c. Mark kind.Thread ∷ block_pieces c) Always Any d.1 b)
         → (ws : List Word) → b.1.words ≡ ws → Keeps (end_from ws) (λ u. Unit {0}) (Fault at)
     by_end at d p b q [] e = record { is = tt }
-    by_end at d p b q (w ∷ ws) e = record { is = record {
-      front = p.front ++ q.front; rest = w ∷ ws; more = [];
-      split = p.split ∙ ap (λ (vs : List Word). p.front ++ vs) (q.split ∙ ap (λ (vs : List Word). q.front ++ vs) e) ∙ sym (append_assoc p.front q.front (w ∷ ws));
-      place = refl;
-      goes = is_text p.text q.text _ p.fine (ap pieces (append-nil (p.front ++ q.front)) ∙ pieces_are p.front q.front (items_pieces p.text) (Mark kind.Thread ∷ block_pieces q.text) p.spelled q.spelled);
-      same = λ g i at' other room' s h.
-        refused_after _ _ _ (p.same i at' (q.front ++ other) room' (subst (λ (vs : List Word). BeginAlike vs (q.front ++ other)) (sym (q.split ∙ ap (λ (vs : List Word). q.front ++ vs) e)) (alike_after q.front (w ∷ ws) other s)) (h ∙ append_assoc p.front q.front other)) (λ x' a.
-        refused_after _ _ _ (q.same i x'.1 other (room_left (suc i) (suc i) at'.words p.front x'.1.words (items_pieces p.text) room' (h ∙ append_assoc p.front q.front other ∙ ap (λ (vs : List Word). p.front ++ vs) (sym a.1)) p.spelled (omega arith)) (subst (λ (vs : List Word). BeginAlike vs other) (sym e) s) a.1) (λ y' c.
-        subst (λ (vs : List Word). Refused (end_from vs)) (sym c.1) (end_refused other (alike_some w ws other s))));
-    } }
+    by_end at d p b q (w ∷ ws) e = record {
+      is = record {
+        front = p.front ++ q.front;
+        rest = w ∷ ws;
+        more = [];
+        split = p.split ∙ ap (λ (vs : List Word). p.front ++ vs) (q.split ∙ ap (λ (vs : List Word). q.front ++ vs) e) ∙ sym (append_assoc p.front q.front (w ∷ ws));
+        place = refl;
+        goes = is_text p.text q.text _ p.fine (ap pieces (append-nil (p.front ++ q.front)) ∙ pieces_are p.front q.front (items_pieces p.text) (Mark kind.Thread ∷ block_pieces q.text) p.spelled q.spelled);
+        same = λ g i at' other room' s h.
+            refused_after _ _ _ (p.same i at' (q.front ++ other) room' (subst (λ (vs : List Word). BeginAlike vs (q.front ++ other)) (sym (q.split ∙ ap (λ (vs : List Word). q.front ++ vs) e)) (alike_after q.front (w ∷ ws) other s)) (h ∙ append_assoc p.front q.front other)) (λ x' a.
+            refused_after _ _ _ (q.same i x'.1 other (room_left (suc i) (suc i) at'.words p.front x'.1.words (items_pieces p.text) room' (h ∙ append_assoc p.front q.front other ∙ ap (λ (vs : List Word). p.front ++ vs) (sym a.1)) p.spelled (omega arith)) (subst (λ (vs : List Word). BeginAlike vs other) (sym e) s) a.1) (λ y' c.
+            subst (λ (vs : List Word). Refused (end_from vs)) (sym c.1) (end_refused other (alike_some w ws other s))));
+      };
+    }
 
 clash : {A : Type 0} (r : Result A ReadRefusal) (Q : A → Type 0) → Refused r → Lets r Q → ⊥
 clash (Ok x) Q h k = h.is
@@ -244,13 +271,18 @@ some_place p q e = cc
 
 first_fault : (words : List Word) (end place : Place) → Fault (record { words = words; end = end }) (Grammar place) → IsFirstFault words end place
 first_fault words end place f = record {
-  before = f.front; rest = f.rest; split = f.split; place_is = some_place place _ f.place; others = f.more; goes_on = f.goes;
+  before = f.front;
+  rest = f.rest;
+  split = f.split;
+  place_is = some_place place _ f.place;
+  others = f.more;
+  goes_on = f.goes;
   stops = λ others alike t.
-    let i : ℕ = length (f.front ++ others) in
-    let at' : At = record { words = f.front ++ others; end = end } in
-    let l : length (program_pieces t.text) ≡ length (f.front ++ others) = sym (ap (λ (ps : List Piece). length ps) t.spelled) ∙ length-map (f.front ++ others) (λ (w : Word). piece_of_kind w.kind w.text) in
-    clash (free_program i at') (λ u. Unit {0}) (f.same tt i at' others (omega arith) alike refl)
-    (free_never i at' t.text (recursion_from_All HasInitSigns t.text.items t.signs) (record { is = t.spelled; room = omega (arith, l) }));
+      let i : ℕ = length (f.front ++ others) in
+      let at' : At = record { words = f.front ++ others; end = end } in
+      let l : length (program_pieces t.text) ≡ length (f.front ++ others) = sym (ap (λ (ps : List Piece). length ps) t.spelled) ∙ length-map (f.front ++ others) (λ (w : Word). piece_of_kind w.kind w.text) in
+      clash (free_program i at') (λ u. Unit {0}) (f.same tt i at' others (omega arith) alike refl)
+      (free_never i at' t.text (recursion_from_All HasInitSigns t.text.items t.signs) (record { is = t.spelled; room = omega (arith, l) }));
 }
 
 refused_is : (r : Result Program ReadRefusal) (Q : Program → Type 0) (R : ReadRefusal → Type 0) (e : ReadRefusal) → Keeps r Q R → r ≡ Err e → R e

@@ -72,9 +72,9 @@ rows_again n r (s ∷ rs) (suc m) at rest le signs h =
     let same : rows_of_sign y.0.sign ≡ rows_of_sign r.sign = ap rows_of_sign p.0.0 in
     let tail : Ahead n y.1 (Mark kind.And ∷ (relation_pieces s ++ (more_relations rs ++ (Mark kind.Semicolon ∷ rest)))) = ahead_so (ap (λ (ps : List Piece). Mark kind.And ∷ ps) (append_assoc (relation_pieces s) (more_relations rs) (Mark kind.Semicolon ∷ rest))) p.1 in
     let more : counted (λ (w : Word). 0) (rows_from n m) (word_at kind.And y.1) ≡ rows_of_relations (s ∷ rs) =
-      counts _ _ _ _ _ (mark_again n kind.And (λ t. refl) y.1 (relation_pieces s ++ (more_relations rs ++ (Mark kind.Semicolon ∷ rest))) tail) (λ w q.
-      let deeper : rows_from n m w.1 ≡ rows_of_relations (s ∷ rs) = rows_again n s rs m w.1 rest (omega (arith, le)) signs.1 q in
-      omega (arith, deeper)) in
+    counts _ _ _ _ _ (mark_again n kind.And (λ t. refl) y.1 (relation_pieces s ++ (more_relations rs ++ (Mark kind.Semicolon ∷ rest))) tail) (λ w q.
+    let deeper : rows_from n m w.1 ≡ rows_of_relations (s ∷ rs) = rows_again n s rs m w.1 rest (omega (arith, le)) signs.1 q in
+    omega (arith, deeper)) in
     omega (arith, more, same))
 
 few_relations : (rs : List RelationText) → length rs ≤ length (more_relations rs)
@@ -106,8 +106,8 @@ unfolding item_rows after_word
 item_rows_again n at (global x v) rest signs h =
     cond-true _ _ _ (next_ahead kind.Global h) ∙
     counts _ _ _ _ _ (gets_bind _ _ _ _ (mark_again n kind.Global (λ t. refl) at (NamePiece x ∷ ((value_pieces v ++ Mark kind.Semicolon ∷ []) ++ rest)) h) (λ w p.
-      gets_bind _ _ _ _ ((word_exact n kind.Name).again w.1 x ((value_pieces v ++ Mark kind.Semicolon ∷ []) ++ rest) tt p tt) (λ u q.
-      (value_exact n).again u.1 v (Mark kind.Semicolon ∷ rest) tt (ahead_so (append_assoc (value_pieces v) (Mark kind.Semicolon ∷ []) rest) q.1) refl))) (λ y p.
+    gets_bind _ _ _ _ ((word_exact n kind.Name).again w.1 x ((value_pieces v ++ Mark kind.Semicolon ∷ []) ++ rest) tt p tt) (λ u q.
+    (value_exact n).again u.1 v (Mark kind.Semicolon ∷ rest) tt (ahead_so (append_assoc (value_pieces v) (Mark kind.Semicolon ∷ []) rest) q.1) refl))) (λ y p.
     let same : rows_of_value y.0 ≡ rows_of_value (value_of v) = ap rows_of_value p.0 in
     omega (arith, same))
 item_rows_again n at (local x) rest signs h = cond-false _ _ _ (next_ahead kind.Global h) ∙ cond-false _ _ _ (next_ahead kind.Init h)
@@ -166,7 +166,8 @@ item_found n d at room = by_test (nat_lt most_rows (d.rows + item_rows n at)) re
         let rows : item_rows n at ≡ rows_of_item p.text = item_rows_again n at p.text (pieces y.1.words) (signs_of (with_rows (d.rows + item_rows n at) d) p.text p.fit) (ahead_so (takes_pieces p.taken) (room_of n at room)) in
         let le : d.rows + item_rows n at ≤ most_rows = ltb-false most_rows (d.rows + item_rows n at) e in
         record {
-          text = p.text; taken = p.taken;
+          text = p.text;
+          taken = p.taken;
           fit = all_fits d (d.rows + item_rows n at) p.text p.fit (subst (λ (k : ℕ). d.rows + k ≤ most_rows) rows le);
           is = item_said d p.text (item_rows n at) y.0 rows p.is;
         })
@@ -199,7 +200,8 @@ items_found n (suc m) d at room =
     found_if (has_item at) _ _ _
     (found_bind _ _ _ _ (item_found n d at room) (λ x p.
     found_more _ _ _ (items_found n m x.0 x.1 (room_after p.taken room)) (λ y q. record {
-      text = p.text ∷ q.text; taken = takes_then p.taken q.taken;
+      text = p.text ∷ q.text;
+      taken = takes_then p.taken q.taken;
       fit = (p.fit, subst (λ (e : Declared). ItemsFit e q.text) p.is q.fit);
       is = q.is ∙ ap (λ (e : Declared). with_items e q.text) p.is;
     })))
@@ -272,7 +274,7 @@ program_said : (is : List ItemText) (b : BlockText) (ps qs : List Place) (d : De
 program_said is b ps qs d body e f g =
     let far : length (items_pieces is) + 1 + 1 ≡ length (items_pieces is) + 2 = omega arith in
     let place : drop 1 (drop 1 qs) ≡ drop (length (items_pieces is) + 2) ps =
-      ap (λ (rs : List Place). drop 1 (drop 1 rs)) f ∙ ap (λ (rs : List Place). drop 1 rs) (drop-drop 1 (length (items_pieces is)) ps) ∙ drop-drop 1 (length (items_pieces is) + 1) ps ∙ ap (λ (k : ℕ). drop k ps) far in
+    ap (λ (rs : List Place). drop 1 (drop 1 rs)) f ∙ ap (λ (rs : List Place). drop 1 rs) (drop-drop 1 (length (items_pieces is)) ps) ∙ drop-drop 1 (length (items_pieces is) + 1) ps ∙ ap (λ (k : ℕ). drop k ps) far in
     ap (made d) (g ∙ ap (block_trees (names_of d) b) place) ∙ ap (λ (c : Declared). made c (block_trees (names_of c) b (drop (length (items_pieces is) + 2) ps))) e
 
 thread_exact : (n : ℕ) (names : Names) → Exact n (after_word kind.Thread (block_at (Some names) n most_levels false)) (λ b. Mark kind.Thread ∷ block_pieces b) (λ b. (1 ≤ most_levels) × RestFits names (most_levels - 1) false b) (λ b ps y. y ≡ block_trees names b (drop 1 (drop 1 ps))) Always

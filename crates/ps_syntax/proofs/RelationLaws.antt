@@ -155,20 +155,20 @@ pub relation_exact : (n : ℕ) (of : TokenKind → Option Sign) → AreSigns of 
 unfolding relation_at
 relation_exact n of are scope = record {
   found = λ at.
-    found_bind _ _ _ _ ((sum_exact n scope).found at) (λ left p.
-    found_bind _ _ _ _ ((sign_exact n of are).found left.1) (λ s q.
-    found_bind _ _ _ _ ((sum_exact n scope).found s.1) (λ right r.
-    found_end _ _ (record {
-      text = record { left = p.text; sign = q.text; right = r.text };
-      taken = takes_then p.taken (takes_then q.taken r.taken);
-      fit = (fits_both scope (λ names. SumFits names p.text) (λ names. SumFits names r.text) p.fit r.fit, q.fit);
-      is = relation_said scope (record { left = p.text; sign = q.text; right = r.text }) (places at.words) (places s.1.words) left.0 right.0 s.0 p.is q.is r.is;
-    }))));
+      found_bind _ _ _ _ ((sum_exact n scope).found at) (λ left p.
+      found_bind _ _ _ _ ((sign_exact n of are).found left.1) (λ s q.
+      found_bind _ _ _ _ ((sum_exact n scope).found s.1) (λ right r.
+      found_end _ _ (record {
+        text = record { left = p.text; sign = q.text; right = r.text };
+        taken = takes_then p.taken (takes_then q.taken r.taken);
+        fit = (fits_both scope (λ names. SumFits names p.text) (λ names. SumFits names r.text) p.fit r.fit, q.fit);
+        is = relation_said scope (record { left = p.text; sign = q.text; right = r.text }) (places at.words) (places s.1.words) left.0 right.0 s.0 p.is q.is r.is;
+      }))));
   again = λ at r rest fit h stop.
-    gets_bind _ _ _ _ ((sum_exact n scope).again at r.left (Mark (sign_kind r.sign) ∷ (sum_pieces r.right ++ rest)) (fits_first scope (λ names. SumFits names r.left) (λ names. SumFits names r.right) fit.0) (ahead_so (append_assoc (sum_pieces r.left) (Mark (sign_kind r.sign) ∷ sum_pieces r.right) rest) h) (sign_ends r.sign (sum_pieces r.right ++ rest))) (λ left p.
-    gets_bind _ _ _ _ ((sign_exact n of are).again left.1 r.sign (sum_pieces r.right ++ rest) fit.1 p.1 tt) (λ s q.
-    gets_bind _ _ _ _ ((sum_exact n scope).again s.1 r.right rest (fits_second scope (λ names. SumFits names r.left) (λ names. SumFits names r.right) fit.0) q.1 stop) (λ right v.
-    gets_end _ _ (relation_said scope r (places at.words) (places s.1.words) left.0 right.0 s.0 p.0 q.0 v.0, v.1))));
+      gets_bind _ _ _ _ ((sum_exact n scope).again at r.left (Mark (sign_kind r.sign) ∷ (sum_pieces r.right ++ rest)) (fits_first scope (λ names. SumFits names r.left) (λ names. SumFits names r.right) fit.0) (ahead_so (append_assoc (sum_pieces r.left) (Mark (sign_kind r.sign) ∷ sum_pieces r.right) rest) h) (sign_ends r.sign (sum_pieces r.right ++ rest))) (λ left p.
+      gets_bind _ _ _ _ ((sign_exact n of are).again left.1 r.sign (sum_pieces r.right ++ rest) fit.1 p.1 tt) (λ s q.
+      gets_bind _ _ _ _ ((sum_exact n scope).again s.1 r.right rest (fits_second scope (λ names. SumFits names r.left) (λ names. SumFits names r.right) fit.0) q.1 stop) (λ right v.
+      gets_end _ _ (relation_said scope r (places at.words) (places s.1.words) left.0 right.0 s.0 p.0 q.0 v.0, v.1))));
 }
 
 -- a relation begins with `-`, a number or a name

@@ -100,11 +100,11 @@ pub variable_exact : (n : ℕ) (scope : Option Names) → Exact n (variable_at s
 unfolding variable_at
 variable_exact n scope = record {
   found = λ at.
-    found_bind _ _ _ _ ((word_exact n kind.Name).found at) (λ w p.
-    found_bind _ _ _ _ (named_found scope w.0.text (UnknownName w.0.place)) (λ x q.
-    found_end _ _ (record { text = w.0.text; taken = takes_so (ap name_piece (sym p.is)) p.taken; fit = q.0; is = q.1 })));
+      found_bind _ _ _ _ ((word_exact n kind.Name).found at) (λ w p.
+      found_bind _ _ _ _ (named_found scope w.0.text (UnknownName w.0.place)) (λ x q.
+      found_end _ _ (record { text = w.0.text; taken = takes_so (ap name_piece (sym p.is)) p.taken; fit = q.0; is = q.1 })));
   again = λ at x rest fit h _.
-    gets_bind _ _ _ _ ((word_exact n kind.Name).again at x rest tt h tt) (λ w p.
-    gets_bind _ _ _ _ (named_again scope w.0.text (UnknownName w.0.place) (subst (KnownIn scope) (sym p.0) fit)) (λ y q.
-    gets_end _ _ (subst (λ (t : List ℕ). VariableSays scope t [] y) p.0 q, p.1)));
+      gets_bind _ _ _ _ ((word_exact n kind.Name).again at x rest tt h tt) (λ w p.
+      gets_bind _ _ _ _ (named_again scope w.0.text (UnknownName w.0.place) (subst (KnownIn scope) (sym p.0) fit)) (λ y q.
+      gets_end _ _ (subst (λ (t : List ℕ). VariableSays scope t [] y) p.0 q, p.1)));
 }

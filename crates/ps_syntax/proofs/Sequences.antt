@@ -23,12 +23,14 @@ word_found k [] end = record { is = tt }
 word_found k (w ∷ ws) end = by_test (is_kind w.kind k) refl
   where
     by_test : (t : Bool) → is_kind w.kind k ≡ t → Finds {A = Word × At} (if t then Ok (w, record { words = ws; end = end }) else Err (Grammar w.place)) (Spelled (word_piece k) Always (WordSays k) (record { words = w ∷ ws; end = end }))
-    by_test true e = record { is = record {
-      text = w.text;
-      taken = record { front = w ∷ []; split = refl; spelled = ap (λ (j : TokenKind). piece_of_kind j w.text ∷ []) (one_kind w.kind k e) };
-      fit = tt;
-      is = refl;
-    } }
+    by_test true e = record {
+      is = record {
+        text = w.text;
+        taken = record { front = w ∷ []; split = refl; spelled = ap (λ (j : TokenKind). piece_of_kind j w.text ∷ []) (one_kind w.kind k e) };
+        fit = tt;
+        is = refl;
+      };
+    }
     by_test false e = record { is = tt }
 
 abbrev head_or : Piece → List Piece → Piece
@@ -70,8 +72,8 @@ pub exact_as : {C D A : Type 0} {n : ℕ} {read : Read A} {spell : C → List Pi
 exact_as {C = C} {D = D} {n = n} {read = read} {spell = spell} {fits = fits} {says = says} {follows = follows} spell' fits' says' f g back spelled fit unfit said exact = record {
   found = λ at. found_more _ _ _ (exact.found at) (λ y p. record { text = f p.text; taken = takes_so (spelled p.text) p.taken; fit = fit p.text p.fit; is = said p.text (places at.words) y.0 p.is });
   again = λ at d rest ok h stop.
-    gets_more _ _ _ (exact.again at (g d) rest (unfit d ok) (ahead_so (ap (λ (ps : List Piece). ps ++ rest) (ap spell' (sym (back d)) ∙ sym (spelled (g d)))) h) stop)
-    (λ y p. (subst (λ (e : D). says' e (places at.words) y.0) (back d) (said (g d) (places at.words) y.0 p.0), p.1));
+      gets_more _ _ _ (exact.again at (g d) rest (unfit d ok) (ahead_so (ap (λ (ps : List Piece). ps ++ rest) (ap spell' (sym (back d)) ∙ sym (spelled (g d)))) h) stop)
+      (λ y p. (subst (λ (e : D). says' e (places at.words) y.0) (back d) (said (g d) (places at.words) y.0 p.0), p.1));
 }
 
 -- the same with a value of what was read
@@ -83,11 +85,11 @@ pub mapped_exact : {C A B : Type 0} {n : ℕ} {read : Read A} {spell : C → Lis
     → Exact n read spell fits says follows → Exact n (mapped of read) spell fits says' follows
 mapped_exact {n = n} {read = read} says' of said exact = record {
   found = λ at.
-    found_bind _ _ _ _ (exact.found at) (λ x p.
-    found_end _ _ (record { text = p.text; taken = p.taken; fit = p.fit; is = said p.text (places at.words) x.0 p.is }));
+      found_bind _ _ _ _ (exact.found at) (λ x p.
+      found_end _ _ (record { text = p.text; taken = p.taken; fit = p.fit; is = said p.text (places at.words) x.0 p.is }));
   again = λ at c rest fit h stop.
-    gets_bind _ _ _ _ (exact.again at c rest fit h stop) (λ x p.
-    gets_end _ _ (said c (places at.words) x.0 p.0, p.1));
+      gets_bind _ _ _ _ (exact.again at c rest fit h stop) (λ x p.
+      gets_end _ _ (said c (places at.words) x.0 p.0, p.1));
 }
 
 -- ---- a word, and then what is read
@@ -97,14 +99,16 @@ pub after_exact : {C A : Type 0} {n : ℕ} {read : Read A} {spell : C → List P
 unfolding after_word
 after_exact {n = n} {read = read} {spell = spell} {fits = fits} {says = says} k marked exact = record {
   found = λ at.
-    found_bind _ _ _ _ (mark_found n k marked at) (λ w p.
-    found_more _ _ _ (exact.found w.1) (λ y q. record {
-      text = q.text; taken = takes_then p q.taken; fit = q.fit;
-      is = subst (λ (ps : List Place). says q.text ps y.0) (takes_places p) q.is;
-    }));
+      found_bind _ _ _ _ (mark_found n k marked at) (λ w p.
+      found_more _ _ _ (exact.found w.1) (λ y q. record {
+        text = q.text;
+        taken = takes_then p q.taken;
+        fit = q.fit;
+        is = subst (λ (ps : List Place). says q.text ps y.0) (takes_places p) q.is;
+      }));
   again = λ at c rest fit h stop.
-    gets_bind _ _ _ _ (gets_found _ _ _ (mark_again n k marked at (spell c ++ rest) h) (mark_found n k marked at)) (λ w p.
-    gets_more _ _ _ (exact.again w.1 c rest fit p.0 stop) (λ y q. (subst (λ (ps : List Place). says c ps y.0) (takes_places p.1) q.0, q.1)));
+      gets_bind _ _ _ _ (gets_found _ _ _ (mark_again n k marked at (spell c ++ rest) h) (mark_found n k marked at)) (λ w p.
+      gets_more _ _ _ (exact.again w.1 c rest fit p.0 stop) (λ y q. (subst (λ (ps : List Place). says c ps y.0) (takes_places p.1) q.0, q.1)));
 }
 
 -- ---- where reading goes on
@@ -145,16 +149,18 @@ pub both_exact : {C D A B X : Type 0} {n : ℕ} {one : Read A} {two : Read B} {s
     → Exact n (both of one two) (λ (c : C × D). spell c.0 ++ spell' c.1) (λ (c : C × D). fits c.0 × fits' c.1) (λ (c : C × D). BothSay of spell says says' c.0 c.1) follows'
 both_exact {n = n} {one = one} {two = two} {spell = spell} {spell' = spell'} {fits = fits} {fits' = fits'} {says = says} {says' = says'} of exact exact' joins = record {
   found = λ at.
-    found_bind _ _ _ _ (exact.found at) (λ x p.
-    found_bind _ _ _ _ (exact'.found x.1) (λ y q.
-    found_end _ _ (record {
-      text = (p.text, q.text); taken = takes_then p.taken q.taken; fit = (p.fit, q.fit);
-      is = record { first = x.0; second = y.0; said_first = p.is; said_second = subst (λ (ps : List Place). says' q.text ps y.0) (takes_places p.taken) q.is; is = refl };
-    })));
+      found_bind _ _ _ _ (exact.found at) (λ x p.
+      found_bind _ _ _ _ (exact'.found x.1) (λ y q.
+      found_end _ _ (record {
+        text = (p.text, q.text);
+        taken = takes_then p.taken q.taken;
+        fit = (p.fit, q.fit);
+        is = record { first = x.0; second = y.0; said_first = p.is; said_second = subst (λ (ps : List Place). says' q.text ps y.0) (takes_places p.taken) q.is; is = refl };
+      })));
   again = λ at c rest fit h stop.
-    gets_bind _ _ _ _ (exact_again exact at c.0 (spell' c.1 ++ rest) fit.0 (ahead_so (append_assoc (spell c.0) (spell' c.1) rest) h) (joins c.1 rest fit.1 stop)) (λ x p.
-    gets_bind _ _ _ _ (exact'.again x.1 c.1 rest fit.1 p.1 stop) (λ y q.
-    gets_end _ _ (record { first = x.0; second = y.0; said_first = p.0; said_second = subst (λ (ps : List Place). says' c.1 ps y.0) p.2 q.0; is = refl }, q.1)));
+      gets_bind _ _ _ _ (exact_again exact at c.0 (spell' c.1 ++ rest) fit.0 (ahead_so (append_assoc (spell c.0) (spell' c.1) rest) h) (joins c.1 rest fit.1 stop)) (λ x p.
+      gets_bind _ _ _ _ (exact'.again x.1 c.1 rest fit.1 p.1 stop) (λ y q.
+      gets_end _ _ (record { first = x.0; second = y.0; said_first = p.0; said_second = subst (λ (ps : List Place). says' c.1 ps y.0) p.2 q.0; is = refl }, q.1)));
 }
 
 -- ---- what is read, and a word after it
@@ -166,13 +172,13 @@ pub closed_exact : {C A : Type 0} {n : ℕ} {read : Read A} {spell : C → List 
     (k : TokenKind) → IsMark k → ((rest : List Piece) → follows (Mark k ∷ rest)) → Exact n read spell fits says follows → Exact n (closed k read) (λ c. spell c ++ Mark k ∷ []) fits says Always
 closed_exact {n = n} {spell = spell} k marked ends exact = record {
   found = λ at.
-    found_bind _ _ _ _ (exact.found at) (λ x p.
-    found_bind _ _ _ _ (mark_found n k marked x.1) (λ w q.
-    found_end _ _ (record { text = p.text; taken = takes_then p.taken q; fit = p.fit; is = p.is })));
+      found_bind _ _ _ _ (exact.found at) (λ x p.
+      found_bind _ _ _ _ (mark_found n k marked x.1) (λ w q.
+      found_end _ _ (record { text = p.text; taken = takes_then p.taken q; fit = p.fit; is = p.is })));
   again = λ at c rest fit h _.
-    gets_bind _ _ _ _ (exact.again at c (Mark k ∷ rest) fit (ahead_so (append_assoc (spell c) (Mark k ∷ []) rest) h) (ends rest)) (λ x p.
-    gets_bind _ _ _ _ (mark_again n k marked x.1 rest p.1) (λ w q.
-    gets_end _ _ (p.0, q)));
+      gets_bind _ _ _ _ (exact.again at c (Mark k ∷ rest) fit (ahead_so (append_assoc (spell c) (Mark k ∷ []) rest) h) (ends rest)) (λ x p.
+      gets_bind _ _ _ _ (mark_again n k marked x.1 rest p.1) (λ w q.
+      gets_end _ _ (p.0, q)));
 }
 
 -- ---- as long as it goes on
@@ -204,7 +210,9 @@ while_found {spell = spell} {says = says} goes exact (suc m) at =
     (found_bind _ _ _ _ (exact.found at) (λ x p.
     found_bind _ _ _ _ (while_found goes exact m x.1) (λ xs q.
     found_end _ _ (record {
-      text = p.text ∷ q.text; taken = takes_then p.taken q.taken; fit = (p.fit, q.fit);
+      text = p.text ∷ q.text;
+      taken = takes_then p.taken q.taken;
+      fit = (p.fit, q.fit);
       is = (p.is, subst (λ (ps : List Place). ListSays spell says q.text ps xs.0) (takes_places p.taken) q.is);
     }))))
     (record { is = record { text = []; taken = takes_none at.words; fit = tt; is = tt } })
@@ -247,6 +255,6 @@ pub while_exact : {C A : Type 0} {n : ℕ} {read : Read A} {spell : C → List P
 while_exact {n = n} {spell = spell} goes begins on exact = record {
   found = while_found goes exact n;
   again = λ at cs rest fit h stop.
-    let le : length cs ≤ length (flat_map spell cs ++ rest) = few spell on.some cs rest in
-    while_again goes begins on exact cs n at rest (omega (arith, le, h.room)) fit h stop;
+      let le : length cs ≤ length (flat_map spell cs ++ rest) = few spell on.some cs rest in
+      while_again goes begins on exact cs n at rest (omega (arith, le, h.room)) fit h stop;
 }

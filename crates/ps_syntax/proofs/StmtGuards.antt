@@ -36,8 +36,8 @@ unfolding assign_at
 assign_guards t =
     guards_as _ Always (λ c. c) (λ c. c) (λ c. refl) (λ c. refl) (λ c h. tt) (λ c h. (tt, tt))
     (both_guards {m = t.left} {m' = t.left'} Any stmt.Assign (λ x y z w a b. tt) (variable_guards t) (λ c. omega arith) (λ i c. omega arith)
-      (after_guards kind.Becomes (λ u. refl) (omega arith) (λ i. omega arith) (ended_guards (λ rest. (refl, refl)) (sum_guards t)) (example_closed kind.Semicolon (λ u. refl) sum_example))
-      (example_after kind.Becomes (λ u. refl) (example_closed kind.Semicolon (λ u. refl) sum_example)) (λ d rest h. tt))
+    (after_guards kind.Becomes (λ u. refl) (omega arith) (λ i. omega arith) (ended_guards (λ rest. (refl, refl)) (sum_guards t)) (example_closed kind.Semicolon (λ u. refl) sum_example))
+    (example_after kind.Becomes (λ u. refl) (example_closed kind.Semicolon (λ u. refl) sum_example)) (λ d rest h. tt))
 
 havoc_guards : (t : Two) → GuardsIn t (havoc_at t.scope) (λ i. havoc_at t.scope') (λ x. stmt_pieces (havoc x)) Any Always
 unfolding havoc_at
@@ -60,7 +60,9 @@ BlockGuards t block block' = GuardsIn t block block' block_pieces Any Always
 
 pub block_example : Example block_pieces Always
 block_example = record {
-  text = block_end; fine = tt; spelled = refl;
+  text = block_end;
+  fine = tt;
+  spelled = refl;
   words = record { kind = kind.OpenBrace; text = []; place = record { line = 0; column = 0 } } ∷ record { kind = kind.CloseBrace; text = []; place = record { line = 0; column = 0 } } ∷ [];
 }
 
@@ -73,7 +75,9 @@ while_pieces c = stmt_pieces (while_do c.0 c.1)
 
 while_example : Example while_pieces Always
 while_example = record {
-  text = (test_example.text, block_example.text); fine = tt; words = record { kind = kind.While; text = []; place = record { line = 0; column = 0 } } ∷ (test_example.words ++ block_example.words);
+  text = (test_example.text, block_example.text);
+  fine = tt;
+  words = record { kind = kind.While; text = []; place = record { line = 0; column = 0 } } ∷ (test_example.words ++ block_example.words);
   spelled = ap (λ (ps : List Piece). Mark kind.While ∷ ps) (pieces_are test_example.words block_example.words (test_pieces test_example.text) (block_pieces block_example.text) test_example.spelled block_example.spelled);
 }
 
@@ -102,8 +106,8 @@ if_guards t levels block block' g =
     guards_as if_pieces Always (λ c. record { test = c.0; held = c.1.0; failed = c.1.1 }) (λ c. (c.test, (c.held, c.failed))) (λ c. refl) (λ c. refl) (λ c h. tt) (λ c h. (tt, (tt, tt)))
     (guards_same _ _ (three_is stmt.If (after_word kind.If (parens_at t.scope t.most levels)) block (else_at block)) (λ i. three_is stmt.If (after_word kind.If (parens_at t.scope' (t.most' i) levels)) (block' i) (else_at (block' i)))
     (both_guards {m = t.left} {m' = t.left'} Any (of_pair stmt.If) (λ x y z w a b. tt) (after_guards kind.If (λ u. refl) (omega arith) (λ i. omega arith) (parens_guards t levels) test_example) (λ c. omega arith) (λ i c. omega arith)
-      (both_guards Any pair_up (λ x y z w a b. tt) g (λ c. omega arith) (λ i c. omega arith) (else_guards t block block' g) (record { text = None; fine = tt; words = []; spelled = refl }) (λ d rest h. tt))
-      (record { text = (block_example.text, None); fine = (tt, tt); words = block_example.words ++ []; spelled = pieces_are block_example.words [] (block_pieces block_example.text) [] block_example.spelled refl }) (λ d rest h. tt)))
+    (both_guards Any pair_up (λ x y z w a b. tt) g (λ c. omega arith) (λ i c. omega arith) (else_guards t block block' g) (record { text = None; fine = tt; words = []; spelled = refl }) (λ d rest h. tt))
+    (record { text = (block_example.text, None); fine = (tt, tt); words = block_example.words ++ []; spelled = pieces_are block_example.words [] (block_pieces block_example.text) [] block_example.spelled refl }) (λ d rest h. tt)))
 
 -- ---- which statement
 
@@ -161,19 +165,19 @@ unfolding kind_at
 kind_guards t levels block block' g inside =
     guards_as stmt_pieces Always (λ s. s) (λ s. s) (λ s. refl) (λ s. refl) (λ s h. tt) (λ s h. omega arith)
     (choice_guards stmt_pieces (From 0) (Not kind.Else) (next_is kind.Name) (begins_piece kind.Name) (next_test kind.Name) (λ k at ps h. next_ahead kind.Name h)
-      (λ c. assign c.0 c.1) (λ c. refl) (λ c h. omega arith) (λ s. s) (λ s. refl) (λ s h. omega arith) sort_assign (λ rest h. tt) (λ rest h. h) (assign_guards t)
+    (λ c. assign c.0 c.1) (λ c. refl) (λ c h. omega arith) (λ s. s) (λ s. refl) (λ s h. omega arith) sort_assign (λ rest h. tt) (λ rest h. h) (assign_guards t)
     (choice_guards stmt_pieces (From 1) (Not kind.Else) (next_is kind.Havoc) (begins_piece kind.Havoc) (next_test kind.Havoc) (λ k at ps h. next_ahead kind.Havoc h)
-      havoc (λ c. refl) (λ c h. omega arith) (λ s. s) (λ s. refl) (λ s h. omega (arith, h)) sort_havoc (λ rest h. tt) (λ rest h. h) (havoc_guards t)
+    havoc (λ c. refl) (λ c h. omega arith) (λ s. s) (λ s. refl) (λ s h. omega (arith, h)) sort_havoc (λ rest h. tt) (λ rest h. h) (havoc_guards t)
     (choice_guards stmt_pieces (From 2) (Not kind.Else) (next_is kind.Assume) (begins_piece kind.Assume) (next_test kind.Assume) (λ k at ps h. next_ahead kind.Assume h)
-      assume (λ c. refl) (λ c h. omega arith) (λ s. s) (λ s. refl) (λ s h. omega (arith, h)) sort_assume (λ rest h. tt) (λ rest h. h) (cond_stmt_guards t levels kind.Assume stmt.Assume (λ u. refl))
+    assume (λ c. refl) (λ c h. omega arith) (λ s. s) (λ s. refl) (λ s h. omega (arith, h)) sort_assume (λ rest h. tt) (λ rest h. h) (cond_stmt_guards t levels kind.Assume stmt.Assume (λ u. refl))
     (choice_guards stmt_pieces (From 3) (Not kind.Else) (next_is kind.Assert) (begins_piece kind.Assert) (next_test kind.Assert) (λ k at ps h. next_ahead kind.Assert h)
-      assert (λ c. refl) (λ c h. omega arith) (λ s. s) (λ s. refl) (λ s h. omega (arith, h)) sort_assert (λ rest h. tt) (λ rest h. h) (cond_stmt_guards t levels kind.Assert stmt.Assert (λ u. refl))
+    assert (λ c. refl) (λ c h. omega arith) (λ s. s) (λ s. refl) (λ s h. omega (arith, h)) sort_assert (λ rest h. tt) (λ rest h. h) (cond_stmt_guards t levels kind.Assert stmt.Assert (λ u. refl))
     (choice_guards stmt_pieces (From 4) (Not kind.Else) (next_is kind.Skip) (begins_piece kind.Skip) (next_test kind.Skip) (λ k at ps h. next_ahead kind.Skip h)
-      (λ (u : Unit {0}). skip) (λ c. refl) (λ c h. omega arith) (λ s. s) (λ s. refl) (λ s h. omega (arith, h)) sort_skip (λ rest h. tt) (λ rest h. h) (skip_guards t)
+    (λ (u : Unit {0}). skip) (λ c. refl) (λ c h. omega arith) (λ s. s) (λ s. refl) (λ s h. omega (arith, h)) sort_skip (λ rest h. tt) (λ rest h. h) (skip_guards t)
     (choice_guards stmt_pieces (From 5) (Not kind.Else) (next_is kind.Atomic) (begins_piece kind.Atomic) (next_test kind.Atomic) (λ k at ps h. next_ahead kind.Atomic h)
-      atomic (λ c. refl) (λ c h. omega arith) (λ s. s) (λ s. refl) (λ s h. omega (arith, h)) sort_atomic (λ rest h. tt) (λ rest h. h) (atomic_guards t (block true) (λ i. block' i true) (g true))
+    atomic (λ c. refl) (λ c h. omega arith) (λ s. s) (λ s. refl) (λ s h. omega (arith, h)) sort_atomic (λ rest h. tt) (λ rest h. h) (atomic_guards t (block true) (λ i. block' i true) (g true))
     (choice_guards stmt_pieces (From 6) (Not kind.Else) (next_is kind.If) (begins_piece kind.If) (next_test kind.If) (λ k at ps h. next_ahead kind.If h)
-      if_of if_spelled (λ c h. if_is (From 6) (λ u b. omega arith) (λ u b d. omega arith) c) (λ c. while_do c.0 c.1) (λ c. refl) (λ c h. omega arith) sort_if (λ rest h. h) (λ rest h. tt) (if_guards t levels (block inside) (λ i. block' i inside) (g inside))
+    if_of if_spelled (λ c h. if_is (From 6) (λ u b. omega arith) (λ u b d. omega arith) c) (λ c. while_do c.0 c.1) (λ c. refl) (λ c h. omega arith) sort_if (λ rest h. h) (λ rest h. tt) (if_guards t levels (block inside) (λ i. block' i inside) (g inside))
     (last_guards kind.While (λ c rest h. refl) while_example (while_stmt_guards t levels inside (block inside) (λ i. block' i inside) (g inside))))))))))
 
 stmt_guards : (t : Two) (levels : ℕ) (block : Bool → Read (List Stmt)) (block' : ℕ → Bool → Read (List Stmt)) → ((inside : Bool) → BlockGuards t (block inside) (λ i. block' i inside)) → (inside : Bool)
@@ -196,6 +200,6 @@ block_guards t zero inside =
 block_guards t (suc levels) inside =
     after_guards kind.OpenBrace (λ u. refl) (omega arith) (λ i. omega arith)
     (guards_as rest_pieces Always block_of stmts_of block_back block_spelled (λ ss h. tt) (λ b h. all_always (stmts_of b))
-      (closed_guards kind.CloseBrace (λ u. refl) (λ rest. (refl, refl))
-        (while_guards has_more goes_on more_test stmts_go_on t.low t.low' (stmt_guards t levels (block_at t.scope t.most levels) (λ i. block_at t.scope' (t.most' i) levels) (λ u. block_guards t levels u) inside))))
+    (closed_guards kind.CloseBrace (λ u. refl) (λ rest. (refl, refl))
+    (while_guards has_more goes_on more_test stmts_go_on t.low t.low' (stmt_guards t levels (block_at t.scope t.most levels) (λ i. block_at t.scope' (t.most' i) levels) (λ u. block_guards t levels u) inside))))
     rest_example

@@ -108,9 +108,9 @@ else_exact : (n : ℕ) (names : Names) (levels : ℕ) (inside : Bool) (block : R
 unfolding else_at
 else_exact n names levels inside block exact = record {
   found = λ at.
-    found_if (next_is kind.Else at) _ _ _
-    (found_more _ _ _ ((after_exact kind.Else (λ t. refl) exact).found at) (λ y p. record { text = Some p.text; taken = p.taken; fit = p.fit; is = p.is }))
-    (found_end _ _ (record { text = None; taken = takes_none at.words; fit = tt; is = refl }));
+      found_if (next_is kind.Else at) _ _ _
+      (found_more _ _ _ ((after_exact kind.Else (λ t. refl) exact).found at) (λ y p. record { text = Some p.text; taken = p.taken; fit = p.fit; is = p.is }))
+      (found_end _ _ (record { text = None; taken = takes_none at.words; fit = tt; is = refl }));
   again = else_again n names levels inside block exact;
 }
 
@@ -142,24 +142,24 @@ pub if_exact : (n : ℕ) (names : Names) (levels : ℕ) (inside : Bool) (block :
 unfolding if_at
 if_exact n names levels inside block exact = record {
   found = λ at.
-    found_bind _ _ _ _ (test_part.found at) (λ t p.
-    found_bind _ _ _ _ (exact.found t.1) (λ held q.
-    found_bind _ _ _ _ ((else_exact n names levels inside block exact).found held.1) (λ failed r.
-    let c : IfText = record { test = p.text; held = q.text; failed = r.text } in
-    let first : places t.1.words ≡ drop (suc (length (test_pieces p.text))) (places at.words) = takes_places p.taken in
-    let second : places held.1.words ≡ drop (length (block_pieces q.text)) (drop (suc (length (test_pieces p.text))) (places at.words)) = takes_places q.taken ∙ ap (drop (length (block_pieces q.text))) first in
-    found_end _ _ (record {
-      text = c;
-      taken = takes_then p.taken (takes_then q.taken r.taken);
-      fit = (p.fit, q.fit, r.fit);
-      is = make_if names c (places at.words) t.0 held.0 failed.0 p.is (q.is ∙ ap (λ (ps : List Place). block_trees names q.text (drop 1 ps)) first) (subst (λ (ps : List Place). ElseIs names r.text ps failed.0) second r.is);
-    }))));
+      found_bind _ _ _ _ (test_part.found at) (λ t p.
+      found_bind _ _ _ _ (exact.found t.1) (λ held q.
+      found_bind _ _ _ _ ((else_exact n names levels inside block exact).found held.1) (λ failed r.
+      let c : IfText = record { test = p.text; held = q.text; failed = r.text } in
+      let first : places t.1.words ≡ drop (suc (length (test_pieces p.text))) (places at.words) = takes_places p.taken in
+      let second : places held.1.words ≡ drop (length (block_pieces q.text)) (drop (suc (length (test_pieces p.text))) (places at.words)) = takes_places q.taken ∙ ap (drop (length (block_pieces q.text))) first in
+      found_end _ _ (record {
+        text = c;
+        taken = takes_then p.taken (takes_then q.taken r.taken);
+        fit = (p.fit, q.fit, r.fit);
+        is = make_if names c (places at.words) t.0 held.0 failed.0 p.is (q.is ∙ ap (λ (ps : List Place). block_trees names q.text (drop 1 ps)) first) (subst (λ (ps : List Place). ElseIs names r.text ps failed.0) second r.is);
+      }))));
   again = λ at c rest fit h stop.
-    gets_bind _ _ _ _ (exact_again test_part at c.test (block_pieces c.held ++ (else_pieces c.failed ++ rest)) fit.0 (ahead_so (joined (Mark kind.If ∷ test_pieces c.test) (block_pieces c.held) (else_pieces c.failed) rest) h) tt) (λ t p.
-    gets_bind _ _ _ _ (exact_again exact t.1 c.held (else_pieces c.failed ++ rest) fit.1 p.1 tt) (λ held q.
-    gets_bind _ _ _ _ ((else_exact n names levels inside block exact).again held.1 c.failed rest fit.2 q.1 stop) (λ failed r.
-    let second : places held.1.words ≡ drop (length (block_pieces c.held)) (drop (suc (length (test_pieces c.test))) (places at.words)) = q.2 ∙ ap (drop (length (block_pieces c.held))) p.2 in
-    gets_end _ _ (make_if names c (places at.words) t.0 held.0 failed.0 p.0 (q.0 ∙ ap (λ (ps : List Place). block_trees names c.held (drop 1 ps)) p.2) (subst (λ (ps : List Place). ElseIs names c.failed ps failed.0) second r.0), r.1))));
+      gets_bind _ _ _ _ (exact_again test_part at c.test (block_pieces c.held ++ (else_pieces c.failed ++ rest)) fit.0 (ahead_so (joined (Mark kind.If ∷ test_pieces c.test) (block_pieces c.held) (else_pieces c.failed) rest) h) tt) (λ t p.
+      gets_bind _ _ _ _ (exact_again exact t.1 c.held (else_pieces c.failed ++ rest) fit.1 p.1 tt) (λ held q.
+      gets_bind _ _ _ _ ((else_exact n names levels inside block exact).again held.1 c.failed rest fit.2 q.1 stop) (λ failed r.
+      let second : places held.1.words ≡ drop (length (block_pieces c.held)) (drop (suc (length (test_pieces c.test))) (places at.words)) = q.2 ∙ ap (drop (length (block_pieces c.held))) p.2 in
+      gets_end _ _ (make_if names c (places at.words) t.0 held.0 failed.0 p.0 (q.0 ∙ ap (λ (ps : List Place). block_trees names c.held (drop 1 ps)) p.2) (subst (λ (ps : List Place). ElseIs names c.failed ps failed.0) second r.0), r.1))));
 }
   where
     test_part : Exact n (after_word kind.If (parens_at (Some names) n levels)) (λ t. Mark kind.If ∷ test_pieces t) (TestFits names levels) (λ t ps y. y ≡ test_tree names t) Always
@@ -207,7 +207,6 @@ pub if_said : (names : Names) (c : IfText) (ps : List Place) (y : StmtKind) → 
 unfolding if_of
 if_said names c ps y h = by_else c.failed h.failed h.said h.is
   where
-
     by_else : (o : Option BlockText) (failed : List Stmt) → ElseIs names o (drop (length (block_pieces c.held)) (drop (suc (length (test_pieces c.test))) ps)) failed
         → y ≡ stmt.If (test_tree names c.test) (block_trees names c.held (drop 1 (drop (suc (length (test_pieces c.test))) ps))) failed
         → StmtIs names (elim o as (λ _. StmtText) [ None ↦ if_then c.test c.held | Some b ↦ if_else c.test c.held b ]) ps y

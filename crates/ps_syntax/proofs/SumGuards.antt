@@ -66,26 +66,44 @@ pub variable_guards : (t : Two) → GuardsIn t (variable_at t.scope) (λ i. vari
 unfolding variable_at
 variable_guards t = record {
   never = λ i at x rest fine h _.
-    lets_bind _ _ _ _ ((word_guards t.left t.left' t.most' kind.Name).never i at x rest tt h tt) (λ w p.
-    lets_bind _ _ _ _ (known_lets (variable_in t.scope' w.0.text) w.0.place) (λ v q.
-    lets_end _ _ p));
+      lets_bind _ _ _ _ ((word_guards t.left t.left' t.most' kind.Name).never i at x rest tt h tt) (λ w p.
+      lets_bind _ _ _ _ (known_lets (variable_in t.scope' w.0.text) w.0.place) (λ v q.
+      lets_end _ _ p));
   stuck = λ at room.
-    keeps_bind _ _ _ _ _ _ (placed_word t.left t.left' t.most' kind.Name at room)
+      keeps_bind _ _ _ _ _ _ (placed_word t.left t.left' t.most' kind.Name at room)
       (λ w p. keeps_bind _ _ _ _ _ _ (known_keeps t.scope w.0.text w.0.place)
-        (λ v e. keeps_end _ _ _ (record {
-          text = p.0.text; fine = tt; front = p.0.front; split = p.0.split; ends = p.0.ends; spelled = p.0.spelled;
-          same = λ i at' other room' s h.
+      (λ v e. keeps_end _ _ _ (record {
+        text = p.0.text;
+        fine = tt;
+        front = p.0.front;
+        split = p.0.split;
+        ends = p.0.ends;
+        spelled = p.0.spelled;
+        same = λ i at' other room' s h.
             gets_bind _ _ _ _ (p.0.same i at' other room' s h) (λ w' a.
             gets_bind _ _ _ _ (known_gets t.scope' w'.0.text (UnknownName w'.0.place) (t.widens w.0.text v e).0 (ap (λ (u : Word). variable_in t.scope' u.text) (sym a.0) ∙ (t.widens w.0.text v e).1)) (λ u b.
             gets_end _ _ (tt, a.1)));
-        }))
-        (λ e q. record {
-          text = []; fine = tt; front = []; rest = at.words; more = record { kind = kind.Name; text = []; place = record { line = 0; column = 0 } } ∷ []; split = refl; spelled = refl;
-          place = ap refusal_place q ∙ ap (λ (o : Place). Some o) (sym p.1);
-          same = λ g i at' other room' s h. absurd (not_grammar {A = Var} (UnknownName w.0.place) (record { is = tt }) (subst IsGrammar q g));
-        }))
+      }))
+      (λ e q. record {
+        text = [];
+        fine = tt;
+        front = [];
+        rest = at.words;
+        more = record { kind = kind.Name; text = []; place = record { line = 0; column = 0 } } ∷ [];
+        split = refl;
+        spelled = refl;
+        place = ap refusal_place q ∙ ap (λ (o : Place). Some o) (sym p.1);
+        same = λ g i at' other room' s h. absurd (not_grammar {A = Var} (UnknownName w.0.place) (record { is = tt }) (subst IsGrammar q g));
+      }))
       (λ e r. record {
-        text = r.text; fine = tt; front = r.front; rest = r.rest; more = r.more; split = r.split; place = r.place; spelled = r.spelled;
+        text = r.text;
+        fine = tt;
+        front = r.front;
+        rest = r.rest;
+        more = r.more;
+        split = r.split;
+        place = r.place;
+        spelled = r.spelled;
         same = λ g i at' other room' s h. refused_bind _ _ (r.same g i at' other room' s h);
       });
 }
@@ -170,14 +188,14 @@ number_product_guards t =
     guards_as number_parts Always (λ c. c) (λ c. c) (λ c. refl) (λ c. refl) (λ c h. tt) (λ c h. (tt, tt))
     (guards_same _ _ (number_product_is t.scope) (λ i. number_product_is t.scope')
     (both_guards Any numbered (λ x y z w a b. tt) (word_guards t.left t.left' t.most' kind.Number) (λ c. omega arith) (λ i c. omega arith)
-      (opt_guards t kind.Star (λ u. refl) _ _ name_piece name_example (variable_guards t)) (opt_example kind.Star name_piece) (λ d rest h. tt)))
+    (opt_guards t kind.Star (λ u. refl) _ _ name_piece name_example (variable_guards t)) (opt_example kind.Star name_piece) (λ d rest h. tt)))
 
 name_product_guards : (t : Two) → GuardsIn t (name_product_at t.scope) (λ i. name_product_at t.scope') name_parts Any (Not kind.Star)
 name_product_guards t =
     guards_as name_parts Always (λ c. c) (λ c. c) (λ c. refl) (λ c. refl) (λ c h. tt) (λ c h. (tt, tt))
     (guards_same _ _ (name_product_is t.scope) (λ i. name_product_is t.scope')
     (both_guards Any named (λ x y z w a b. tt) (variable_guards t) (λ c. omega arith) (λ i c. omega arith)
-      (opt_guards t kind.Star (λ u. refl) _ _ number_piece number_example (factor_guards t)) (opt_example kind.Star number_piece) (λ d rest h. tt)))
+    (opt_guards t kind.Star (λ u. refl) _ _ number_piece number_example (factor_guards t)) (opt_example kind.Star number_piece) (λ d rest h. tt)))
 
 number_text : List ℕ → Option (List ℕ) → ProductText
 number_text d None = number d
@@ -255,7 +273,7 @@ sum_guards t =
     (λ c. append_assoc (minus_pieces c.0.0) (product_pieces c.0.1) (flat_map further_piece c.1) ∙ ap (λ (ps : List Piece). minus_pieces c.0.0 ++ (product_pieces c.0.1 ++ ps)) (further_is c.1))
     (λ c h. tt) (λ s h. (tt, all_always s.further))
     (both_guards Any make_sum (λ x y z w a b. tt) (first_guards t) (λ c. omega arith) (λ i c. omega arith)
-      (while_guards adds begins_adding adds_test further_goes_on t.low t.low' (further_guards t)) (record { text = []; fine = tt; words = []; spelled = refl }) (λ ds rest stop. further_joins ds rest stop))
+    (while_guards adds begins_adding adds_test further_goes_on t.low t.low' (further_guards t)) (record { text = []; fine = tt; words = []; spelled = refl }) (λ ds rest stop. further_joins ds rest stop))
 
 pub sum_example : Example sum_pieces Always
 unfolding number_example
@@ -275,28 +293,48 @@ wrong_sign of w ws (v ∷ vs) end e h =
 
 sign_stuck : (n' : ℕ → ℕ) (of : TokenKind → Option Sign) → AreSigns of → SignIn of sign.Less → (ws : List Word) (end : Place)
     → Keeps (sign_from of ws end) (Went n' (λ i at. sign_from of at.words at.end) sign_piece (SignIn of) Same (record { words = ws; end = end })) (Stood n' (λ (i : ℕ) (at : At). sign_from of at.words at.end) sign_piece (SignIn of) (record { words = ws; end = end }))
-sign_stuck n' of are less [] end = record { is = record {
-  text = sign.Less; fine = less; front = []; rest = []; more = record { kind = kind.Less; text = []; place = record { line = 0; column = 0 } } ∷ []; split = refl; place = refl; spelled = refl;
-  same = λ g i at' other room h e. subst (λ (vs : List Word). Refused (sign_from of vs at'.end)) (sym e) (no_sign of other at'.end h);
-} }
+sign_stuck n' of are less [] end = record {
+  is = record {
+    text = sign.Less;
+    fine = less;
+    front = [];
+    rest = [];
+    more = record { kind = kind.Less; text = []; place = record { line = 0; column = 0 } } ∷ [];
+    split = refl;
+    place = refl;
+    spelled = refl;
+    same = λ g i at' other room h e. subst (λ (vs : List Word). Refused (sign_from of vs at'.end)) (sym e) (no_sign of other at'.end h);
+  };
+}
 sign_stuck n' of are less (w ∷ ws) end = by_sign (of w.kind) refl
   where
     by_sign : (o : Option Sign) → of w.kind ≡ o
         → Keeps (ok_or o (Grammar w.place) >>= λ s. Ok (s, record { words = ws; end = end })) (Went n' (λ i at. sign_from of at.words at.end) sign_piece (SignIn of) Same (record { words = w ∷ ws; end = end })) (Stood n' (λ (i : ℕ) (at : At). sign_from of at.words at.end) sign_piece (SignIn of) (record { words = w ∷ ws; end = end }))
     by_sign (Some s) e = keeps_bind _ _ (λ r. r ≡ s) (λ p. ⊥) _ _ (record { is = refl })
-      (λ r q. keeps_end _ _ _ (record {
-        text = s; fine = ap of (sym (are.kinds w.kind s e)) ∙ e; front = w ∷ []; split = refl; ends = refl;
-        spelled = ap (λ (k : TokenKind). piece_of_kind k w.text ∷ []) (are.kinds w.kind s e) ∙ ap (λ (p : Piece). p ∷ []) (sign_mark s w.text);
-        same = λ i at' other room h k. subst (λ (vs : List Word). Gets (sign_from of vs at'.end) (λ z. (r ≡ z.0) × (z.1.words ≡ other))) (sym k)
-          (gets_bind _ _ (λ u. r ≡ u) _ (record { value = s; ok = ap (λ (o : Option Sign). ok_or o (Grammar w.place)) e; is = q }) (λ u c. gets_end _ _ (c, refl)));
-      }))
-      (λ p none. absurd none)
+        (λ r q. keeps_end _ _ _ (record {
+          text = s;
+          fine = ap of (sym (are.kinds w.kind s e)) ∙ e;
+          front = w ∷ [];
+          split = refl;
+          ends = refl;
+          spelled = ap (λ (k : TokenKind). piece_of_kind k w.text ∷ []) (are.kinds w.kind s e) ∙ ap (λ (p : Piece). p ∷ []) (sign_mark s w.text);
+          same = λ i at' other room h k. subst (λ (vs : List Word). Gets (sign_from of vs at'.end) (λ z. (r ≡ z.0) × (z.1.words ≡ other))) (sym k)
+              (gets_bind _ _ (λ u. r ≡ u) _ (record { value = s; ok = ap (λ (o : Option Sign). ok_or o (Grammar w.place)) e; is = q }) (λ u c. gets_end _ _ (c, refl)));
+        }))
+        (λ p none. absurd none)
     by_sign None e = keeps_bind _ _ (λ r. ⊥) (λ e. e ≡ Grammar w.place) _ _ (record { is = refl })
-      (λ r none. absurd none)
-      (λ p q. record {
-        text = sign.Less; fine = less; front = []; rest = w ∷ ws; more = record { kind = kind.Less; text = []; place = record { line = 0; column = 0 } } ∷ []; split = refl; place = ap refusal_place q; spelled = refl;
-        same = λ g i at' other room h k. subst (λ (vs : List Word). Refused (sign_from of vs at'.end)) (sym k) (wrong_sign of w ws other at'.end e h);
-      })
+        (λ r none. absurd none)
+        (λ p q. record {
+          text = sign.Less;
+          fine = less;
+          front = [];
+          rest = w ∷ ws;
+          more = record { kind = kind.Less; text = []; place = record { line = 0; column = 0 } } ∷ [];
+          split = refl;
+          place = ap refusal_place q;
+          spelled = refl;
+          same = λ g i at' other room h k. subst (λ (vs : List Word). Refused (sign_from of vs at'.end)) (sym k) (wrong_sign of w ws other at'.end e h);
+        })
 
 sign_guards : (n : ℕ) (n' most : ℕ → ℕ) (of : TokenKind → Option Sign) → AreSigns of → SignIn of sign.Less → Guards n n' most (sign_at of) (λ i. sign_at of) sign_piece (SignIn of) Same Always
 unfolding sign_at
@@ -321,15 +359,16 @@ relation_guards t of are less =
     guards_as relation_pieces (λ r. SignIn of r.sign) (λ c. record { left = c.0; sign = c.1.0; right = c.1.1 }) (λ r. (r.left, (r.sign, r.right))) (λ r. refl) (λ c. refl) (λ c h. h.1.0) (λ r h. (tt, (h, tt)))
     (guards_same _ _ (relation_is of t.scope t.most) (λ i. relation_is of t.scope' (t.most' i))
     (both_guards SameSign (of_pair of_parts) (λ x y z w a b. b) (sum_guards t) (λ c. omega arith) (λ i c. omega arith)
-      (both_guards (λ (p q : Sign × Sum). p.0 ≡ q.0) pair_up (λ x y z w a b. a) (sign_guards t.left t.left' t.most' of are less) (λ c. omega arith) (λ i c. omega arith) (sum_guards t) sum_example (λ d rest h. tt))
-      tail_example (λ d rest h. sign_ends d.0 (sum_pieces d.1 ++ rest))))
+    (both_guards (λ (p q : Sign × Sum). p.0 ≡ q.0) pair_up (λ x y z w a b. a) (sign_guards t.left t.left' t.most' of are less) (λ c. omega arith) (λ i c. omega arith) (sum_guards t) sum_example (λ d rest h. tt))
+    tail_example (λ d rest h. sign_ends d.0 (sum_pieces d.1 ++ rest))))
   where
     tail_example : Example (λ (c : Sign × SumText). sign_piece c.0 ++ sum_pieces c.1) (λ (c : Sign × SumText). SignIn of c.0 × Unit {0})
     tail_example = record { text = (sign.Less, sum_example.text); fine = (less, tt); words = record { kind = kind.Less; text = []; place = record { line = 0; column = 0 } } ∷ sum_example.words; spelled = ap (λ (ps : List Piece). Mark kind.Less ∷ ps) sum_example.spelled }
 
 pub relation_example : (of : TokenKind → Option Sign) → SignIn of sign.Less → Example relation_pieces (λ r. SignIn of r.sign)
 relation_example of less = record {
-  text = record { left = sum_example.text; sign = sign.Less; right = sum_example.text }; fine = less;
+  text = record { left = sum_example.text; sign = sign.Less; right = sum_example.text };
+  fine = less;
   words = sum_example.words ++ (record { kind = kind.Less; text = []; place = record { line = 0; column = 0 } } ∷ sum_example.words);
   spelled = pieces_are sum_example.words _ (sum_pieces sum_example.text) (Mark kind.Less ∷ sum_pieces sum_example.text) sum_example.spelled (ap (λ (ps : List Piece). Mark kind.Less ∷ ps) sum_example.spelled);
 }

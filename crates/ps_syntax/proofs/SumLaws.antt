@@ -30,13 +30,13 @@ factor_exact : (n : ℕ) → Exact n factor_at number_piece Always NumberSays Al
 unfolding factor_at
 factor_exact n = record {
   found = λ at.
-    found_if (next_is kind.Name at) _ _ _ (record { is = tt })
-    (found_bind _ _ _ _ ((word_exact n kind.Number).found at) (λ w p.
-    found_end _ _ (record { text = p.text; taken = p.taken; fit = tt; is = ap number_value p.is })));
+      found_if (next_is kind.Name at) _ _ _ (record { is = tt })
+      (found_bind _ _ _ _ ((word_exact n kind.Number).found at) (λ w p.
+      found_end _ _ (record { text = p.text; taken = p.taken; fit = tt; is = ap number_value p.is })));
   again = λ at d rest fit h _.
-    gets_false (next_is kind.Name at) _ _ _ (next_ahead kind.Name h)
-    (gets_bind _ _ _ _ ((word_exact n kind.Number).again at d rest tt h tt) (λ w p.
-    gets_end _ _ (ap number_value p.0, p.1)));
+      gets_false (next_is kind.Name at) _ _ _ (next_ahead kind.Name h)
+      (gets_bind _ _ _ _ ((word_exact n kind.Number).again at d rest tt h tt) (λ w p.
+      gets_end _ _ (ap number_value p.0, p.1)));
 }
 
 abbrev pub ProductIn : Option Names → ProductText → Type 0
@@ -57,7 +57,9 @@ number_found n scope at =
     found_if (next_is kind.Star w.1) _ _ _
     (found_bind _ _ _ _ ((after_exact kind.Star (λ t. refl) (variable_exact n scope)).found w.1) (λ x q.
     found_end _ _ (record {
-      text = number_name w.0.text q.text; taken = takes_then taken q.taken; fit = q.fit;
+      text = number_name w.0.text q.text;
+      taken = takes_then taken q.taken;
+      fit = q.fit;
       is = says_of scope (λ (v : Var). (number_value w.0.text, Some v)) (λ names. variable_named names q.text) x.0 q.is;
     })))
     (found_end _ _ (record { text = number w.0.text; taken = taken; fit = fits_nothing scope; is = says_const scope (number_value w.0.text, None) })))
@@ -69,7 +71,9 @@ name_found n scope at =
     found_if (next_is kind.Star x.1) _ _ _
     (found_bind _ _ _ _ ((after_exact kind.Star (λ t. refl) (factor_exact n)).found x.1) (λ d q.
     found_end _ _ (record {
-      text = name_number p.text q.text; taken = takes_then p.taken q.taken; fit = p.fit;
+      text = name_number p.text q.text;
+      taken = takes_then p.taken q.taken;
+      fit = p.fit;
       is = says_two scope (λ (v : Var) (m : ℤ). (m, Some v)) (λ names. variable_named names p.text) (λ names. number_value q.text) x.0 d.0 p.is (subst (λ (m : ℤ). Says scope (λ names. number_value q.text) m) (sym q.is) (says_const scope (number_value q.text)));
     })))
     (found_end _ _ (record { text = name p.text; taken = p.taken; fit = p.fit; is = says_of scope (λ (v : Var). (pos 1, Some v)) (λ names. variable_named names p.text) x.0 p.is })))
@@ -239,7 +243,7 @@ sum_unfit : (scope : Option Names) (s : SumText) → SumIn scope s → SignedIn 
 sum_unfit scope s h = (
   fits_first scope (λ names. ProductFits names s.first) (λ names. AllFurther names s.further) h,
   fits_each scope (λ names p. ProductFits names p.1) s.further
-  (fits_as scope (λ names. AllFurther names s.further) _ (λ names g. recursion_from_All (λ (p : SignedText). ProductFits names p.1) s.further g) (fits_second scope (λ names. ProductFits names s.first) (λ names. AllFurther names s.further) h)),
+      (fits_as scope (λ names. AllFurther names s.further) _ (λ names g. recursion_from_All (λ (p : SignedText). ProductFits names p.1) s.further g) (fits_second scope (λ names. ProductFits names s.first) (λ names. AllFurther names s.further) h)),
 )
 
 pub further_joins : (ds : List SignedText) (rest : List Piece) → SumEnds rest → Not kind.Star (flat_map further_piece ds ++ rest)
@@ -255,5 +259,5 @@ sum_exact n scope =
     (λ c h. sum_fit scope c.0 c.1 h.0 h.1)
     (sum_unfit scope)
     (λ c ps y h. subst (λ (z : Sum). SumSays scope (sum_of c) ps z) (sym h.is)
-      (says_two scope make_sum (λ names. signed c.0.0 (product_tree names c.0.1)) (λ names. further_trees names c.1) h.first h.second h.said_first (further_said scope c.1 _ h.second h.said_second)))
+    (says_two scope make_sum (λ names. signed c.0.0 (product_tree names c.0.1)) (λ names. further_trees names c.1) h.first h.second h.said_first (further_said scope c.1 _ h.second h.said_second)))
     (both_exact make_sum (record { found = first_found n scope; again = first_again n scope }) (while_exact adds begins_adding further_goes_on (record { found = further_found n scope; again = further_again n scope })) (λ ds rest fit stop. further_joins ds rest stop))

@@ -8,7 +8,7 @@ use Rattle.ps_text.specs.declared.token_end.TokenEnd.{TokenEnd}
 use Rattle.ps_text.specs.declared.token_end.TokenEnd.TheVariants as token
 use Rattle.ps_syntax.specs.declared.read_refusal.ReadRefusal.{ReadRefusal}
 use Rattle.ps_syntax.specs.declared.read_refusal.ReadRefusal.TheVariants as refusal
-use Rattle.ps_syntax.specs.Reads.{IsProgramText, IsFirstFault}
+use Rattle.ps_syntax.specs.Reads.{IsProgramText, IsFirstFault, StandsInText}
 use Rattle.ps_syntax.specs.Words.{words_of}
 
 -- Where a text ends: just after its last byte.
@@ -41,3 +41,16 @@ pub record IsFaultAt (bytes : List ℕ) (place : Place) : Type 0 where
 abbrev pub GrammarIsFault : List ℕ → ReadRefusal → Type 0
 GrammarIsFault bytes (refusal.Grammar place) = IsFaultAt bytes place
 GrammarIsFault bytes e = Unit {0}
+
+-- The text has tokens, and the refusal stands at a word, or at the end, before which the words go on as some text of
+-- the grammar.
+pub record IsInText (bytes : List ℕ) (refused : ReadRefusal) : Type 0 where
+  pub tokens : List Token
+  pub cut : AreTokens bytes tokens
+  pub is : StandsInText (words_of bytes tokens) (end_of bytes) refused
+
+-- A refusal of the words stands so.
+abbrev pub RefusalIsInText : List ℕ → ReadRefusal → Type 0
+RefusalIsInText bytes (refusal.Token place) = Unit {0}
+RefusalIsInText bytes (refusal.Memory e) = Unit {0}
+RefusalIsInText bytes refused = IsInText bytes refused

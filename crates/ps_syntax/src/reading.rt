@@ -9,7 +9,7 @@ ghost use Rattle.ps_syntax.specs.declared.read_refusal.ReadRefusal.TheVariants a
 ghost use Rattle.ps_syntax.specs.Within.{AreWithin};
 ghost use Rattle.ps_syntax.specs.Words.{Tells, words_of};
 ghost use Rattle.ps_syntax.specs.Items.{program_at, program_of};
-ghost use Rattle.ps_syntax.specs.Texts.{end_of, uncut, IsProgram, TokenIsBad, GrammarIsFault};
+ghost use Rattle.ps_syntax.specs.Texts.{end_of, uncut, IsProgram, TokenIsBad, GrammarIsFault, RefusalIsInText};
 
 use crate::cursor::Cursor;
 use crate::items::items;
@@ -76,6 +76,8 @@ pub fn read_program(alloc: Global, bytes: &[u8]) -> Result<Program, ReadRefusal>
     ensures token { IfErr result (TokenIsBad bytes.now) }
     // `Grammar` stands at the first word, or the end, with which no text of the grammar goes on.
     ensures grammar { IfErr result (GrammarIsFault bytes.now) }
+    // No refusal of the words stands after that place: before it the words go on as some text of the grammar.
+    ensures in_text { IfErr result (RefusalIsInText bytes.now) }
 {
     match tokens(alloc, bytes) {
         Ok(list) => program_of(alloc, bytes, &list),
