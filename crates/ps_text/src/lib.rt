@@ -15,12 +15,14 @@ mod parts;
 mod place;
 mod printing;
 mod reader;
+mod scanning;
 mod span;
 mod spans;
 mod splitting;
 mod token;
 mod token_end;
 mod token_kind;
+mod tokenizing;
 mod until;
 
 pub use decimal::{counts_as_decimal, read_i128, read_u32, read_u128};
@@ -46,6 +48,7 @@ pub use splitting::lines;
 pub use token::Token;
 pub use token_end::TokenEnd;
 pub use token_kind::TokenKind;
+pub use tokenizing::tokens;
 pub use until::Until;
 
 #[cfg(test)]
