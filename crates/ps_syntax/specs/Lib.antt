@@ -10,3 +10,5 @@ pub mod Grammar
 pub mod Spelling
 pub mod Trees
 pub mod Fits
+pub mod Canonical
+pub mod Printed
