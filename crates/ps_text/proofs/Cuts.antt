@@ -106,7 +106,10 @@ pub cut_bad : (bytes : List ℕ) (at start : ℕ) (tokens : List Token) (before 
 cut_bad bytes at start tokens before place done s inside p none =
     let no_gap : gap_len (drop start bytes) ≡ 0 = ap (λ (n : ℕ). gap_len (drop n bytes)) s ∙ ap gap_len (sym (drop-drop (gap_len (drop at bytes)) at bytes)) ∙ gap_stops (drop at bytes) in
     record {
-      tokens = tokens; to = at; at = start; cut = done.cut;
+      tokens = tokens;
+      to = at;
+      at = start;
+      cut = done.cut;
       gap = rw s (gap_between bytes at);
       inside = inside;
       no_token = starts_no_token (drop start bytes) none;

@@ -12,6 +12,7 @@ use Rattle.std.proofs.lemmas.List.Sums.{prefix_len-le-length}
 use Rattle.std.proofs.Math.Seq.{take-append_seam}
 use Rattle.ps_text.specs.declared.token_kind.TokenKind.{TokenKind}
 use Rattle.ps_text.specs.declared.token_kind.TokenKind.TheVariants.{Name, Number, Global, Local, Init, Thread, Havoc, Assume, Assert, Skip, Atomic, If, Else, While, Becomes, LessEq, GreaterEq, EqualEqual, NotEqual, And, Or, Less, Greater, Not, Equal, Plus, Minus, Star, OpenParen, CloseParen, OpenBrace, CloseBrace, Semicolon}
+use Rattle.ps_text.specs.Decimal.{are_digits}
 use Rattle.ps_text.specs.Lexing.{is_blank, is_letter, is_digit, is_name_byte, spelling, IsWord, IsName, IsNumber, IsSpelled, carries_on, IsWhole, IsToken, StartsNoToken}
 use Rattle.ps_text.specs.Scanning.{gap_len, first_spelled, reserved, double_signs, single_signs, word_kind, double_sign, single_sign, sign_at, number_at, word_at, token_at}
 
@@ -46,6 +47,10 @@ front_stops_step p b bs false e next = e
 pub front_stops : (p : ℕ → Bool) (bs : List ℕ) → StopsBy p (drop (prefix_len p bs) bs)
 front_stops p [] = tt
 front_stops p (b ∷ bs) = front_stops_step p b bs (p b) refl (front_stops p bs)
+
+pub digits_are : (bytes : List ℕ) → are_digits bytes ≡ list_all is_digit bytes
+digits_are [] = refl
+digits_are (b ∷ bs) = ap (λ (t : Bool). is_digit b && t) (digits_are bs)
 
 -- ---- spellings
 
@@ -125,7 +130,7 @@ record IsWordOf (text : List ℕ) (kind : TokenKind) : Type 0 where
   carries : (b : ℕ) → carries_on kind b ≡ is_name_byte b
 
 word_is : (text : List ℕ) → IsWord text → IsWordOf text (word_kind text)
-word_is text w = found_is (IsWordOf text) (λ (k : TokenKind). k) Name reserved text 
+word_is text w = found_is (IsWordOf text) (λ (k : TokenKind). k) Name reserved text
     (λ e. record { spelled = e; carries = λ b. refl }, λ n0. (λ e. record { spelled = e; carries = λ b. refl }, λ n1. (λ e. record { spelled = e; carries = λ b. refl }, λ n2. (λ e. record { spelled = e; carries = λ b. refl }, λ n3. (λ e. record { spelled = e; carries = λ b. refl }, λ n4. (λ e. record { spelled = e; carries = λ b. refl }, λ n5. (λ e. record { spelled = e; carries = λ b. refl }, λ n6. (λ e. record { spelled = e; carries = λ b. refl }, λ n7. (λ e. record { spelled = e; carries = λ b. refl }, λ n8. (λ e. record { spelled = e; carries = λ b. refl }, λ n9. (λ e. record { spelled = e; carries = λ b. refl }, λ n10. (λ e. record { spelled = e; carries = λ b. refl }, λ n11. record { spelled = record { word = w; free = word_free text w n0 n1 n2 n3 n4 n5 n6 n7 n8 n9 n10 n11 }; carries = λ b. refl }))))))))))))
 
 word_name : (text : List ℕ) → ((kind : TokenKind) → text ≢ spelling kind) → word_kind text ≡ Name
@@ -182,7 +187,7 @@ number_ahead bytes true h e =
     let most : prefix_len is_digit bytes ≤ 18 = grind (arith, nat_tests) in
     record {
       token = record {
-        spelled = record { digits = front_passes is_digit bytes; some = omega arith; few = omega arith };
+        spelled = record { digits = digits_are (take n bytes) ∙ front_passes is_digit bytes; some = omega arith; few = omega arith };
         whole = stops_whole Number is_digit (drop n bytes) (λ b. refl) (front_stops is_digit bytes);
       };
       some = positive;
@@ -243,19 +248,19 @@ whole_before kind (b ∷ bs) h = h
 single_ahead : (a : ℕ) (bs : List ℕ) (o : Option TokenKind) → Single a (slice_index bs 0) o → Ahead (a ∷ bs) (option_map (λ kind. (kind, 1)) o)
 single_ahead a bs None h = tt
 single_ahead a bs (Some kind) h = record {
-    token = record { spelled = h.spelled; whole = whole_before kind bs h.carries };
-    some = lit< tt;
-    within = omega arith;
-  }
+  token = record { spelled = h.spelled; whole = whole_before kind bs h.carries };
+  some = lit< tt;
+  within = omega arith;
+}
 
 double_ahead : (a : ℕ) (bs : List ℕ) (o : Option TokenKind) → Double a (slice_index bs 0) o → Ahead (a ∷ bs) (elim o [ None ↦ option_map (λ kind. (kind, 1)) (single_sign a) | Some kind ↦ Some (kind, 2) ])
 double_ahead a bs None h = single_ahead a bs (single_sign a) (single_is a (slice_index bs 0) h)
 double_ahead a [] (Some kind) h = absurd (let h2 = h.second in omega arith)
 double_ahead a (b ∷ bs) (Some kind) h = record {
-    token = record { spelled = h.spelled; whole = whole_always kind bs h.carries };
-    some = lit< tt;
-    within = omega arith;
-  }
+  token = record { spelled = h.spelled; whole = whole_always kind bs h.carries };
+  some = lit< tt;
+  within = omega arith;
+}
 
 sign_ahead : (bytes : List ℕ) → Ahead bytes (sign_at (slice_index bytes 0) (slice_index bytes 1))
 sign_ahead [] = tt
@@ -293,8 +298,9 @@ all_first p b bs h = first (p b) (list_all p bs) h
 number_found : (text after : List ℕ) → IsNumber text → StopsBy is_digit after → token_at (text ++ after) ≡ Some (Number, length text)
 number_found [] after w s = absurd (let k = w.some in omega arith)
 number_found (b ∷ bs) after w s =
-    let n : prefix_len is_digit (b ∷ (bs ++ after)) ≡ length (b ∷ bs) = run_len is_digit (b ∷ bs) after w.digits s in
-    let d : is_digit b ≡ true = all_first is_digit b bs w.digits in
+    let digits : list_all is_digit (b ∷ bs) ≡ true = sym (digits_are (b ∷ bs)) ∙ w.digits in
+    let n : prefix_len is_digit (b ∷ (bs ++ after)) ≡ length (b ∷ bs) = run_len is_digit (b ∷ bs) after digits s in
+    let d : is_digit b ≡ true = all_first is_digit b bs digits in
     let l : is_letter b ≡ false = digit_no_letter b d in
     let few : leb (length (b ∷ bs)) 18 ≡ true = (let k = w.few in grind (arith, nat_tests)) in
     let of_letter : token_at (b ∷ (bs ++ after)) ≡ cond (is_digit b) (number_at (prefix_len is_digit (b ∷ (bs ++ after)))) (sign_at b (slice_index (bs ++ after) 0)) = ap (λ (t : Bool). cond t (word_at (prefix_len is_name_byte (b ∷ (bs ++ after))) (b ∷ (bs ++ after))) (cond (is_digit b) (number_at (prefix_len is_digit (b ∷ (bs ++ after)))) (sign_at b (slice_index (bs ++ after) 0)))) l in

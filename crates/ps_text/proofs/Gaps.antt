@@ -1,5 +1,5 @@
 -- Blanks and comments: the count of their bytes gives a gap, and any gap is counted.
-use Rattle.std.proofs.Common.{◌≡◌, ◌≢◌, ℕ, zero, suc, ◌+◌, ◌<◌, ◌≤◌, Bool, true, false, not, ◌&&◌, eqb, cond, List, [], ◌∷◌, ◌++◌, length, take, drop, Option, Some, None, slice_index, refl, sym, ◌∙◌, ap, subst, arith, add-one, append_assoc, ◌⊎◌, inl, inr}
+use Rattle.std.proofs.Common.{◌≡◌, ◌≢◌, ℕ, zero, suc, ◌+◌, ◌<◌, ◌≤◌, Bool, true, false, not, ◌&&◌, ◌||◌, eqb, cond, List, [], ◌∷◌, ◌++◌, length, take, drop, Option, Some, None, slice_index, refl, sym, ◌∙◌, ap, subst, arith, add-one, append_assoc, ◌⊎◌, inl, inr}
 use Rattle.std.specs.List.{list_all}
 use Rattle.std.proofs.lemmas.Bool.{eqb-true}
 use Rattle.std.proofs.lemmas.List.{length-append, length-take-le, take-append-drop}
@@ -7,7 +7,6 @@ use Rattle.ps_text.specs.Lexing.{is_blank, is_comment_byte, EndsComment, IsGap, 
 use Rattle.ps_text.specs.Scanning.{gap_step, gap_from, gap_len}
 
 -- ---- one byte
-
 
 pub gap_goes : (inside next : Bool) (b : ℕ) (bs : List ℕ) → gap_step inside b (slice_index bs 0) ≡ Some next → gap_from inside (b ∷ bs) ≡ gap_from next bs + 1
 gap_goes inside next b bs h = ap (λ (o : Option Bool). elim o as (λ _. ℕ) [ None ↦ 0 | Some d ↦ gap_from d bs + 1 ]) h
@@ -167,3 +166,13 @@ pub counts_no_gap : (bs : List ℕ) → StartsNoGap bs → gap_len bs ≡ 0
 counts_no_gap bs no_gap =
     let e : take (gap_len bs) bs ≡ [] = no_gap (take (gap_len bs) bs) (drop (gap_len bs) bs) (gap_is bs) (sym (take-append-drop (gap_len bs) bs)) in
     omega (arith, ap length e, length-take-le (gap_len bs) bs (gap_within bs))
+
+-- A byte that is neither a blank nor `/` begins no gap.
+or_false : (a b : Bool) → (a || b) ≡ false → (a ≡ false) × (b ≡ false)
+or_false false b h = (refl, h)
+or_false true b h = cc
+
+pub no_gap_at : (b : ℕ) (bs : List ℕ) → (is_blank b || eqb b 47) ≡ false → gap_len (b ∷ bs) ≡ 0
+no_gap_at b bs h =
+    let both = or_false (is_blank b) (eqb b 47) h in
+    gap_ends false b bs (step_other b (slice_index bs 0) false both.0 (rw (both.1) refl))

@@ -1,7 +1,8 @@
 -- The tokens of a program text: names, numbers and signs, with blanks and comments between them.
-use Rattle.std.specs.Prelude.{◌≡◌, ◌≢◌, ℕ, ◌+◌, ◌≤◌, ◌<◌, Bool, true, false, not, ◌&&◌, ◌||◌, ◌==◌, nat_lt, nat_le, List, [], ◌∷◌, ◌++◌, length, take, drop, slice_range, codes, if◌then◌else◌}
+use Rattle.std.specs.Prelude.{◌≡◌, ◌≢◌, ℕ, ◌+◌, ◌≤◌, ◌<◌, Bool, true, false, not, ◌&&◌, ◌||◌, ◌==◌, nat_lt, nat_le, List, [], ◌∷◌, ◌++◌, length, map, take, drop, slice_range, codes, if◌then◌else◌}
 use Rattle.std.specs.Char.{digit_value}
 use Rattle.std.specs.List.{list_all}
+use Rattle.ps_text.specs.Decimal.{are_digits}
 use Rattle.ps_text.specs.declared.place.Place.{Place}
 use Rattle.ps_text.specs.declared.token.Token.{Token}
 use Rattle.ps_text.specs.declared.token_kind.TokenKind.{TokenKind}
@@ -77,7 +78,7 @@ pub record IsName (text : List ℕ) : Type 0 where
 
 -- One to eighteen digits.
 pub record IsNumber (text : List ℕ) : Type 0 where
-  pub digits : list_all is_digit text ≡ true
+  pub digits : are_digits text ≡ true
   pub some : 1 ≤ length text
   pub few : length text ≤ 18
 
@@ -165,6 +166,11 @@ pub record IsTokenOf (bytes : List ℕ) (token : Token) : Type 0 where
   pub text : IsToken token.kind (slice_range bytes token.start token.end) (drop token.end bytes)
   pub place : token.place ≡ place_of bytes token.start
 
+-- The token's bytes are at least one, and stand inside a text of this length.
+pub record IsInside (len : ℕ) (token : Token) : Type 0 where
+  pub ordered : token.start < token.end
+  pub inside : token.end ≤ len
+
 -- From one index up to another there are only blanks and comments.
 pub record IsGapBetween (bytes : List ℕ) (from to : ℕ) : Type 0 where
   pub ordered : from ≤ to
@@ -222,6 +228,16 @@ IsWritten word = IsSpelled word.kind word.text
 abbrev pub word_bytes : Written → List ℕ
 word_bytes word = word.text ++ (if word.ends_line then 10 else 32) ∷ []
 
--- What a reader of tokens looks at: the kind and the bytes.
+-- What a reader looks at: the kind and the bytes.
+abbrev pub word_parts : Written → TokenKind × List ℕ
+word_parts word = (word.kind, word.text)
+
+-- The same of a token of a text.
 abbrev pub kind_and_text : List ℕ → Token → TokenKind × List ℕ
 kind_and_text bytes token = (token.kind, slice_range bytes token.start token.end)
+
+-- The text has tokens of these kinds and bytes.
+pub record HasTokens (bytes : List ℕ) (words : List (TokenKind × List ℕ)) : Type 0 where
+  pub tokens : List Token
+  pub are : AreTokens bytes tokens
+  pub parts : map (kind_and_text bytes) tokens ≡ words

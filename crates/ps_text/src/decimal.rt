@@ -1,12 +1,13 @@
 //! Canonical decimals: `0`, or digits without a leading zero, with `-` before a negative number.
 
 ghost use Rattle.std.specs.Prelude.{◌≡◌, ◌≢◌, ℕ, ◌<◌, ◌^◌, ℤ, MatchOption, drop};
-ghost use Rattle.std.specs.Prelude.{FitsSigned, length, ◌+◌, ◌*◌, Bool, true, nat_lt, Some, None, if◌then◌else◌};
+ghost use Rattle.std.specs.Prelude.{FitsSigned, length, ◌+◌, ◌*◌, Bool, true, nat_lt, Some, None, if◌then◌else◌, pos};
 ghost use Rattle.std.specs.Option.{SomeIff};
 ghost use Rattle.std.specs.Str.Parse.{digits_value};
 ghost use Rattle.std.specs.Int.{w128};
 ghost use Rattle.ps_text.specs.Decimal.{IsDecimal, IsSignedDecimal, are_digits, is_run, is_canonical, counts_as_decimal, u128_of, u32_of, i128_of, narrow, positive_of, negative_of};
 ghost use Rattle.ps_text.specs.Reading.{natural32, natural, integer, count};
+ghost use Rattle.ps_text.specs.Lexing.{IsNumber};
 
 use crate::form_name::FormName;
 
@@ -194,5 +195,17 @@ pub fn count(limit: u32, field: &[u8]) -> Result<u32, FormName>
             }
         }
         Err(what) => Err(what),
+    }
+}
+
+/// The value of a number of a program text, which may have leading zeros. Looks at each byte once.
+pub fn number_value(digits: &[u8]) -> i128
+    requires { IsNumber digits.now }
+    ensures value { result ≡ pos (digits_value 10 digits.now) }
+    ensures range { digits_value 10 digits.now < 10 ^ 18 }
+{
+    match value_of(digits) {
+        Some(n) => n as i128,
+        None => unreachable!(),
     }
 }

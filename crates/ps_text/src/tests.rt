@@ -105,3 +105,155 @@ fn prints_and_reads(rt: HostRuntime) -> Result<(), Fail> {
     assert_eq!(rt; reader.done(), Ok(()));
     Ok(())
 }
+
+#[test]
+fn cuts_tokens(rt: HostRuntime) -> Result<(), Fail> {
+    // Each token as its kind, its first byte and the one after its last, and the line and column of its place.
+    let texts: [(&[u8], &[(TokenKind, u32, u32, u32, u32)]); 10] = [
+        (b"", &[]),
+        (b" \t\r\n", &[]),
+        (
+            b"a:=b",
+            &[
+                (TokenKind::Name, 0, 1, 1, 1),
+                (TokenKind::Becomes, 1, 3, 1, 2),
+                (TokenKind::Name, 3, 4, 1, 4),
+            ],
+        ),
+        (
+            b"<=< =>===!=!&&||>",
+            &[
+                (TokenKind::LessEq, 0, 2, 1, 1),
+                (TokenKind::Less, 2, 3, 1, 3),
+                (TokenKind::Equal, 4, 5, 1, 5),
+                (TokenKind::GreaterEq, 5, 7, 1, 6),
+                (TokenKind::EqualEqual, 7, 9, 1, 8),
+                (TokenKind::NotEqual, 9, 11, 1, 10),
+                (TokenKind::Not, 11, 12, 1, 12),
+                (TokenKind::And, 12, 14, 1, 13),
+                (TokenKind::Or, 14, 16, 1, 15),
+                (TokenKind::Greater, 16, 17, 1, 17),
+            ],
+        ),
+        (
+            b"+-*(){};",
+            &[
+                (TokenKind::Plus, 0, 1, 1, 1),
+                (TokenKind::Minus, 1, 2, 1, 2),
+                (TokenKind::Star, 2, 3, 1, 3),
+                (TokenKind::OpenParen, 3, 4, 1, 4),
+                (TokenKind::CloseParen, 4, 5, 1, 5),
+                (TokenKind::OpenBrace, 5, 6, 1, 6),
+                (TokenKind::CloseBrace, 6, 7, 1, 7),
+                (TokenKind::Semicolon, 7, 8, 1, 8),
+            ],
+        ),
+        (
+            b"global local init\nthread havoc assume assert\n\tskip\ratomic if else while",
+            &[
+                (TokenKind::Global, 0, 6, 1, 1),
+                (TokenKind::Local, 7, 12, 1, 8),
+                (TokenKind::Init, 13, 17, 1, 14),
+                (TokenKind::Thread, 18, 24, 2, 1),
+                (TokenKind::Havoc, 25, 30, 2, 8),
+                (TokenKind::Assume, 31, 37, 2, 14),
+                (TokenKind::Assert, 38, 44, 2, 21),
+                (TokenKind::Skip, 46, 50, 3, 2),
+                (TokenKind::Atomic, 51, 57, 3, 7),
+                (TokenKind::If, 58, 60, 3, 14),
+                (TokenKind::Else, 61, 65, 3, 17),
+                (TokenKind::While, 66, 71, 3, 22),
+            ],
+        ),
+        (
+            b"init_ iff _x1 Global",
+            &[
+                (TokenKind::Name, 0, 5, 1, 1),
+                (TokenKind::Name, 6, 9, 1, 7),
+                (TokenKind::Name, 10, 13, 1, 11),
+                (TokenKind::Name, 14, 20, 1, 15),
+            ],
+        ),
+        (
+            b"12ab 007",
+            &[
+                (TokenKind::Number, 0, 2, 1, 1),
+                (TokenKind::Name, 2, 4, 1, 3),
+                (TokenKind::Number, 5, 8, 1, 6),
+            ],
+        ),
+        (
+            b"x// if \xc3\n//\n;// no line feed",
+            &[
+                (TokenKind::Name, 0, 1, 1, 1),
+                (TokenKind::Semicolon, 12, 13, 3, 1),
+            ],
+        ),
+        (b"123456789012345678", &[(TokenKind::Number, 0, 18, 1, 1)]),
+    ];
+    for (text, wanted) in &texts {
+        let found = tokens(rt.alloc(), text)?;
+        assert_eq!(rt; found.len(), wanted.len());
+        for (token, (kind, start, end, line, column)) in found.iter().zip(wanted.iter()) {
+            let place = Place {
+                line: *line,
+                column: *column,
+            };
+            let expected = Token {
+                kind: *kind,
+                start: *start,
+                end: *end,
+                place,
+            };
+            assert_eq!(rt; *token, expected, "{text:?}");
+        }
+    }
+    Ok(())
+}
+
+#[test]
+fn finds_bad_bytes(rt: HostRuntime) -> Result<(), Fail> {
+    let texts: [(&[u8], u32, u32); 7] = [
+        (b"global x = 1234567890123456789;", 1, 12),
+        (b"x\n /x", 2, 2),
+        (b"a : = b", 1, 3),
+        (b"&&&", 1, 3),
+        (b"|", 1, 1),
+        (b"//\n#", 2, 1),
+        (b"ab\xc8", 1, 3),
+    ];
+    for (text, line, column) in &texts {
+        let place = Place {
+            line: *line,
+            column: *column,
+        };
+        match tokens(rt.alloc(), text) {
+            Err(TokenEnd::BadToken(found)) => assert_eq!(rt; found, place, "{text:?}"),
+            _ => return Err("another answer".into()),
+        }
+    }
+    Ok(())
+}
+
+#[test]
+fn reads_a_token(rt: HostRuntime) -> Result<(), Fail> {
+    let text = b"x 007";
+    let token = Token {
+        kind: TokenKind::Number,
+        start: 2,
+        end: 5,
+        place: Place { line: 1, column: 3 },
+    };
+    assert_eq!(rt; text_of(text, token), b"007".as_slice());
+    assert_eq!(rt; number_value(b"007"), 7);
+    assert_eq!(rt;
+        number_value(b"999999999999999999"),
+        999_999_999_999_999_999
+    );
+    laws::one_list_of_tokens(text);
+    laws::one_bad_place(text);
+    laws::tokens_or_bad(text);
+    laws::each_token_is_of_the_text(text);
+    laws::written_words_are_tokens(text);
+    Ok(())
+}

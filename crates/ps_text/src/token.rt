@@ -1,4 +1,7 @@
 //! Tokens of a program text.
+
+ghost use Rattle.std.specs.Prelude.{◌≡◌, ◌≤◌, length, slice_range};
+
 use crate::place::Place;
 use crate::token_kind::TokenKind;
 
@@ -9,4 +12,13 @@ pub struct Token {
     pub start: u32,
     pub end: u32,
     pub place: Place,
+}
+
+/// The bytes of a token of this text, in constant time.
+pub fn text_of(bytes: &[u8], token: Token) -> &[u8]
+    requires ordered { token.start ≤ token.end }
+    requires inside { token.end ≤ length bytes.now }
+    ensures { result.now ≡ slice_range bytes.now token.start token.end }
+{
+    &bytes[token.start as usize..token.end as usize]
 }

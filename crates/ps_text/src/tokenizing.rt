@@ -1,7 +1,7 @@
 //! Cutting a program text into tokens.
 
-ghost use Rattle.std.specs.Prelude.{◌≡◌, ◌+◌, ◌<◌, ◌≤◌, ◌^◌, length, drop, IfOk, IfErr};
-ghost use Rattle.ps_text.specs.Lexing.{next_place, place_of, AreTokens, IsRefused};
+ghost use Rattle.std.specs.Prelude.{◌≡◌, ◌+◌, ◌<◌, ◌≤◌, ◌^◌, length, drop, IfOk, IfErr, All};
+ghost use Rattle.ps_text.specs.Lexing.{next_place, place_of, AreTokens, IsRefused, IsInside};
 ghost use Rattle.ps_text.specs.Scanning.{gap_len, IsFrom};
 
 use crate::place::Place;
@@ -73,6 +73,8 @@ pub fn tokens(alloc: Global, bytes: &[u8]) -> Result<Vec<Token>, TokenEnd>
     requires { length bytes.now + 1 < 2 ^ 32 }
     ensures tokens { IfOk result (λ list. AreTokens bytes.now list.items) }
     ensures bad { IfErr result (IsRefused bytes.now) }
+    // So each token's bytes can be taken out of the text.
+    ensures inside { IfOk result (λ list. All (IsInside (length bytes.now)) list.items) }
 {
     let mut list = Vec::new(alloc);
     let mut at = 0;
