@@ -1,5 +1,5 @@
 -- The bytes that a program is printed as, and trees that are the same but for places.
-use Rattle.std.specs.Prelude.{ℕ, List, [], ◌∷◌, ◌++◌, map, Option, Some, None}
+use Rattle.std.specs.Prelude.{◌≡◌, ℕ, Bool, true, false, List, [], ◌∷◌, ◌++◌, map, Option, Some, None}
 use Rattle.std.specs.List.{flat_map}
 use Rattle.ps_text.specs.Lexing.{spelling}
 use Rattle.ps_text.specs.declared.token_kind.TokenKind.{TokenKind}
@@ -7,7 +7,7 @@ use Rattle.ps_text.specs.declared.token_kind.TokenKind.TheVariants as kind
 use Rattle.ps_syntax.specs.Canonical.{block_text, is_negative, relation_text, stmt_text}
 use Rattle.ps_syntax.specs.Grammar.{BlockText, block_end, block_more, ItemText, global, local, init, ProgramText, ValueText}
 use Rattle.ps_syntax.specs.Names.{Names}
-use Rattle.ps_syntax.specs.Spelling.{Piece, NamePiece, NumberPiece, Mark, program_pieces}
+use Rattle.ps_syntax.specs.Spelling.{Piece, NamePiece, NumberPiece, Mark, minus_pieces, plus_or_minus, program_pieces}
 use Rattle.ps_syntax.specs.declared.global_decl.GlobalDecl.{GlobalDecl}
 use Rattle.ps_syntax.specs.declared.program.Program.{Program}
 use Rattle.ps_syntax.specs.declared.relation.Relation.{Relation}
@@ -56,6 +56,20 @@ byte_after p = 32
 
 abbrev pub printed : List Piece → List ℕ
 printed ps = flat_map (λ (p : Piece). piece_text p ++ byte_after p ∷ []) ps
+
+-- these pieces are put at the end of what was written before
+pub record Puts (old new : List ℕ) (ps : List Piece) : Type 0 where
+  pub is : new ≡ old ++ printed ps
+
+-- the sign before a product of a sum: the first one has none where it isn't negative
+abbrev pub sign_before : Bool → Bool → List Piece
+sign_before true negative = minus_pieces negative
+sign_before false negative = Mark (plus_or_minus negative) ∷ []
+
+-- the word before each member of a condition but the first
+abbrev pub word_between : TokenKind → Bool → List Piece
+word_between k true = []
+word_between k false = Mark k ∷ []
 
 -- the bytes of a program
 abbrev pub printed_program : Program → List ℕ
