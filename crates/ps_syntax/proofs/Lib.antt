@@ -1,3 +1,7 @@
 pub mod Putting
 pub mod Members
 pub mod BlockPieces
+pub mod Spelled
+pub mod SumsBack
+pub mod CondsBack
+pub mod BlocksBack
