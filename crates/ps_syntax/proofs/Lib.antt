@@ -5,3 +5,4 @@ pub mod Spelled
 pub mod SumsBack
 pub mod CondsBack
 pub mod BlocksBack
+pub mod NamesApart
