@@ -6,3 +6,4 @@ pub mod SumsBack
 pub mod CondsBack
 pub mod BlocksBack
 pub mod NamesApart
+pub mod ProgramBack

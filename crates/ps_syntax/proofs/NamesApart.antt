@@ -48,6 +48,10 @@ pub apart_before : (y : List ℕ) (ns ms : List (List ℕ)) → Apart (ns ++ y �
 apart_before y [] ms a = tt
 apart_before y (n ∷ ns) ms a = ((λ (e : n ≡ y). (not_in_right n ns (y ∷ ms) a.0).0 (sym e)), apart_before y ns ms a.1)
 
+pub apart_left : (ns ms : List (List ℕ)) → Apart (ns ++ ms) → Apart ns
+apart_left [] ms a = tt
+apart_left (n ∷ ns) ms a = (not_in_left n ns ms a.0, apart_left ns ms a.1)
+
 -- ---- places of names
 
 no_some : {A : Type 0} (x : A) → Some x ≡ None → ⊥

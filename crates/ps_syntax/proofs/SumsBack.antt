@@ -107,7 +107,7 @@ pub record GoodSum (names : Names) (s : Sum) : Type 0 where
   pub spelled : AreSpelled (sum_pieces (sum_text names s))
   pub back : sum_tree names (sum_text names s) ≡ s
 
-minus_spelled : (b : Bool) → AreSpelled (minus_pieces b)
+pub minus_spelled : (b : Bool) → AreSpelled (minus_pieces b)
 minus_spelled true = (tt, tt)
 minus_spelled false = tt
 
