@@ -19,7 +19,8 @@ use Rattle.ps_syntax.specs.Printed.{stmts_text, unplaced_kind, unplaced_rest}
 use Rattle.ps_syntax.specs.Spelling.{Piece, Mark, cond_pieces, rest_pieces, stmt_pieces, sum_pieces, test_pieces}
 use Rattle.ps_syntax.specs.Trees.{block_trees, cond_tree, stmt_tree, sum_tree, test_tree, variable_named}
 use Rattle.ps_syntax.proofs.BlockPieces.{block_is}
-use Rattle.ps_syntax.proofs.Spelled.{AreSpelled, joined, left, named, right}
+use Rattle.ps_syntax.specs.ReadBack.{AreSpelled}
+use Rattle.ps_syntax.proofs.Spelled.{joined, left, named, right}
 use Rattle.ps_syntax.proofs.SumsBack.{known_again, name_again, sum_good, variable_again}
 use Rattle.ps_syntax.proofs.CondsBack.{GoodTest, cond_good, test_good}
 

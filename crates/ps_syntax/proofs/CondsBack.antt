@@ -13,7 +13,8 @@ use Rattle.ps_syntax.specs.Fits.{CondFits, ConjFits, TestFits, UnaryFits}
 use Rattle.ps_syntax.specs.Grammar.{CondText, last_conj, or_else, ConjText, last_unary, and_also, UnaryText, negation, in_parens, relation, TestText, either, condition}
 use Rattle.ps_syntax.specs.Spelling.{Piece, Mark, cond_pieces, conj_pieces, relation_pieces, test_pieces, unary_pieces}
 use Rattle.ps_syntax.specs.Trees.{cond_members, cond_tree, conj_members, gathered, test_tree, unary_tree}
-use Rattle.ps_syntax.proofs.Spelled.{AreSpelled, joined, left, right}
+use Rattle.ps_syntax.specs.ReadBack.{AreSpelled}
+use Rattle.ps_syntax.proofs.Spelled.{joined, left, right}
 use Rattle.ps_syntax.proofs.SumsBack.{relation_good}
 
 -- ---- more levels fit as well

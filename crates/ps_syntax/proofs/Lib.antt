@@ -7,3 +7,4 @@ pub mod CondsBack
 pub mod BlocksBack
 pub mod NamesApart
 pub mod ProgramBack
+pub mod PrintedTokens

@@ -25,7 +25,8 @@ use Rattle.ps_syntax.specs.Printed.{global_item, init_item, program_text, stmts_
 use Rattle.ps_syntax.specs.Spelling.{Piece, NamePiece, NumberPiece, Mark, item_pieces, minus_pieces, more_relations, program_pieces, relation_pieces, rest_pieces, value_pieces}
 use Rattle.ps_syntax.specs.Sums.{number_value, signed}
 use Rattle.ps_syntax.specs.Trees.{block_trees, program_tree, relation_tree, rows_of_relations, value_of, with_item, with_items}
-use Rattle.ps_syntax.proofs.Spelled.{abs_signed, AreSpelled, decimal_spelled, decimal_value, joined, left, right, signed_abs, value_below}
+use Rattle.ps_syntax.specs.ReadBack.{AreSpelled}
+use Rattle.ps_syntax.proofs.Spelled.{abs_signed, decimal_spelled, decimal_value, joined, left, right, signed_abs, value_below}
 use Rattle.ps_syntax.proofs.SumsBack.{GoodRelation, minus_spelled, relation_good}
 use Rattle.ps_syntax.proofs.BlocksBack.{block_good, without_place}
 use Rattle.ps_syntax.proofs.NamesApart.{Apart, apart_before, apart_insert, apart_left, Extends, global_extends, local_extends, new_from, new_to, NotIn, not_in_both, not_in_left, not_in_right, relation_more}

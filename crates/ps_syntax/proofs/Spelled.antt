@@ -18,18 +18,9 @@ use Rattle.ps_syntax.specs.Names.{Names, first_of, position_from, variable_of}
 use Rattle.ps_syntax.specs.Canonical.{is_negative, name_of}
 use Rattle.ps_syntax.specs.Fits.{IsKnown}
 use Rattle.ps_syntax.specs.Spelling.{Piece, NamePiece, NumberPiece, Mark}
+use Rattle.ps_syntax.specs.ReadBack.{AreSpelled, IsMark}
 use Rattle.ps_syntax.specs.Sums.{number_value, signed}
 use Rattle.ps_syntax.specs.Trees.{variable_named, variable_or_first}
-
--- a name is a word that isn't reserved, and a number has 1 to 18 digits
-abbrev pub IsSpelled : Piece → Type 0
-IsSpelled (NamePiece x) = IsName x
-IsSpelled (NumberPiece n) = IsNumber n
-IsSpelled (Mark k) = Unit {0}
-
-abbrev pub AreSpelled : List Piece → Type 0
-AreSpelled [] = Unit {0}
-AreSpelled (p ∷ ps) = IsSpelled p × AreSpelled ps
 
 pub joined : (ps qs : List Piece) → AreSpelled ps → AreSpelled qs → AreSpelled (ps ++ qs)
 joined [] qs h k = k

@@ -7,14 +7,17 @@ use Rattle.ps_term.specs.declared.var.Var.{Var}
 use Rattle.ps_text.specs.Lexing.{IsName}
 use Rattle.ps_syntax.specs.declared.sum.Sum.{Sum}
 use Rattle.ps_syntax.specs.declared.relation.Relation.{Relation}
+use Rattle.ps_syntax.specs.declared.relation.Sign.{Sign}
+use Rattle.ps_syntax.specs.declared.relation.Sign.TheVariants as sign
 use Rattle.ps_syntax.specs.Names.{Names}
 use Rattle.ps_syntax.specs.Canonical.{is_negative, name_of, product_of, product_text, products_text, relation_text, sum_text}
 use Rattle.ps_syntax.specs.Fits.{IsKnown, ProductFits, RelationFits, SumFits}
 use Rattle.ps_syntax.specs.Grammar.{ProductText, name, name_number, number, number_name, RelationText, SumText}
-use Rattle.ps_syntax.specs.Spelling.{Piece, Mark, further_pieces, minus_pieces, plus_or_minus, product_pieces, relation_pieces, sum_pieces}
+use Rattle.ps_syntax.specs.Spelling.{Piece, Mark, further_pieces, minus_pieces, plus_or_minus, product_pieces, relation_pieces, sign_kind, sum_pieces}
 use Rattle.ps_syntax.specs.Sums.{number_value, signed}
 use Rattle.ps_syntax.specs.Trees.{product_tree, relation_tree, sum_tree, variable_named}
-use Rattle.ps_syntax.proofs.Spelled.{abs_signed, AreSpelled, decimal_spelled, decimal_value, joined, left, named, right, signed_abs, value_below}
+use Rattle.ps_syntax.specs.ReadBack.{AreSpelled, IsMark}
+use Rattle.ps_syntax.proofs.Spelled.{abs_signed, decimal_spelled, decimal_value, joined, left, named, right, signed_abs, value_below}
 
 -- ---- products
 
@@ -91,6 +94,18 @@ pub record GoodFurther (names : Names) (ps : List Term) : Type 0 where
   pub spelled : AreSpelled (further_pieces (further_text names ps))
   pub back : terms_of names (further_text names ps) ≡ ps
 
+sum_mark : (b : Bool) → IsMark (plus_or_minus b)
+sum_mark true = tt
+sum_mark false = tt
+
+sign_mark : (s : Sign) → IsMark (sign_kind s)
+sign_mark sign.Less = tt
+sign_mark sign.LessEq = tt
+sign_mark sign.Greater = tt
+sign_mark sign.GreaterEq = tt
+sign_mark sign.Equal = tt
+sign_mark sign.NotEqual = tt
+
 further_good : (names : Names) (fs : List (Bool × ProductText)) → All (λ (p : Bool × ProductText). ProductFits names p.1) fs → AreSpelled (further_pieces fs) → GoodFurther names (terms_of names fs)
 further_good names [] fit h = record { fits = All-nil (λ (p : Bool × ProductText). ProductFits names p.1); spelled = tt; back = refl }
 further_good names (f ∷ fs) fit h =
@@ -98,7 +113,7 @@ further_good names (f ∷ fs) fit h =
     let r = further_good names fs (All-tail (λ (p : Bool × ProductText). ProductFits names p.1) f fs fit) (right (product_pieces f.1) (further_pieces fs) h.1) in
     record {
       fits = All-cons (λ (q : Bool × ProductText). ProductFits names q.1) (is_negative (signed f.0 (product_tree names f.1)).0, product_of names (signed f.0 (product_tree names f.1))) (further_text names (terms_of names fs)) p.fits r.fits;
-      spelled = (tt, joined (product_pieces (product_of names (signed f.0 (product_tree names f.1)))) (further_pieces (further_text names (terms_of names fs))) p.spelled r.spelled);
+      spelled = (sum_mark (is_negative (signed f.0 (product_tree names f.1)).0), joined (product_pieces (product_of names (signed f.0 (product_tree names f.1)))) (further_pieces (further_text names (terms_of names fs))) p.spelled r.spelled);
       back = ap₂ (λ (q : Term) (qs : List Term). q ∷ qs) p.back r.back;
     }
 
@@ -136,6 +151,6 @@ relation_good names r fit h =
     let b = sum_good names r.right fit.1 (right (sum_pieces r.left) _ h).1 in
     record {
       fits = (a.fits, b.fits);
-      spelled = joined (sum_pieces (sum_text names (sum_tree names r.left))) _ a.spelled (tt, b.spelled);
+      spelled = joined (sum_pieces (sum_text names (sum_tree names r.left))) _ a.spelled (sign_mark r.sign, b.spelled);
       back = ap₂ (λ (x y : Sum). record { left = x; sign = r.sign; right = y }) a.back b.back;
     }

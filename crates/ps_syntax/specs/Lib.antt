@@ -12,3 +12,4 @@ pub mod Trees
 pub mod Fits
 pub mod Canonical
 pub mod Printed
+pub mod ReadBack
