@@ -4,6 +4,7 @@ ghost use Rattle.std.specs.Prelude.{◌≡◌, ◌++◌, [], ◌∷◌, OnOk, If
 ghost use Rattle.std.specs.List.{flat_map};
 ghost use Rattle.ps_syntax.specs.Grammar.{local};
 ghost use Rattle.ps_syntax.specs.Printed.{global_item, init_item, Puts, printed_program, value_text};
+ghost use Rattle.ps_syntax.specs.ReadBack.{IsTreeOfText, ReadsBack};
 ghost use Rattle.ps_syntax.specs.Spelling.{item_pieces, value_pieces};
 
 use crate::global_decl::GlobalDecl;
@@ -22,9 +23,12 @@ use std::alloc::{AllocError, Global};
 /// around an `And` or `Or` inside an `And` or after `!` and around an `Or` inside an `Or`. A variable that isn't
 /// declared has the empty name.
 ///
+/// What is printed of a program that was read is read as the same program, but for places.
+///
 /// It takes time and memory of all that stands in the program, and of the names where they are used.
 pub fn print_program(alloc: Global, program: &Program) -> Result<Vec<u8>, AllocError>
     ensures text { IfOk result (λ text. text.items ≡ printed_program program.now) }
+    ensures again { IfOk result (λ text. IsTreeOfText program.now → ReadsBack text.items program.now) }
 {
     let printer = Printer::new(program.globals.as_slice(), program.locals.as_slice());
     let mut out = Vec::new(alloc);
