@@ -24,3 +24,13 @@ pub mod DeclarationGuards
 pub mod ProgramGuards
 pub mod OneAnswer
 pub mod Examples
+pub mod Putting
+pub mod Members
+pub mod BlockPieces
+pub mod Spelled
+pub mod SumsBack
+pub mod CondsBack
+pub mod BlocksBack
+pub mod NamesApart
+pub mod ProgramBack
+pub mod PrintedTokens

@@ -18,3 +18,6 @@ pub mod Fits
 pub mod Reads
 pub mod Texts
 pub mod Refusals
+pub mod Canonical
+pub mod Printed
+pub mod ReadBack

@@ -11,6 +11,12 @@ mod items;
 mod limit_name;
 mod name;
 mod parser;
+mod print_blocks;
+mod print_conds;
+mod print_sums;
+mod print_words;
+mod printer;
+mod printing;
 mod program;
 mod read_refusal;
 mod reading;
@@ -27,6 +33,7 @@ pub use cond::{Cond, Test};
 pub use global_decl::GlobalDecl;
 pub use limit_name::LimitName;
 pub use name::Name;
+pub use printing::print_program;
 pub use program::Program;
 pub use read_refusal::ReadRefusal;
 pub use reading::read_program;
@@ -35,5 +42,7 @@ pub use relation::{Relation, Sign};
 pub use stmt::{Stmt, StmtKind};
 pub use sum::Sum;
 
+#[cfg(test)]
+mod printing_tests;
 #[cfg(test)]
 mod tests;

@@ -1,0 +1,7 @@
+use Rattle.std.proofs.Common.{subst, sym}
+use Rattle.ps_syntax.specs.Printed.{Puts, word_between}
+use Rattle.ps_syntax.proofs.Putting.{nothing}
+use Rattle.ps_syntax.proofs.print_conds.put_between.Goals as goal
+
+pub returns-then-is_first : goal.returns-then-is_first
+returns-then-is_first c = rw c.if-is_first.true (nothing c.args.out.now.items)
