@@ -34,3 +34,4 @@ pub mod BlocksBack
 pub mod NamesApart
 pub mod ProgramBack
 pub mod PrintedTokens
+pub mod RoundTrip

@@ -1,5 +1,5 @@
 -- Which program a text of bytes is, and what it is read as.
-use Rattle.std.specs.Prelude.{ℕ, List, length}
+use Rattle.std.specs.Prelude.{◌≡◌, ℕ, List, length}
 use Rattle.ps_text.specs.declared.place.Place.{Place}
 use Rattle.ps_text.specs.declared.token.Token.{Token}
 use Rattle.ps_text.specs.Lexing.{AreTokens, IsBadAt, place_of}
@@ -8,6 +8,7 @@ use Rattle.ps_text.specs.declared.token_end.TokenEnd.{TokenEnd}
 use Rattle.ps_text.specs.declared.token_end.TokenEnd.TheVariants as token
 use Rattle.ps_syntax.specs.declared.read_refusal.ReadRefusal.{ReadRefusal}
 use Rattle.ps_syntax.specs.declared.read_refusal.ReadRefusal.TheVariants as refusal
+use Rattle.ps_syntax.specs.Printed.{unplaced}
 use Rattle.ps_syntax.specs.Reads.{IsProgramText, IsFirstFault, StandsInText}
 use Rattle.ps_syntax.specs.Words.{words_of}
 
@@ -54,3 +55,9 @@ abbrev pub RefusalIsInText : List ℕ → ReadRefusal → Type 0
 RefusalIsInText bytes (refusal.Token place) = Unit {0}
 RefusalIsInText bytes (refusal.Memory e) = Unit {0}
 RefusalIsInText bytes refused = IsInText bytes refused
+
+-- The text is a program that is the same as another but for places.
+pub record IsSameProgram (bytes : List ℕ) (other : Program) : Type 0 where
+  pub program : Program
+  pub is : IsProgram bytes program
+  pub same : unplaced program ≡ unplaced other

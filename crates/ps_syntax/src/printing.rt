@@ -1,11 +1,12 @@
 //! Printing programs.
 
-ghost use Rattle.std.specs.Prelude.{◌≡◌, ◌++◌, [], ◌∷◌, OnOk, IfOk, map};
+ghost use Rattle.std.specs.Prelude.{◌≡◌, ◌++◌, [], ◌∷◌, ℕ, List, OnOk, IfOk, map};
 ghost use Rattle.std.specs.List.{flat_map};
 ghost use Rattle.ps_syntax.specs.Grammar.{local};
 ghost use Rattle.ps_syntax.specs.Printed.{global_item, init_item, Puts, printed_program, value_text};
 ghost use Rattle.ps_syntax.specs.ReadBack.{IsTreeOfText, ReadsBack};
 ghost use Rattle.ps_syntax.specs.Spelling.{item_pieces, value_pieces};
+ghost use Rattle.ps_syntax.specs.Texts.{IsProgram, IsSameProgram};
 
 use crate::global_decl::GlobalDecl;
 use crate::name::Name;
@@ -29,6 +30,8 @@ use std::alloc::{AllocError, Global};
 pub fn print_program(alloc: Global, program: &Program) -> Result<Vec<u8>, AllocError>
     ensures text { IfOk result (λ text. text.items ≡ printed_program program.now) }
     ensures again { IfOk result (λ text. IsTreeOfText program.now → ReadsBack text.items program.now) }
+    // What is printed of a program that a text is, is that program again, but for places.
+    ensures same { IfOk result (λ text. (bytes : List ℕ) → IsProgram bytes program.now → IsSameProgram text.items program.now) }
 {
     let printer = Printer::new(program.globals.as_slice(), program.locals.as_slice());
     let mut out = Vec::new(alloc);

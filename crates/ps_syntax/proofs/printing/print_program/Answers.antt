@@ -11,6 +11,8 @@ use Rattle.ps_syntax.specs.Spelling.{block_pieces, item_pieces}
 use Rattle.ps_syntax.proofs.BlockPieces.{whole}
 use Rattle.ps_syntax.proofs.PrintedTokens.{reads_back}
 use Rattle.ps_syntax.proofs.Putting.{chain, respell}
+use Rattle.ps_syntax.proofs.RoundTrip.{round_trip}
+use Rattle.ps_syntax.specs.Texts.{IsProgram}
 use Rattle.ps_syntax.proofs.printing.print_program.Goals as goal
 
 abbrev names_of_lists : List GlobalDecl → List (List ℕ) → Names
@@ -25,4 +27,5 @@ returns c =
     let block = respell (ap₂ (λ (n : Names) (b : List Stmt). block_pieces (stmts_text n b)) (sym names) (sym c.as_slice-6.ensures)) c.in_ok-put_block.ensures in
     let start : Puts [] c.new-out.result.items [] = search rules in
     let text : c.put_block.new.out.items ≡ printed_program c.args.program.now = whole c.args.program.now (chain start (chain globals (chain locals (chain inits (chain c.in_ok-put_mark.ensures block))))) in
-    record { text = text; again = λ (h : IsTreeOfText c.args.program.now). subst (λ (bytes : List ℕ). ReadsBack bytes c.args.program.now) (sym text) (reads_back c.args.program.now h) }
+    let again : IsTreeOfText c.args.program.now → ReadsBack c.put_block.new.out.items c.args.program.now = λ (h : IsTreeOfText c.args.program.now). subst (λ (bytes : List ℕ). ReadsBack bytes c.args.program.now) (sym text) (reads_back c.args.program.now h) in
+    record { text = text; again = again; same = λ (bytes : List ℕ) (h : IsProgram bytes c.args.program.now). round_trip bytes c.put_block.new.out.items c.args.program.now again h }
