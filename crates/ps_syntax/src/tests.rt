@@ -238,7 +238,7 @@ fn answers_on_names(rt: HostRuntime) -> Result<(), Fail> {
         ("local a; local a 1;", "1:16 name twice"),
         ("local a; global a = 9; init b > 0;", "1:17 name twice"),
         ("local a; init b > 0; global a;", "1:15 unknown name"),
-        ("local a 1 local a;", "1:9 grammar"),
+        ("global x; thread { assume x ! y > 1; }", "1:29 grammar"),
         (
             "global x; thread { x := x * x; atomic { while",
             "1:29 not linear",
