@@ -75,7 +75,7 @@ while_good names n inside t b still g some h =
     by_text names n inside (stmt.While t b) (while_do (test_text names t) (stmts_text names b)) (ap (while_do (test_text names t)) (block_is names b)) (still, g.fits, some, h.fits)
     (tt, joined (test_pieces (test_text names t)) (Mark kind.OpenBrace ∷ rest_pieces (stmts_text names b)) g.spelled (tt, h.spelled))
     (λ places. let left_over = drop (length (test_pieces (test_text names t)) + 2) places in
-               unplaced_while (test_tree names (test_text names t)) (block_trees names (stmts_text names b) left_over) ∙ ap₂ (λ (x : Test) (y : List Stmt). stmt.While x y) g.back (h.back left_over) ∙ sym (unplaced_while t b))
+    unplaced_while (test_tree names (test_text names t)) (block_trees names (stmts_text names b) left_over) ∙ ap₂ (λ (x : Test) (y : List Stmt). stmt.While x y) g.back (h.back left_over) ∙ sym (unplaced_while t b))
 
 if_words : (names : Names) (t : Test) (a b : List Stmt) → stmt_text names (stmt.If t a b) ≡ if_text (test_text names t) (stmts_text names a) (stmts_text names b)
 if_words names t a b = ap₂ (λ (y z : BlockText). if_text (test_text names t) y z) (block_is names a) (block_is names b)
@@ -86,17 +86,19 @@ if_good names n inside t a [] g some h k =
     by_text names n inside (stmt.If t a []) (if_then (test_text names t) (stmts_text names a)) (if_words names t a []) (g.fits, some, h.fits)
     (tt, joined (test_pieces (test_text names t)) (Mark kind.OpenBrace ∷ rest_pieces (stmts_text names a)) g.spelled (tt, h.spelled))
     (λ places. let left_over = drop (length (test_pieces (test_text names t)) + 2) places in
-               unplaced_if (test_tree names (test_text names t)) (block_trees names (stmts_text names a) left_over) [] ∙ ap₂ (λ (x : Test) (y : List Stmt). stmt.If x y []) g.back (h.back left_over) ∙ sym (unplaced_if t a []))
+    unplaced_if (test_tree names (test_text names t)) (block_trees names (stmts_text names a) left_over) [] ∙ ap₂ (λ (x : Test) (y : List Stmt). stmt.If x y []) g.back (h.back left_over) ∙ sym (unplaced_if t a []))
 if_good names n inside t a (s ∷ b) g some h k =
-    by_text names n inside (stmt.If t a (s ∷ b)) (if_else (test_text names t) (stmts_text names a) (stmts_text names (s ∷ b))) (if_words names t a (s ∷ b)) (g.fits, some, h.fits, k.fits)
-    (tt, joined (test_pieces (test_text names t)) (Mark kind.OpenBrace ∷ (rest_pieces (stmts_text names a) ++ Mark kind.Else ∷ Mark kind.OpenBrace ∷ rest_pieces (stmts_text names (s ∷ b)))) g.spelled
-         (tt, joined (rest_pieces (stmts_text names a)) (Mark kind.Else ∷ Mark kind.OpenBrace ∷ rest_pieces (stmts_text names (s ∷ b))) h.spelled (tt, (tt, k.spelled))))
+    by_text names n inside (stmt.If t a (s ∷ b)) (if_else (test_text names t) (stmts_text names a) (stmts_text names (s ∷ b))) (if_words names t a (s ∷ b)) (g.fits, some, h.fits, k.fits) (
+      tt,
+      joined (test_pieces (test_text names t)) (Mark kind.OpenBrace ∷ (rest_pieces (stmts_text names a) ++ Mark kind.Else ∷ Mark kind.OpenBrace ∷ rest_pieces (stmts_text names (s ∷ b)))) g.spelled
+          (tt, joined (rest_pieces (stmts_text names a)) (Mark kind.Else ∷ Mark kind.OpenBrace ∷ rest_pieces (stmts_text names (s ∷ b))) h.spelled (tt, (tt, k.spelled))),
+    )
     (λ places. let first = drop (length (test_pieces (test_text names t)) + 2) places in
-               let second = drop (length (rest_pieces (stmts_text names a)) + (length (test_pieces (test_text names t)) + 4)) places in
-               unplaced_if (test_tree names (test_text names t)) (block_trees names (stmts_text names a) first) (block_trees names (stmts_text names (s ∷ b)) second)
-               ∙ ap₂ (λ (x : Test) (y : List Stmt). stmt.If x y (map without_place (block_trees names (stmts_text names (s ∷ b)) second))) g.back (h.back first)
-               ∙ ap (λ (z : List Stmt). stmt.If t (map without_place a) z) (k.back second)
-               ∙ sym (unplaced_if t a (s ∷ b)))
+    let second = drop (length (rest_pieces (stmts_text names a)) + (length (test_pieces (test_text names t)) + 4)) places in
+    unplaced_if (test_tree names (test_text names t)) (block_trees names (stmts_text names a) first) (block_trees names (stmts_text names (s ∷ b)) second)
+    ∙ ap₂ (λ (x : Test) (y : List Stmt). stmt.If x y (map without_place (block_trees names (stmts_text names (s ∷ b)) second))) g.back (h.back first)
+    ∙ ap (λ (z : List Stmt). stmt.If t (map without_place a) z) (k.back second)
+    ∙ sym (unplaced_if t a (s ∷ b)))
 
 -- ---- the statements of texts
 

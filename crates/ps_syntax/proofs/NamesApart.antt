@@ -107,7 +107,7 @@ global_by gs ls y x (Some k) l new e f known = ap (λ (o : Option ℕ). one_of o
 global_by gs ls y x None (Some k) new e f known =
     ap (λ (o : Option ℕ). one_of o (Some k))
     (missing 0 x (gs ++ y ∷ []) (not_in_both x gs (y ∷ []) (absent 0 x gs e)
-        ((λ (same : y ≡ x). no_some k (sym f ∙ missing 0 x ls (subst (λ (z : List ℕ). NotIn z ls) same new))), tt)))
+    ((λ (same : y ≡ x). no_some k (sym f ∙ missing 0 x ls (subst (λ (z : List ℕ). NotIn z ls) same new))), tt)))
 global_by gs ls y x None None new e f known = absurd (known refl)
 
 pub global_extends : (gs ls : List (List ℕ)) (y : List ℕ) → NotIn y ls → Extends (record { globals = gs; locals = ls }) (record { globals = gs ++ y ∷ []; locals = ls })

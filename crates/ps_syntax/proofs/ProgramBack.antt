@@ -155,9 +155,10 @@ RelationOk names s = RelationFits names s × (s.sign ≢ sign.NotEqual)
 inits_read : (names : Names) (ts : List RelationText) → All (RelationOk names) ts → AreSpelled (more_relations ts) → AllInits names (map (relation_tree names) ts)
 inits_read names [] fit h = tt
 inits_read names (t ∷ ts) fit h =
-    let one = All-head (RelationOk names) t ts fit in
-    (record { text = t; fits = one.0; spelled = left (relation_pieces t) (more_relations ts) h.1; is = refl; sign = one.1 },
-     inits_read names ts (All-tail (RelationOk names) t ts fit) (right (relation_pieces t) (more_relations ts) h.1))
+    let one = All-head (RelationOk names) t ts fit in (
+      record { text = t; fits = one.0; spelled = left (relation_pieces t) (more_relations ts) h.1; is = refl; sign = one.1 },
+      inits_read names ts (All-tail (RelationOk names) t ts fit) (right (relation_pieces t) (more_relations ts) h.1),
+    )
 
 fine_init : (d : Declared) (r : RelationText) (rs : List RelationText) → ItemFits d (init r rs) → AreSpelled (item_pieces (init r rs)) → Fine d → Fine (with_item d (init r rs))
 fine_init d r rs fit h f =
@@ -215,9 +216,10 @@ leads_join from next to (i ∷ is) js l m =
 
 value_good : (v : Option ℤ) → ValueOk v → (value_of (value_text v) ≡ v) × AreSpelled (value_pieces (value_text v))
 value_good None h = (refl, tt)
-value_good (Some z) h =
-    (ap (λ (m : ℤ). Some (signed (is_negative z) (m, None)).0) (decimal_value (unsigned_abs z) h) ∙ ap (λ (p : ℤ × Option Var). Some p.0) (signed_abs z None),
-     (tt, joined (minus_pieces (is_negative z)) (NumberPiece (decimal (unsigned_abs z)) ∷ []) (minus_spelled (is_negative z)) (decimal_spelled (unsigned_abs z) h, tt)))
+value_good (Some z) h = (
+  ap (λ (m : ℤ). Some (signed (is_negative z) (m, None)).0) (decimal_value (unsigned_abs z) h) ∙ ap (λ (p : ℤ × Option Var). Some p.0) (signed_abs z None),
+  (tt, joined (minus_pieces (is_negative z)) (NumberPiece (decimal (unsigned_abs z)) ∷ []) (minus_spelled (is_negative z)) (decimal_spelled (unsigned_abs z) h, tt)),
+)
 
 abbrev with_rows : List GlobalDecl → List (List ℕ) → List Relation → ℕ → Declared
 with_rows gs ls rs n = record { globals = gs; locals = ls; inits = rs; rows = n }
@@ -261,9 +263,10 @@ locals_again gs all before (x ∷ ls) e apart ok few rows =
 -- ---- relations of the start
 
 init_good : (names : Names) (r : Relation) → InitOk names r → GoodRelation names r × (r.sign ≢ sign.NotEqual)
-init_good names r i =
-    (subst (λ (q : Relation). GoodRelation names q) (sym i.is) (relation_good names i.text i.fits i.spelled),
-     λ (e : r.sign ≡ sign.NotEqual). i.sign (sym (ap (λ (q : Relation). q.sign) i.is) ∙ e))
+init_good names r i = (
+  subst (λ (q : Relation). GoodRelation names q) (sym i.is) (relation_good names i.text i.fits i.spelled),
+  λ (e : r.sign ≡ sign.NotEqual). i.sign (sym (ap (λ (q : Relation). q.sign) i.is) ∙ e),
+)
 
 inits_again : (gs : List GlobalDecl) (ls : List (List ℕ)) (all before rs : List Relation) → all ≡ before ++ rs → AllInits (names_of (state gs ls [])) rs → value_rows gs + sign_rows all ≤ most_rows → LeadsTo (state gs ls before) (state gs ls all) (map (init_item (names_of (state gs ls []))) rs)
 inits_again gs ls all before [] e ok rows = leads_none (state gs ls before) (state gs ls all) (ap (λ (rs : List Relation). state gs ls rs) (sym (e ∙ append-nil before)))
@@ -272,7 +275,7 @@ inits_again gs ls all before (r ∷ rs) e ok rows =
     let good = init_good names r ok.0 in
     let sums : (value_rows gs + sign_rows before) + (rows_of_sign r.sign + 0) ≡ value_rows gs + sign_rows (before ++ r ∷ []) = omega (arith, sign_rows-append before (r ∷ [])) in
     let next : with_item (state gs ls before) (init_item names r) ≡ state gs ls (before ++ r ∷ []) =
-        ap (λ (q : Relation). with_rows gs ls (before ++ q ∷ []) ((value_rows gs + sign_rows before) + (rows_of_sign r.sign + 0))) good.0.back ∙ ap (λ (n : ℕ). with_rows gs ls (before ++ r ∷ []) n) sums in
+    ap (λ (q : Relation). with_rows gs ls (before ++ q ∷ []) ((value_rows gs + sign_rows before) + (rows_of_sign r.sign + 0))) good.0.back ∙ ap (λ (n : ℕ). with_rows gs ls (before ++ r ∷ []) n) sums in
     let fit : (with_item (state gs ls before) (init_item names r)).rows ≤ most_rows = omega (arith, rows, ap sign_rows e, sign_rows-append before (r ∷ rs), sign_rows-append before (r ∷ []), ap (λ (d : Declared). d.rows) next) in
     leads_more (state gs ls before) (state gs ls (before ++ r ∷ [])) (state gs ls all) (init_item names r) (map (init_item names) rs)
     (All-cons (RelationOk names) (relation_text names r) [] (good.0.fits, good.1) (All-nil (RelationOk names)), fit) next
@@ -307,7 +310,7 @@ program_back t places others fit h =
     let ls = locals_again d.globals d.locals [] d.locals refl f.apart f.locals f.many_locals values in
     let is = inits_again d.globals d.locals d.inits [] d.inits refl f.inits rows in
     let all = leads_join (state [] [] []) (state d.globals [] []) (state d.globals d.locals d.inits) (map global_item d.globals) (map local d.locals ++ map (init_item names) d.inits) gs
-        (leads_join (state d.globals [] []) (state d.globals d.locals []) (state d.globals d.locals d.inits) (map local d.locals) (map (init_item names) d.inits) ls is) in
+    (leads_join (state d.globals [] []) (state d.globals d.locals []) (state d.globals d.locals d.inits) (map local d.locals) (map (init_item names) d.inits) ls is) in
     let block = block_good names (most_levels - 1) false t.body fit.body last (drop (length (flat_map item_pieces t.items) + 2) places) in
     let later = drop (length (flat_map item_pieces (program_text p).items) + 2) others in
     record {

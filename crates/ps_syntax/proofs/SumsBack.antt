@@ -50,15 +50,17 @@ times_by : (names : Names) (z : ℤ) (x : List ℕ) → unsigned_abs z < 10 ^ 18
     → (p : ProductText) → p ≡ (if t then name (name_of names (variable_named names x)) else number_name (decimal (unsigned_abs z)) (name_of names (variable_named names x)))
     → ProductFits names p × AreSpelled (product_pieces p) × (signed (is_negative z) (product_tree names p) ≡ (z, Some (variable_named names x)))
 times_by names z x small known is true one p e =
-    subst (λ (q : ProductText). ProductFits names q × AreSpelled (product_pieces q) × (signed (is_negative z) (product_tree names q) ≡ (z, Some (variable_named names x)))) (sym e)
-    (known_again names x known,
-     (name_again names x known is, tt),
-     ap₂ (λ (m : ℕ) (v : Var). signed (is_negative z) (pos m, Some v)) (sym (one_is (unsigned_abs z) one)) (variable_again names x known) ∙ signed_abs z (Some (variable_named names x)))
+    subst (λ (q : ProductText). ProductFits names q × AreSpelled (product_pieces q) × (signed (is_negative z) (product_tree names q) ≡ (z, Some (variable_named names x)))) (sym e) (
+      known_again names x known,
+      (name_again names x known is, tt),
+      ap₂ (λ (m : ℕ) (v : Var). signed (is_negative z) (pos m, Some v)) (sym (one_is (unsigned_abs z) one)) (variable_again names x known) ∙ signed_abs z (Some (variable_named names x)),
+    )
 times_by names z x small known is false other p e =
-    subst (λ (q : ProductText). ProductFits names q × AreSpelled (product_pieces q) × (signed (is_negative z) (product_tree names q) ≡ (z, Some (variable_named names x)))) (sym e)
-    (known_again names x known,
-     (decimal_spelled (unsigned_abs z) small, (tt, (name_again names x known is, tt))),
-     ap₂ (λ (m : ℤ) (v : Var). signed (is_negative z) (m, Some v)) (decimal_value (unsigned_abs z) small) (variable_again names x known) ∙ signed_abs z (Some (variable_named names x)))
+    subst (λ (q : ProductText). ProductFits names q × AreSpelled (product_pieces q) × (signed (is_negative z) (product_tree names q) ≡ (z, Some (variable_named names x)))) (sym e) (
+      known_again names x known,
+      (decimal_spelled (unsigned_abs z) small, (tt, (name_again names x known is, tt))),
+      ap₂ (λ (m : ℤ) (v : Var). signed (is_negative z) (m, Some v)) (decimal_value (unsigned_abs z) small) (variable_again names x known) ∙ signed_abs z (Some (variable_named names x)),
+    )
 
 times_good : (names : Names) (z : ℤ) (x : List ℕ) → unsigned_abs z < 10 ^ 18 → IsKnown names x → IsName x → GoodProduct names (z, Some (variable_named names x))
 times_good names z x small known is =
