@@ -3,6 +3,12 @@
 
 mod answer;
 mod program;
+#[cfg(test)]
+mod program_printing;
+#[cfg(test)]
+mod program_refusals;
+#[cfg(test)]
+mod program_trees;
 mod refute;
 mod status;
 mod texts;

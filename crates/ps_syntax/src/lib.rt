@@ -41,8 +41,3 @@ pub use refusal_lines::refusal_line;
 pub use relation::{Relation, Sign};
 pub use stmt::{Stmt, StmtKind};
 pub use sum::Sum;
-
-#[cfg(test)]
-mod printing_tests;
-#[cfg(test)]
-mod tests;

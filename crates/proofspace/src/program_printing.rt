@@ -1,12 +1,9 @@
-// Trees that were built by hand, and their texts as the grammar has them.
-use crate::cond::{Cond, Test};
-use crate::global_decl::GlobalDecl;
-use crate::name::Name;
-use crate::printing::print_program;
-use crate::program::Program;
-use crate::relation::{Relation, Sign};
-use crate::stmt::{Stmt, StmtKind};
-use crate::sum::Sum;
+//! Programs that are printed: trees built by hand, with their texts as the grammar has them, and texts that are read,
+//! printed and read again.
+use ps_syntax::{
+    Cond, GlobalDecl, Name, Program, Relation, Sign, Stmt, StmtKind, Sum, Test, print_program,
+    read_program,
+};
 use ps_term::Var;
 use ps_text::Place;
 use sqlite_items::{Boxed, Items};
@@ -283,5 +280,65 @@ fn prints_declarations(rt: HostRuntime) -> Result<(), Fail> {
     let want =
         "global x = - 4 ;\nglobal total = 0 ;\nglobal _y1 ;\nlocal k ;\nlocal i ;\ninit x <= - 1 ;\ninit i == 3 ;\nthread {\nskip ;\n}\n";
     assert_eq!(rt; got.as_slice(), want.as_bytes());
+    Ok(())
+}
+
+// ---- texts
+
+const INC: &str = "global x = 0; thread { x := x + 1; assert x >= 1; }";
+
+const LOCK: &str =
+    "global lock = 0; thread { atomic { assume lock == 0; lock := 1; } assert lock == 1; lock := 0; }";
+
+const RACE: &str = "global x = 0; local t; thread { t := x; x := t + 1; assert x == t + 1; }";
+
+const HALF: &str = "global x; global y; thread { assume 2 * x == 3 * y + 1; assert 1 <= 0; }";
+
+const BIG: &str =
+    "global x; thread { x := 100000000000000000 * x; x := 100000000000000000 * x; x := 100000000000000000 * x; assert x >= 0; }";
+
+const BRANCH: &str =
+    "global x = 0; thread { x := x + 1; if (*) { } else { skip; } assert x >= 1; assert x >= 1; }";
+
+const POOL: &str =
+    "// workers that share one guarded section and count finished jobs\nglobal lock = 0;\nglobal busy = 0;\nglobal done = 0;\nlocal n;\ninit n >= 0;\n\nthread {\n  while (n > 0) {\n    atomic {\n      assume lock == 0;\n      lock := 1;\n    }\n    busy := 1;\n    if (*) {\n      done := done + 1;\n      assert done >= 1;\n    } else {\n      skip;\n    }\n    assert busy == 1;\n    busy := 0;\n    lock := 0;\n    n := n - 1;\n  }\n}\n";
+
+/// What the program of a text is printed as.
+fn printed(alloc: Global, text: &[u8]) -> Result<Vec<u8>, Fail> {
+    if text.len() > 10_000 {
+        return Ok(Vec::new(alloc));
+    }
+    let program = read_program(alloc, text).map_err(|_| AllocError)?;
+    Ok(print_program(alloc, &program)?)
+}
+
+#[test]
+fn what_is_read_is_printed_word_by_word(rt: HostRuntime) -> Result<(), Fail> {
+    let table = [
+        (INC, "global x = 0 ;\nthread {\nx := x + 1 ;\nassert x >= 1 ;\n}\n"),
+        (
+            BRANCH,
+            "global x = 0 ;\nthread {\nx := x + 1 ;\nif ( * ) {\n}\nelse {\nskip ;\n}\nassert x >= 1 ;\nassert x >= 1 ;\n}\n",
+        ),
+        // One `init` for each relation, coefficients in front, no needless parentheses, and no empty `else`.
+        (
+            "local t; global x = -007; init x * 2 < 1 && t >= 0; thread { if ((x > 0) && (!(t < 1))) { } else { } }",
+            "global x = - 7 ;\nlocal t ;\ninit 2 * x < 1 ;\ninit t >= 0 ;\nthread {\nif ( x > 0 && ! t < 1 ) {\n}\n}\n",
+        ),
+    ];
+    for (text, want) in table {
+        assert_eq!(rt; printed(rt.alloc(), text.as_bytes())?.as_slice(), want.as_bytes(), "at {text}");
+    }
+    Ok(())
+}
+
+#[test]
+fn programs_are_printed_and_read_again(rt: HostRuntime) -> Result<(), Fail> {
+    let alloc = rt.alloc();
+    for text in [INC, LOCK, RACE, HALF, BIG, BRANCH, POOL] {
+        let once = printed(alloc, text.as_bytes())?;
+        let again = printed(alloc, once.as_slice())?;
+        assert_eq!(rt; again.as_slice(), once.as_slice(), "at {text}");
+    }
     Ok(())
 }
