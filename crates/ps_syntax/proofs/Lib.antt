@@ -37,3 +37,4 @@ pub mod NamesApart
 pub mod ProgramBack
 pub mod PrintedTokens
 pub mod RoundTrip
+pub mod CauseSteps
