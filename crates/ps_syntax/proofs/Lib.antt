@@ -38,3 +38,4 @@ pub mod ProgramBack
 pub mod PrintedTokens
 pub mod RoundTrip
 pub mod CauseSteps
+pub mod ItemCauses
