@@ -36,3 +36,4 @@ pub mod ProgramBack
 pub mod PrintedTokens
 pub mod RoundTrip
 pub mod CauseSteps
+pub mod SumCauses
