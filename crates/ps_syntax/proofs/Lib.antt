@@ -37,3 +37,4 @@ pub mod PrintedTokens
 pub mod RoundTrip
 pub mod CauseSteps
 pub mod SumCauses
+pub mod CondCauses
