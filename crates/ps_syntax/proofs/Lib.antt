@@ -38,3 +38,4 @@ pub mod RoundTrip
 pub mod CauseSteps
 pub mod SumCauses
 pub mod CondCauses
+pub mod StmtCauses
