@@ -22,6 +22,8 @@ pub mod CondGuards
 pub mod StmtGuards
 pub mod DeclarationGuards
 pub mod ProgramGuards
+pub mod ItemRows
+pub mod NamesDeclared
 pub mod OneAnswer
 pub mod Examples
 pub mod Putting
