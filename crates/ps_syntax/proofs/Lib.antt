@@ -41,3 +41,4 @@ pub mod CauseSteps
 pub mod SumCauses
 pub mod CondCauses
 pub mod StmtCauses
+pub mod CauseExamples

@@ -46,6 +46,10 @@ matches_block false ls h = λ c.
 matches_atomic : (ls : List Level) → Matches true (atomic_block ∷ ls)
 matches_atomic ls = Contains-append_left (atomic_block ∷ []) ls atomic_block (Contains-push [] atomic_block)
 
+-- in the body none is open
+pub outside : Matches false (block_level false ∷ [])
+outside = matches_block false [] (λ c. omega (arith, c.1))
+
 settled_block : (after : Bool) (ls : List Level) → settled (block_level after ∷ ls) ≡ block_level after ∷ ls
 settled_block true ls = refl
 settled_block false ls = refl
