@@ -39,3 +39,7 @@ pub mod PrintedTokens
 pub mod RoundTrip
 pub mod CauseSteps
 pub mod ItemCauses
+pub mod SumCauses
+pub mod CondCauses
+pub mod StmtCauses
+pub mod CauseExamples
