@@ -25,6 +25,7 @@ use Rattle.ps_syntax.proofs.Guards.{Keeps, keeps_end, keeps_found, keeps_more}
 use Rattle.ps_syntax.proofs.ItemRows.{ones, weight, count_of_weight, Tallies, item_tallies}
 use Rattle.ps_syntax.proofs.NamesDeclared.{has_name, Knows, knows_none, knows_global, knows_local, contains_named, named_contains, contains_known, not_contains}
 use Rattle.ps_syntax.proofs.CauseSteps.{Whole, In, Blamed, Allows, no_cause, kind_clash, test_clash, has_causes, plain, stepped, Fresh, joins, fresh_word, level_word, blame, fresh_linear, least_limit, then_keeps, if_keeps, after_keeps, found_word, word_keeps}
+use Rattle.ps_syntax.proofs.SumCauses.{Past, LevelsAre, mark_keeps, while_keeps}
 
 -- ---- between two words
 
@@ -39,6 +40,12 @@ pub record Reaches (t : Whole) (names : Names) (at : At) : Type 0 where
   pub back : List Word
   pub stands : Stands t names back at
 
+reached : {A : Type 0} {t : Whole} {names : Names} (y : A × At) → Past t names (LevelsAre []) y → Reaches t names y.1
+reached y p = record { back = p.back; stands = record { inside = p.here; fresh = p.fresh; level = p.so } }
+
+past_of : {A : Type 0} {t : Whole} {names : Names} (y : A × At) → Reaches t names y.1 → Past t names (LevelsAre []) y
+past_of y r = record { back = r.back; here = r.stands.inside; fresh = r.stands.fresh; so = r.stands.level }
+
 -- A reading function goes on from there to there.
 pub record Passes {A : Type 0} (t : Whole) (names : Names) (read : Read A) : Type 0 where
   pub law : (at : At) → Reaches t names at → Keeps (read at) (λ y. Reaches t names y.1) (Blamed t)
@@ -51,18 +58,10 @@ record IsPlain (k : TokenKind) : Type 0 where
   pub level : levels_with false k [] ≡ []
 
 passes_word : {t : Whole} {names : Names} (k : TokenKind) → IsPlain k → Passes t names (word_at k)
-passes_word {t = t} {names = names} k p = record {
+passes_word k p = record {
   law = λ at r.
-      keeps_more _ _ _ _ _ (word_keeps k r.stands.inside (fresh_linear at.words r.stands.fresh) r.stands.fresh.declaration (λ w ahead e. plain t r.back w ahead k p.causes e))
-      (λ y q. record {
-        back = y.0 ∷ r.back;
-        stands = record {
-          inside = q.1;
-          fresh = subst (λ (b : Bool). Fresh b (y.0 ∷ r.back)) p.atomic (fresh_word k r.back p.joins q.0);
-          level = level_word y.0 k r.back false [] q.0 r.stands.fresh.atomic r.stands.level ∙ p.level;
-        };
-      })
-      (λ e b. b);
+      keeps_more _ _ _ _ _ (mark_keeps k p.causes p.joins p.atomic r.stands.inside r.stands.fresh r.stands.level)
+      (λ y q. reached y (record { back = q.back; here = q.here; fresh = q.fresh; so = q.so ∙ p.level })) (λ e b. b);
 }
 
 passes_after : {A : Type 0} {t : Whole} {names : Names} {read : Read A} (k : TokenKind) → IsPlain k → Passes t names read → Passes t names (after_word k read)
@@ -78,16 +77,14 @@ passes_ended h = record {
       then_keeps _ _ _ _ _ ((passes_word kind.Semicolon (record { causes = refl; joins = refl; atomic = refl; level = refl })).law x.1 p) (λ w q. keeps_end _ _ _ q));
 }
 
-while_keeps : {A : Type 0} {t : Whole} {names : Names} {read : Read A} (goes : At → Bool) (m : ℕ) → Passes t names read → (at : At) → Reaches t names at → Keeps (while_at goes read m at) (λ y. Reaches t names y.1) (Blamed t)
-unfolding while_at
-while_keeps goes zero h at r = keeps_end _ _ _ r
-while_keeps goes (suc m) h at r =
-    if_keeps (goes at) _ _ _ _
-    (λ e. then_keeps _ _ _ _ _ (h.law at r) (λ x p. then_keeps _ _ _ _ _ (while_keeps goes m h x.1 p) (λ xs q. keeps_end _ _ _ q)))
-    (λ e. keeps_end _ _ _ r)
-
 passes_while : {A : Type 0} {t : Whole} {names : Names} {read : Read A} (goes : At → Bool) (m : ℕ) → Passes t names read → Passes t names (while_at goes read m)
-passes_while goes m h = record { law = λ at r. while_keeps goes m h at r }
+passes_while {t = t} {names = names} {read = read} goes m h = record {
+  law = λ at r.
+      keeps_more _ _ _ _ _
+      (while_keeps t names (LevelsAre []) goes read (λ back next inside fresh level on. keeps_more _ _ _ _ _ (h.law next (record { back = back; stands = record { inside = inside; fresh = fresh; level = level } })) (λ y p. past_of y p) (λ e b. b))
+      m r.back at r.stands.inside r.stands.fresh r.stands.level)
+      (λ y p. reached y p) (λ e b. b);
+}
 
 -- ---- values
 

@@ -20,7 +20,7 @@ use Rattle.ps_syntax.specs.Trees.{value_of, rows_of_relations, with_item}
 use Rattle.ps_syntax.specs.Words.{Word, At, is_kind, place_at}
 use Rattle.ps_syntax.proofs.Steps.{kind_of, kind_of_piece, takes_pieces, Ahead, ahead_so, Finds, found_more}
 use Rattle.ps_syntax.proofs.DeclarationLaws.{DeclaredFits, declaration_exact}
-use Rattle.ps_syntax.proofs.ProgramLaws.{rows_of_item, ItemSigned, item_rows_again}
+use Rattle.ps_syntax.proofs.ProgramLaws.{rows_of_item, item_rows_again, signs_of, room_of}
 
 -- ---- weights of words by their kinds
 
@@ -241,18 +241,6 @@ pub record Tallies (d : Declared) (back : List Word) : Type 0 where
   pub rows : d.rows ≡ rows_in back
   pub globals : length d.globals ≡ count_of kind.Global back
   pub locals : length d.locals ≡ count_of kind.Local back
-
-signs_of : (d : Declared) (i : ItemText) → DeclaredFits d i → ItemSigned i
-signs_of d (global x v) h = tt
-signs_of d (local x) h = tt
-signs_of d (init r rs) h = each (r ∷ rs) h
-  where
-    each : (ss : List RelationText) → All (λ (s : RelationText). RelationFits (names_of d) s × (s.sign ≢ sign.NotEqual)) ss → AllByRecursion (λ (s : RelationText). s.sign ≢ sign.NotEqual) ss
-    each [] g = tt
-    each (s ∷ ss) g = ((All-head (λ (t : RelationText). RelationFits (names_of d) t × (t.sign ≢ sign.NotEqual)) s ss g).1, each ss (All-tail (λ (t : RelationText). RelationFits (names_of d) t × (t.sign ≢ sign.NotEqual)) s ss g))
-
-room_of : (n : ℕ) (at : At) → length at.words ≤ n → Ahead n at (pieces at.words)
-room_of n at h = record { is = refl; room = omega (arith, h, length-map at.words (λ (w : Word). piece_of_kind w.kind w.text)) }
 
 -- An item that was read after its rows were counted.
 pub item_tallies : (n : ℕ) (d : Declared) (at : At) (back : List Word) → length at.words ≤ n → Tallies d back
