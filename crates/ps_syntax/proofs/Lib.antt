@@ -43,3 +43,4 @@ pub mod SumCauses
 pub mod CondCauses
 pub mod StmtCauses
 pub mod CauseExamples
+pub mod ProgramCauses
