@@ -20,12 +20,13 @@ use Rattle.ps_syntax.specs.Names.{Names, variable_of}
 use Rattle.ps_syntax.specs.Sums.{init_sign_of, relation_at}
 use Rattle.ps_syntax.specs.Words.{Word, At, Read, is_kind, begins_with, next_is, place_of_next, word_from, word_at, after_word, while_at}
 use Rattle.ps_syntax.proofs.Steps.{Finds, found_if}
+use Rattle.ps_syntax.proofs.RelationLaws.{init_signs}
 use Rattle.ps_syntax.proofs.DeclarationLaws.{with_global}
 use Rattle.ps_syntax.proofs.Guards.{Keeps, keeps_end, keeps_found, keeps_more}
 use Rattle.ps_syntax.proofs.ItemRows.{ones, weight, count_of_weight, Tallies, item_tallies}
 use Rattle.ps_syntax.proofs.NamesDeclared.{has_name, Knows, knows_none, knows_global, knows_local, contains_named, named_contains, contains_known, not_contains}
-use Rattle.ps_syntax.proofs.CauseSteps.{Whole, In, Blamed, Allows, no_cause, kind_clash, test_clash, has_causes, plain, stepped, Fresh, joins, fresh_word, level_word, blame, fresh_linear, least_limit, then_keeps, if_keeps, after_keeps, found_word, word_keeps}
-use Rattle.ps_syntax.proofs.SumCauses.{Past, LevelsAre, mark_keeps, while_keeps}
+use Rattle.ps_syntax.proofs.CauseSteps.{Whole, In, Blamed, Allows, no_cause, kind_clash, test_clash, has_causes, stepped, Fresh, joins, fresh_word, level_word, blame, fresh_linear, least_limit, then_keeps, if_keeps, after_keeps, found_word}
+use Rattle.ps_syntax.proofs.SumCauses.{Past, LevelsAre, mark_keeps, while_keeps, relation_keeps}
 
 -- ---- between two words
 
@@ -323,16 +324,15 @@ local_keeps t d back at s counted fit =
     (λ v q. keeps_end _ _ _ q))))
     (λ x p. keeps_end _ _ _ p)
 
--- a relation of an `init` is read where its names are those of the scope
-abbrev pub PassesRelations : Whole → ℕ → Type 0
-PassesRelations t n = (names : Names) → Passes t names (relation_at init_sign_of (Some names) n)
+passes_relation : (t : Whole) (names : Names) (n : ℕ) → Passes t names (relation_at init_sign_of (Some names) n)
+passes_relation t names n = record { law = λ at r. keeps_more _ _ _ _ _ (relation_keeps init_sign_of init_signs n r.stands.inside r.stands.fresh r.stands.level) (λ y p. reached y p) (λ e b. b) }
 
-init_keeps : (t : Whole) (n : ℕ) → PassesRelations t n → (d : Declared) (back : List Word) (at : At) → Stands t (names_of d) back at → RowsFit t back at.words → Keeps (init_at d n at) (λ y. Reaches t (names_of y.0) y.1) (Blamed t)
+init_keeps : (t : Whole) (n : ℕ) (d : Declared) (back : List Word) (at : At) → Stands t (names_of d) back at → RowsFit t back at.words → Keeps (init_at d n at) (λ y. Reaches t (names_of y.0) y.1) (Blamed t)
 unfolding init_at
-init_keeps t n law d back at s fit =
+init_keeps t n d back at s fit =
     then_keeps _ _ _ _ _
     (after_keeps kind.Init (relation_at init_sign_of (Some (names_of d)) n) at _ (λ y. Reaches t (names_of d) y.1) (Blamed t) (item_word kind.Init refl s fit) (λ w p.
-    (law (names_of d)).law w.1 (record {
+    (passes_relation t (names_of d) n).law w.1 (record {
       back = w.0 ∷ back;
       stands = record {
         inside = p.1;
@@ -341,15 +341,15 @@ init_keeps t n law d back at s fit =
       };
     })))
     (λ r p. then_keeps _ _ _ _ _
-    ((passes_ended (passes_while (next_is kind.And) n (passes_after kind.And (record { causes = refl; joins = refl; atomic = refl; level = refl }) (law (names_of d))))).law r.1 p)
+    ((passes_ended (passes_while (next_is kind.And) n (passes_after kind.And (record { causes = refl; joins = refl; atomic = refl; level = refl }) (passes_relation t (names_of d) n)))).law r.1 p)
     (λ rs q. keeps_end _ _ _ q))
 
-counted_keeps : (t : Whole) (n : ℕ) → PassesRelations t n → (d : Declared) (back : List Word) (at : At) → Stands t (names_of d) back at → length d.globals ≡ count_of kind.Global back → length d.locals ≡ count_of kind.Local back → RowsFit t back at.words
+counted_keeps : (t : Whole) (n : ℕ) (d : Declared) (back : List Word) (at : At) → Stands t (names_of d) back at → length d.globals ≡ count_of kind.Global back → length d.locals ≡ count_of kind.Local back → RowsFit t back at.words
     → Keeps (counted_item_at d n at) (λ y. Reaches t (names_of y.0) y.1) (Blamed t)
 unfolding counted_item_at
-counted_keeps t n law d back at s globals locals fit =
+counted_keeps t n d back at s globals locals fit =
     if_keeps (next_is kind.Global at) _ _ _ _ (λ e. global_keeps t d back at s globals fit)
-    (λ e. if_keeps (next_is kind.Local at) _ _ _ _ (λ f. local_keeps t d back at s locals fit) (λ f. init_keeps t n law d back at s fit))
+    (λ e. if_keeps (next_is kind.Local at) _ _ _ _ (λ f. local_keeps t d back at s locals fit) (λ f. init_keeps t n d back at s fit))
 
 item_kind : (k : TokenKind) → opens_item k ≡ true → (is_kind k kind.Name || is_kind k kind.While) ≡ false
 item_kind kind.Global h = refl
@@ -369,31 +369,31 @@ length_ahead : (back ws : List Word) → length ws ≤ length (words_at back ws)
 length_ahead [] ws = omega arith
 length_ahead (w ∷ back) ws = let h : length (w ∷ ws) ≤ length (words_at back (w ∷ ws)) = length_ahead back (w ∷ ws) in omega (arith, h)
 
-read_keeps : (t : Whole) → PassesRelations t (length t.words) → (d : Declared) (at : At) → has_item at ≡ true → Declares t d at → Keeps (item_at d (length t.words) at) (λ y. Reaches t (names_of y.0) y.1) (Blamed t)
+read_keeps : (t : Whole) (d : Declared) (at : At) → has_item at ≡ true → Declares t d at → Keeps (item_at d (length t.words) at) (λ y. Reaches t (names_of y.0) y.1) (Blamed t)
 unfolding item_at
-read_keeps t law d at item s =
+read_keeps t d at item s =
     if_keeps (nat_lt most_rows (d.rows + item_rows (length t.words) at)) _ _ _ _
     (λ e.
     let many : most_rows < rows_in s.back + item_rows (length t.words) at = subst (λ (k : ℕ). most_rows < k + item_rows (length t.words) at) s.tallies.rows (ltb-true most_rows (d.rows + item_rows (length t.words) at) e) in
     record { is = rows_blamed t (names_of d) s.back at.words at.end s.stands.inside item many })
     (λ e.
     let few : rows_in s.back + item_rows (length t.words) at ≤ most_rows = subst (λ (k : ℕ). k + item_rows (length t.words) at ≤ most_rows) s.tallies.rows (ltb-false most_rows (d.rows + item_rows (length t.words) at) e) in
-    counted_keeps t (length t.words) law (with_rows (d.rows + item_rows (length t.words) at) d) s.back at s.stands s.tallies.globals s.tallies.locals
+    counted_keeps t (length t.words) (with_rows (d.rows + item_rows (length t.words) at) d) s.back at s.stands s.tallies.globals s.tallies.locals
     (record { is = subst (λ (p : Place). rows_in s.back + item_rows (length t.words) (record { words = at.words; end = p }) ≤ most_rows) s.stands.inside.ends few }))
 
-item_keeps : (t : Whole) → PassesRelations t (length t.words) → (d : Declared) (at : At) → has_item at ≡ true → Declares t d at → Keeps (item_at d (length t.words) at) (λ y. Declares t y.0 y.1) (Blamed t)
-item_keeps t law d at item s =
+item_keeps : (t : Whole) (d : Declared) (at : At) → has_item at ≡ true → Declares t d at → Keeps (item_at d (length t.words) at) (λ y. Declares t y.0 y.1) (Blamed t)
+item_keeps t d at item s =
     let inside : In t (names_of d) s.back at = s.stands.inside in
     let room : length at.words ≤ length t.words = omega (arith, length_ahead s.back at.words, ap (λ (ws : List Word). length ws) inside.whole) in
-    keeps_more _ _ _ _ _ (keeps_found _ _ _ _ (read_keeps t law d at item s) (item_tallies (length t.words) d at s.back room s.tallies))
+    keeps_more _ _ _ _ _ (keeps_found _ _ _ _ (read_keeps t d at item s) (item_tallies (length t.words) d at s.back room s.tallies))
     (λ y p. record { back = p.0.back; stands = p.0.stands; tallies = p.1 p.0.back (p.0.stands.inside.whole ∙ sym inside.whole) })
     (λ e b. b)
 
-pub items_keeps : (t : Whole) → PassesRelations t (length t.words) → (m : ℕ) (d : Declared) (at : At) → Declares t d at → Keeps (items_at (length t.words) d m at) (λ y. Declares t y.0 y.1) (Blamed t)
+pub items_keeps : (t : Whole) (m : ℕ) (d : Declared) (at : At) → Declares t d at → Keeps (items_at (length t.words) d m at) (λ y. Declares t y.0 y.1) (Blamed t)
 unfolding items_at
-items_keeps t law zero d at s = keeps_end _ _ _ s
-items_keeps t law (suc m) d at s =
-    if_keeps (has_item at) _ _ _ _ (λ e. then_keeps _ _ _ _ _ (item_keeps t law d at e s) (λ x p. items_keeps t law m x.0 x.1 p)) (λ e. keeps_end _ _ _ s)
+items_keeps t zero d at s = keeps_end _ _ _ s
+items_keeps t (suc m) d at s =
+    if_keeps (has_item at) _ _ _ _ (λ e. then_keeps _ _ _ _ _ (item_keeps t d at e s) (λ x p. items_keeps t m x.0 x.1 p)) (λ e. keeps_end _ _ _ s)
 
 -- where a text begins
 pub declares_none : (t : Whole) → Declares t nothing_declared (record { words = t.words; end = t.end })
