@@ -1,23 +1,21 @@
 -- The law of causes of refusals of whole programs: a refusal stands at the first word that has a cause of one.
-use Rattle.std.proofs.Common.{◌≡◌, ℕ, Bool, true, false, List, [], ◌∷◌, length, Some, Result, Ok, Err, refl, sym, subst, arith}
-use Rattle.std.specs.Prelude.{Contains}
+use Rattle.std.proofs.Common.{◌≡◌, ℕ, false, List, [], ◌∷◌, length, Some, Err, refl}
 use Rattle.ps_text.specs.declared.place.Place.{Place}
 use Rattle.ps_text.specs.declared.token_kind.TokenKind.TheVariants as kind
-use Rattle.ps_syntax.specs.declared.program.Program.{Program}
 use Rattle.ps_syntax.specs.declared.read_refusal.ReadRefusal.{ReadRefusal}
 use Rattle.ps_syntax.specs.Blocks.{block_at}
-use Rattle.ps_syntax.specs.Causes.{block, atomic_block, IsFirstCause}
-use Rattle.ps_syntax.specs.Items.{Declared, most_levels, names_of, nothing_declared, items_at, program_at, program_of}
+use Rattle.ps_syntax.specs.Causes.{IsFirstCause}
+use Rattle.ps_syntax.specs.Items.{most_levels, names_of, nothing_declared, program_at, program_of}
 use Rattle.ps_syntax.specs.Names.{Names}
 use Rattle.ps_syntax.specs.Sums.{init_sign_of}
-use Rattle.ps_syntax.specs.Words.{Word, At, ◌>>=◌, after_word, end_from}
+use Rattle.ps_syntax.specs.Words.{Word, end_from}
 use Rattle.ps_syntax.proofs.Guards.{Keeps, keeps_end, keeps_more}
 use Rattle.ps_syntax.proofs.ProgramGuards.{refused_is}
 use Rattle.ps_syntax.proofs.RelationLaws.{init_signs}
 use Rattle.ps_syntax.proofs.CauseSteps.{Whole, In, Blamed, Fresh, fresh_linear, grammar_blamed, then_keeps, after_keeps}
-use Rattle.ps_syntax.proofs.SumCauses.{Past, LevelsAre, mark_keeps, relation_keeps}
+use Rattle.ps_syntax.proofs.SumCauses.{mark_keeps, relation_keeps}
 use Rattle.ps_syntax.proofs.StmtCauses.{outside, block_keeps}
-use Rattle.ps_syntax.proofs.ItemCauses.{PassesRelations, Declares, declares_none, items_keeps}
+use Rattle.ps_syntax.proofs.ItemCauses.{PassesRelations, declares_none, items_keeps}
 
 -- where the text ends
 end_keeps : {t : Whole} {names : Names} {back : List Word} (ws : List Word) (end : Place) → In t names back (record { words = ws; end = end }) → Fresh false back → Keeps (end_from ws) (λ u. Unit {0}) (Blamed t)
