@@ -1,6 +1,6 @@
 -- The laws of causes of refusals, in steps: where a reading function stands in the whole text, what it is to pass a word
 -- there that has no cause of a refusal, and what a refusal there promises of its cause.
-use Rattle.std.proofs.Common.{◌≡◌, ℕ, ◌+◌, ◌<◌, ◌≤◌, Bool, true, false, ◌&&◌, ◌||◌, List, [], ◌∷◌, length, Option, Some, None, Result, Ok, Err, refl, sym, ap, subst, ◌∙◌, arith}
+use Rattle.std.proofs.Common.{◌≡◌, ℕ, ◌+◌, ◌<◌, ◌≤◌, Bool, true, false, ◌&&◌, ◌||◌, List, [], ◌∷◌, length, Some, None, Result, refl, sym, ap, subst, ◌∙◌, arith}
 use Rattle.std.specs.Prelude.{Contains, if◌then◌else◌}
 use Rattle.std.proofs.lemmas.Bool.{cond-false, or_parts, true≢false}
 use Rattle.ps_text.specs.declared.place.Place.{Place}
@@ -14,7 +14,7 @@ use Rattle.ps_syntax.specs.Causes.{words_at, is_declaration, declared_in, is_aft
 use Rattle.ps_syntax.specs.Items.{item_rows, most_globals, most_levels, most_locals, most_rows}
 use Rattle.ps_syntax.specs.Names.{Names, variable_of}
 use Rattle.ps_syntax.specs.Reads.{refusal_place}
-use Rattle.ps_syntax.specs.Words.{Word, At, Read, ◌>>=◌, is_kind, begins_with, next_is, place_of_next, place_at, word_from, word_at, after_word, while_at}
+use Rattle.ps_syntax.specs.Words.{Word, At, Read, ◌>>=◌, is_kind, begins_with, place_of_next, word_from, word_at, after_word}
 use Rattle.ps_syntax.proofs.Steps.{one_kind, same_kind}
 use Rattle.ps_syntax.proofs.Guards.{Keeps, keeps_bind, keeps_more}
 

@@ -1,27 +1,24 @@
 -- The laws of causes of refusals of conditions and tests, by levels: of what they open, only `!` may be left, which the
 -- next `&&`, `||`, `)` or `;` ends.
-use Rattle.std.proofs.Common.{◌≡◌, ℕ, zero, suc, ◌+◌, ◌<◌, ◌≤◌, Bool, true, false, ◌||◌, List, [], ◌∷◌, length, Option, Some, None, Result, Ok, Err, refl, sym, ap, subst, ◌∙◌, arith}
-use Rattle.std.specs.Prelude.{if◌then◌else◌}
-use Rattle.std.proofs.lemmas.Bool.{or_cases, true≢false}
+use Rattle.std.proofs.Common.{◌≡◌, ℕ, zero, suc, ◌+◌, ◌<◌, ◌≤◌, Bool, true, false, ◌||◌, List, [], ◌∷◌, length, Some, Ok, Err, refl, sym, ap, subst, ◌∙◌, arith}
+use Rattle.std.proofs.lemmas.Bool.{true≢false}
 use Rattle.ps_text.specs.declared.place.Place.{Place}
 use Rattle.ps_text.specs.declared.token_kind.TokenKind.{TokenKind}
 use Rattle.ps_text.specs.declared.token_kind.TokenKind.TheVariants as kind
 use Rattle.ps_syntax.specs.declared.cond.Cond.{Cond}
 use Rattle.ps_syntax.specs.declared.cond.Cond.TheVariants as cond
-use Rattle.ps_syntax.specs.declared.cond.Test.{Test}
 use Rattle.ps_syntax.specs.declared.limit_name.LimitName.TheVariants as limit
-use Rattle.ps_syntax.specs.declared.read_refusal.ReadRefusal.{ReadRefusal}
 use Rattle.ps_syntax.specs.declared.read_refusal.ReadRefusal.TheVariants.{Limit}
 use Rattle.ps_syntax.specs.Causes.{Level, block, atomic_block, parens, negation, settled, closed, levels, levels_with, opens_level, opens_item}
 use Rattle.ps_syntax.specs.Conds.{members_at, conj_with, cond_with, opens_at, unary_at, cond_at, test_at, parens_at}
 use Rattle.ps_syntax.specs.Items.{most_levels}
 use Rattle.ps_syntax.specs.Names.{Names}
 use Rattle.ps_syntax.specs.Sums.{sign_of, relation_at}
-use Rattle.ps_syntax.specs.Words.{Word, At, Read, ◌>>=◌, is_kind, begins_with, next_is, place_of_next, place_at, word_at, after_word, while_at}
+use Rattle.ps_syntax.specs.Words.{Word, At, Read, ◌>>=◌, is_kind, begins_with, next_is, place_of_next, place_at, word_at, after_word}
 use Rattle.ps_syntax.proofs.Steps.{one_kind}
 use Rattle.ps_syntax.proofs.Guards.{Keeps, keeps_end, keeps_more}
 use Rattle.ps_syntax.proofs.RelationLaws.{all_signs}
-use Rattle.ps_syntax.proofs.CauseSteps.{Whole, In, Blamed, has_causes, plain, opening, stepped, Fresh, joins, fresh_word, fresh_star, level_word, fresh_linear, depth_blamed, then_keeps, if_keeps, after_keeps, found_word, word_keeps}
+use Rattle.ps_syntax.proofs.CauseSteps.{Whole, In, Blamed, has_causes, plain, opening, Fresh, joins, fresh_word, fresh_star, level_word, fresh_linear, depth_blamed, then_keeps, if_keeps, after_keeps, found_word, word_keeps}
 use Rattle.ps_syntax.proofs.SumCauses.{Past, LevelsAre, past_as, mark_keeps, while_keeps, relation_keeps}
 
 -- ---- levels

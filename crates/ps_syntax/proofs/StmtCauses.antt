@@ -1,24 +1,20 @@
 -- The laws of causes of refusals of statements and blocks: after each, the levels are open that were open before it.
-use Rattle.std.proofs.Common.{◌≡◌, ℕ, zero, suc, ◌+◌, ◌<◌, Bool, true, false, ◌⊎◌, inl, inr, List, [], ◌∷◌, ◌++◌, length, Option, Some, None, Result, Ok, Err, refl, sym, ap, subst, ◌∙◌, arith}
-use Rattle.std.specs.Prelude.{Contains, if◌then◌else◌}
+use Rattle.std.proofs.Common.{◌≡◌, ℕ, zero, suc, ◌+◌, Bool, true, false, inl, inr, List, [], ◌∷◌, length, Some, refl, sym, ap, subst, ◌∙◌, arith}
+use Rattle.std.specs.Prelude.{Contains}
 use Rattle.std.proofs.lemmas.Bool.{true≢false}
 use Rattle.std.proofs.lemmas.List.Elements.{Contains-append_left, Contains-append_right, Contains-push, Contains-push_cases, Contains-append_cases}
 use Rattle.ps_text.specs.declared.place.Place.{Place}
-use Rattle.ps_text.specs.declared.token_kind.TokenKind.{TokenKind}
 use Rattle.ps_text.specs.declared.token_kind.TokenKind.TheVariants as kind
-use Rattle.ps_syntax.specs.declared.cond.Cond.{Cond}
-use Rattle.ps_syntax.specs.declared.read_refusal.ReadRefusal.{ReadRefusal}
-use Rattle.ps_syntax.specs.declared.read_refusal.ReadRefusal.TheVariants.{Grammar, LoopInAtomic}
+use Rattle.ps_syntax.specs.declared.read_refusal.ReadRefusal.TheVariants.{LoopInAtomic}
 use Rattle.ps_syntax.specs.declared.stmt.Stmt.{Stmt}
-use Rattle.ps_syntax.specs.declared.stmt.StmtKind.{StmtKind}
 use Rattle.ps_syntax.specs.declared.stmt.StmtKind.TheVariants as stmt
 use Rattle.ps_syntax.specs.Blocks.{ended_at, assign_at, havoc_at, cond_stmt_at, skip_at, atomic_at, else_at, if_at, while_stmt_at, kind_at, stmt_at, has_more, block_at}
-use Rattle.ps_syntax.specs.Causes.{Level, block, atomic_block, parens, negation, settled, closed, block_level, levels, levels_with}
+use Rattle.ps_syntax.specs.Causes.{Level, block, atomic_block, settled, block_level, levels}
 use Rattle.ps_syntax.specs.Conds.{cond_at, parens_at}
 use Rattle.ps_syntax.specs.Items.{most_levels}
 use Rattle.ps_syntax.specs.Names.{Names, variable_at}
 use Rattle.ps_syntax.specs.Sums.{sum_at}
-use Rattle.ps_syntax.specs.Words.{Word, At, Read, ◌>>=◌, is_kind, begins_with, next_is, place_of_next, place_at, word_at, after_word, while_at}
+use Rattle.ps_syntax.specs.Words.{Word, At, Read, begins_with, next_is, place_of_next, word_at}
 use Rattle.ps_syntax.proofs.Steps.{one_kind}
 use Rattle.ps_syntax.proofs.Guards.{Keeps, keeps_end, keeps_more}
 use Rattle.ps_syntax.proofs.CauseSteps.{Whole, In, Blamed, plain, looping, Fresh, fresh_word, level_word, fresh_linear, grammar_blamed, loop_blamed, then_keeps, if_keeps, after_keeps, word_keeps}

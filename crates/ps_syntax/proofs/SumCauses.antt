@@ -1,13 +1,12 @@
 -- The laws of causes of refusals of sums and relations: they leave open what was open, and each word that they pass has no
 -- cause of a refusal.
-use Rattle.std.proofs.Common.{◌≡◌, ℕ, zero, suc, Bool, true, false, ◌&&◌, ◌||◌, List, [], ◌∷◌, Option, Some, None, Result, Ok, Err, refl, sym, ap, subst, ◌∙◌}
-use Rattle.std.specs.Prelude.{Contains, ok_or, if◌then◌else◌}
+use Rattle.std.proofs.Common.{◌≡◌, ℕ, zero, suc, Bool, true, false, ◌&&◌, ◌||◌, List, [], ◌∷◌, Option, Some, None, Err, refl, sym, ap, subst, ◌∙◌}
+use Rattle.std.specs.Prelude.{Contains, ok_or}
 use Rattle.std.proofs.lemmas.Bool.{and_right, true≢false}
 use Rattle.ps_text.specs.declared.place.Place.{Place}
 use Rattle.ps_text.specs.declared.token_kind.TokenKind.{TokenKind}
 use Rattle.ps_text.specs.declared.token_kind.TokenKind.TheVariants as kind
 use Rattle.ps_term.specs.declared.var.Var.{Var}
-use Rattle.ps_syntax.specs.declared.read_refusal.ReadRefusal.{ReadRefusal}
 use Rattle.ps_syntax.specs.declared.read_refusal.ReadRefusal.TheVariants.{Grammar, NotLinear, UnknownName}
 use Rattle.ps_syntax.specs.declared.relation.Sign.{Sign}
 use Rattle.ps_syntax.specs.declared.relation.Sign.TheVariants as sign
@@ -15,11 +14,11 @@ use Rattle.ps_syntax.specs.Causes.{declared_in, is_declaration, is_after_factor,
 use Rattle.ps_syntax.specs.Names.{Names, variable_in, variable_at}
 use Rattle.ps_syntax.specs.Spelling.{sign_kind}
 use Rattle.ps_syntax.specs.Sums.{factor_at, number_product_at, name_product_at, product_at, first_product_at, further_product_at, adds, sum_at, sign_from, sign_at, relation_at}
-use Rattle.ps_syntax.specs.Words.{Word, At, Read, ◌>>=◌, is_kind, begins_with, next_is, place_of_next, word_at, after_word, while_at}
+use Rattle.ps_syntax.specs.Words.{Word, At, Read, is_kind, begins_with, next_is, place_of_next, word_at, after_word, while_at}
 use Rattle.ps_syntax.proofs.Steps.{one_kind, same_kind}
 use Rattle.ps_syntax.proofs.Guards.{Keeps, keeps_end, keeps_more}
 use Rattle.ps_syntax.proofs.RelationLaws.{AreSigns}
-use Rattle.ps_syntax.proofs.CauseSteps.{Whole, In, Blamed, has_causes, plain, naming, stepped, Fresh, joins, fresh_word, fresh_star, level_word, Linear, fresh_linear, grammar_blamed, unknown_blamed, linear_blamed, then_keeps, if_keeps, after_keeps, found_word, word_keeps}
+use Rattle.ps_syntax.proofs.CauseSteps.{Whole, In, Blamed, has_causes, plain, naming, stepped, Fresh, joins, fresh_word, fresh_star, level_word, fresh_linear, grammar_blamed, unknown_blamed, linear_blamed, then_keeps, if_keeps, after_keeps, found_word, word_keeps}
 
 -- ---- what was passed
 
