@@ -41,6 +41,7 @@ pub record Reaches (t : Whole) (names : Names) (at : At) : Type 0 where
   pub back : List Word
   pub stands : Stands t names back at
 
+-- between the two ways to say so
 reached : {A : Type 0} {t : Whole} {names : Names} (y : A × At) → Past t names (LevelsAre []) y → Reaches t names y.1
 reached y p = record { back = p.back; stands = record { inside = p.here; fresh = p.fresh; level = p.so } }
 
@@ -287,13 +288,20 @@ pub record Declares (t : Whole) (d : Declared) (at : At) : Type 0 where
   pub stands : Stands t (names_of d) back at
   pub tallies : Tallies d back
 
-global_names : (d : Declared) (x : List ℕ) (v : Option ℤ) → names_of (with_global d x v) ≡ record { globals = (names_of d).globals ++ x ∷ []; locals = d.locals }
+-- the names with one global or one local more
+abbrev one_global : Declared → List ℕ → Names
+one_global d x = record { globals = (names_of d).globals ++ x ∷ []; locals = d.locals }
+
+abbrev one_local : Declared → List ℕ → Names
+one_local d x = record { globals = (names_of d).globals; locals = d.locals ++ x ∷ [] }
+
+global_names : (d : Declared) (x : List ℕ) (v : Option ℤ) → names_of (with_global d x v) ≡ one_global d x
 global_names d x v = ap (λ (xs : List (List ℕ)). record { globals = xs; locals = d.locals }) (map-append (λ (g : GlobalDecl). g.name) d.globals (record { name = x; value = v } ∷ []))
 
 global_keeps : (t : Whole) (d : Declared) (back : List Word) (at : At) → Stands t (names_of d) back at → length d.globals ≡ count_of kind.Global back → RowsFit t back at.words → Keeps (global_at d at) (λ y. Reaches t (names_of y.0) y.1) (Blamed t)
 unfolding global_at
 global_keeps t d back at s counted fit =
-    then_keeps _ _ (λ y. Reaches t (record { globals = (names_of d).globals ++ y.0 ∷ []; locals = d.locals }) y.1) _ _
+    then_keeps _ _ (λ y. Reaches t (one_global d y.0) y.1) _ _
     (after_keeps kind.Global (new_name_at d (length d.globals) most_globals limit.Globals) at _ _ (Blamed t) (item_word kind.Global refl s fit) (λ w p.
     let decl : Declaring t (names_of d) (w.0 ∷ back) w.1 = item_declares kind.Global refl refl refl s w.1 p.0 p.1 in
     let more : count_of kind.Global (w.0 ∷ back) ≡ suc (count_of kind.Global back) = count_more kind.Global w.0 back p.0 refl in
@@ -301,16 +309,16 @@ global_keeps t d back at s counted fit =
     (new_keeps t d (length d.globals) most_globals limit.Globals (w.0 ∷ back) w.1 decl
     (λ le v ws e. (e, ap (λ (j : TokenKind). is_kind j kind.Global) p.0, omega (arith, le, counted, more)))
     (λ lt. record { globals = λ h. omega (arith, lt, counted, more); locals = λ h. not_begins w.0 back kind.Global kind.Local p.0 refl h }))
-    (λ y n. declared_step (record { globals = (names_of d).globals ++ y.0 ∷ []; locals = d.locals }) y decl n (λ k. knows_global (names_of d).globals d.locals (declared_in (w.0 ∷ back)) y.0 k))
+    (λ y n. declared_step (one_global d y.0) y decl n (λ k. knows_global (names_of d).globals d.locals (declared_in (w.0 ∷ back)) y.0 k))
     (λ e b. b)))
-    (λ x p. then_keeps _ _ _ _ _ ((passes_ended (passes_value t (record { globals = (names_of d).globals ++ x.0 ∷ []; locals = d.locals }))).law x.1 p)
+    (λ x p. then_keeps _ _ _ _ _ ((passes_ended (passes_value t (one_global d x.0))).law x.1 p)
     (λ v q. keeps_end _ _ _ (subst (λ (names : Names). Reaches t names v.1) (sym (global_names d x.0 v.0)) q)))
 
 local_keeps : (t : Whole) (d : Declared) (back : List Word) (at : At) → Stands t (names_of d) back at → length d.locals ≡ count_of kind.Local back → RowsFit t back at.words → Keeps (local_at d at) (λ y. Reaches t (names_of y.0) y.1) (Blamed t)
 unfolding local_at ended_at
 local_keeps t d back at s counted fit =
     then_keeps _ _ _ _ _
-    (after_keeps kind.Local (ended_at (new_name_at d (length d.locals) most_locals limit.Locals)) at _ (λ y. Reaches t (record { globals = (names_of d).globals; locals = d.locals ++ y.0 ∷ [] }) y.1) (Blamed t) (item_word kind.Local refl s fit) (λ w p.
+    (after_keeps kind.Local (ended_at (new_name_at d (length d.locals) most_locals limit.Locals)) at _ (λ y. Reaches t (one_local d y.0) y.1) (Blamed t) (item_word kind.Local refl s fit) (λ w p.
     let decl : Declaring t (names_of d) (w.0 ∷ back) w.1 = item_declares kind.Local refl refl refl s w.1 p.0 p.1 in
     let more : count_of kind.Local (w.0 ∷ back) ≡ suc (count_of kind.Local back) = count_more kind.Local w.0 back p.0 refl in
     then_keeps _ _ _ _ _
@@ -320,7 +328,7 @@ local_keeps t d back at s counted fit =
     (λ y n.
     then_keeps _ _ _ _ _
     ((passes_word kind.Semicolon (record { causes = refl; joins = refl; atomic = refl; level = refl })).law y.1
-    (declared_step (record { globals = (names_of d).globals; locals = d.locals ++ y.0 ∷ [] }) y decl n (λ k. knows_local (names_of d).globals d.locals (declared_in (w.0 ∷ back)) y.0 k)))
+    (declared_step (one_local d y.0) y decl n (λ k. knows_local (names_of d).globals d.locals (declared_in (w.0 ∷ back)) y.0 k)))
     (λ v q. keeps_end _ _ _ q))))
     (λ x p. keeps_end _ _ _ p)
 
