@@ -20,11 +20,13 @@ use Rattle.ps_syntax.specs.Names.{Names, variable_of}
 use Rattle.ps_syntax.specs.Sums.{init_sign_of, relation_at}
 use Rattle.ps_syntax.specs.Words.{Word, At, Read, is_kind, begins_with, next_is, place_of_next, word_from, word_at, after_word, while_at}
 use Rattle.ps_syntax.proofs.Steps.{Finds, found_if}
+use Rattle.ps_syntax.proofs.RelationLaws.{init_signs}
 use Rattle.ps_syntax.proofs.DeclarationLaws.{with_global}
 use Rattle.ps_syntax.proofs.Guards.{Keeps, keeps_end, keeps_found, keeps_more}
 use Rattle.ps_syntax.proofs.ItemRows.{ones, weight, count_of_weight, Tallies, item_tallies}
 use Rattle.ps_syntax.proofs.NamesDeclared.{has_name, Knows, knows_none, knows_global, knows_local, contains_named, named_contains, contains_known, not_contains}
-use Rattle.ps_syntax.proofs.CauseSteps.{Whole, In, Blamed, Allows, no_cause, kind_clash, test_clash, has_causes, plain, stepped, Fresh, joins, fresh_word, level_word, blame, fresh_linear, least_limit, then_keeps, if_keeps, after_keeps, found_word, word_keeps}
+use Rattle.ps_syntax.proofs.CauseSteps.{Whole, In, Blamed, Allows, no_cause, kind_clash, test_clash, has_causes, stepped, Fresh, joins, fresh_word, level_word, blame, fresh_linear, least_limit, then_keeps, if_keeps, after_keeps, found_word}
+use Rattle.ps_syntax.proofs.SumCauses.{Past, LevelsAre, mark_keeps, while_keeps, relation_keeps}
 
 -- ---- between two words
 
@@ -39,6 +41,12 @@ pub record Reaches (t : Whole) (names : Names) (at : At) : Type 0 where
   pub back : List Word
   pub stands : Stands t names back at
 
+reached : {A : Type 0} {t : Whole} {names : Names} (y : A × At) → Past t names (LevelsAre []) y → Reaches t names y.1
+reached y p = record { back = p.back; stands = record { inside = p.here; fresh = p.fresh; level = p.so } }
+
+past_of : {A : Type 0} {t : Whole} {names : Names} (y : A × At) → Reaches t names y.1 → Past t names (LevelsAre []) y
+past_of y r = record { back = r.back; here = r.stands.inside; fresh = r.stands.fresh; so = r.stands.level }
+
 -- A reading function goes on from there to there.
 pub record Passes {A : Type 0} (t : Whole) (names : Names) (read : Read A) : Type 0 where
   pub law : (at : At) → Reaches t names at → Keeps (read at) (λ y. Reaches t names y.1) (Blamed t)
@@ -51,18 +59,10 @@ record IsPlain (k : TokenKind) : Type 0 where
   pub level : levels_with false k [] ≡ []
 
 passes_word : {t : Whole} {names : Names} (k : TokenKind) → IsPlain k → Passes t names (word_at k)
-passes_word {t = t} {names = names} k p = record {
+passes_word k p = record {
   law = λ at r.
-      keeps_more _ _ _ _ _ (word_keeps k r.stands.inside (fresh_linear at.words r.stands.fresh) r.stands.fresh.declaration (λ w ahead e. plain t r.back w ahead k p.causes e))
-      (λ y q. record {
-        back = y.0 ∷ r.back;
-        stands = record {
-          inside = q.1;
-          fresh = subst (λ (b : Bool). Fresh b (y.0 ∷ r.back)) p.atomic (fresh_word k r.back p.joins q.0);
-          level = level_word y.0 k r.back false [] q.0 r.stands.fresh.atomic r.stands.level ∙ p.level;
-        };
-      })
-      (λ e b. b);
+      keeps_more _ _ _ _ _ (mark_keeps k p.causes p.joins p.atomic r.stands.inside r.stands.fresh r.stands.level)
+      (λ y q. reached y (record { back = q.back; here = q.here; fresh = q.fresh; so = q.so ∙ p.level })) (λ e b. b);
 }
 
 passes_after : {A : Type 0} {t : Whole} {names : Names} {read : Read A} (k : TokenKind) → IsPlain k → Passes t names read → Passes t names (after_word k read)
@@ -78,16 +78,14 @@ passes_ended h = record {
       then_keeps _ _ _ _ _ ((passes_word kind.Semicolon (record { causes = refl; joins = refl; atomic = refl; level = refl })).law x.1 p) (λ w q. keeps_end _ _ _ q));
 }
 
-while_keeps : {A : Type 0} {t : Whole} {names : Names} {read : Read A} (goes : At → Bool) (m : ℕ) → Passes t names read → (at : At) → Reaches t names at → Keeps (while_at goes read m at) (λ y. Reaches t names y.1) (Blamed t)
-unfolding while_at
-while_keeps goes zero h at r = keeps_end _ _ _ r
-while_keeps goes (suc m) h at r =
-    if_keeps (goes at) _ _ _ _
-    (λ e. then_keeps _ _ _ _ _ (h.law at r) (λ x p. then_keeps _ _ _ _ _ (while_keeps goes m h x.1 p) (λ xs q. keeps_end _ _ _ q)))
-    (λ e. keeps_end _ _ _ r)
-
 passes_while : {A : Type 0} {t : Whole} {names : Names} {read : Read A} (goes : At → Bool) (m : ℕ) → Passes t names read → Passes t names (while_at goes read m)
-passes_while goes m h = record { law = λ at r. while_keeps goes m h at r }
+passes_while {t = t} {names = names} {read = read} goes m h = record {
+  law = λ at r.
+      keeps_more _ _ _ _ _
+      (while_keeps t names (LevelsAre []) goes read (λ back next inside fresh level on. keeps_more _ _ _ _ _ (h.law next (record { back = back; stands = record { inside = inside; fresh = fresh; level = level } })) (λ y p. past_of y p) (λ e b. b))
+      m r.back at r.stands.inside r.stands.fresh r.stands.level)
+      (λ y p. reached y p) (λ e b. b);
+}
 
 -- ---- values
 
@@ -326,16 +324,15 @@ local_keeps t d back at s counted fit =
     (λ v q. keeps_end _ _ _ q))))
     (λ x p. keeps_end _ _ _ p)
 
--- a relation of an `init` is read where its names are those of the scope
-abbrev pub PassesRelations : Whole → ℕ → Type 0
-PassesRelations t n = (names : Names) → Passes t names (relation_at init_sign_of (Some names) n)
+passes_relation : (t : Whole) (names : Names) (n : ℕ) → Passes t names (relation_at init_sign_of (Some names) n)
+passes_relation t names n = record { law = λ at r. keeps_more _ _ _ _ _ (relation_keeps init_sign_of init_signs n r.stands.inside r.stands.fresh r.stands.level) (λ y p. reached y p) (λ e b. b) }
 
-init_keeps : (t : Whole) (n : ℕ) → PassesRelations t n → (d : Declared) (back : List Word) (at : At) → Stands t (names_of d) back at → RowsFit t back at.words → Keeps (init_at d n at) (λ y. Reaches t (names_of y.0) y.1) (Blamed t)
+init_keeps : (t : Whole) (n : ℕ) (d : Declared) (back : List Word) (at : At) → Stands t (names_of d) back at → RowsFit t back at.words → Keeps (init_at d n at) (λ y. Reaches t (names_of y.0) y.1) (Blamed t)
 unfolding init_at
-init_keeps t n law d back at s fit =
+init_keeps t n d back at s fit =
     then_keeps _ _ _ _ _
     (after_keeps kind.Init (relation_at init_sign_of (Some (names_of d)) n) at _ (λ y. Reaches t (names_of d) y.1) (Blamed t) (item_word kind.Init refl s fit) (λ w p.
-    (law (names_of d)).law w.1 (record {
+    (passes_relation t (names_of d) n).law w.1 (record {
       back = w.0 ∷ back;
       stands = record {
         inside = p.1;
@@ -344,15 +341,15 @@ init_keeps t n law d back at s fit =
       };
     })))
     (λ r p. then_keeps _ _ _ _ _
-    ((passes_ended (passes_while (next_is kind.And) n (passes_after kind.And (record { causes = refl; joins = refl; atomic = refl; level = refl }) (law (names_of d))))).law r.1 p)
+    ((passes_ended (passes_while (next_is kind.And) n (passes_after kind.And (record { causes = refl; joins = refl; atomic = refl; level = refl }) (passes_relation t (names_of d) n)))).law r.1 p)
     (λ rs q. keeps_end _ _ _ q))
 
-counted_keeps : (t : Whole) (n : ℕ) → PassesRelations t n → (d : Declared) (back : List Word) (at : At) → Stands t (names_of d) back at → length d.globals ≡ count_of kind.Global back → length d.locals ≡ count_of kind.Local back → RowsFit t back at.words
+counted_keeps : (t : Whole) (n : ℕ) (d : Declared) (back : List Word) (at : At) → Stands t (names_of d) back at → length d.globals ≡ count_of kind.Global back → length d.locals ≡ count_of kind.Local back → RowsFit t back at.words
     → Keeps (counted_item_at d n at) (λ y. Reaches t (names_of y.0) y.1) (Blamed t)
 unfolding counted_item_at
-counted_keeps t n law d back at s globals locals fit =
+counted_keeps t n d back at s globals locals fit =
     if_keeps (next_is kind.Global at) _ _ _ _ (λ e. global_keeps t d back at s globals fit)
-    (λ e. if_keeps (next_is kind.Local at) _ _ _ _ (λ f. local_keeps t d back at s locals fit) (λ f. init_keeps t n law d back at s fit))
+    (λ e. if_keeps (next_is kind.Local at) _ _ _ _ (λ f. local_keeps t d back at s locals fit) (λ f. init_keeps t n d back at s fit))
 
 item_kind : (k : TokenKind) → opens_item k ≡ true → (is_kind k kind.Name || is_kind k kind.While) ≡ false
 item_kind kind.Global h = refl
@@ -372,31 +369,31 @@ length_ahead : (back ws : List Word) → length ws ≤ length (words_at back ws)
 length_ahead [] ws = omega arith
 length_ahead (w ∷ back) ws = let h : length (w ∷ ws) ≤ length (words_at back (w ∷ ws)) = length_ahead back (w ∷ ws) in omega (arith, h)
 
-read_keeps : (t : Whole) → PassesRelations t (length t.words) → (d : Declared) (at : At) → has_item at ≡ true → Declares t d at → Keeps (item_at d (length t.words) at) (λ y. Reaches t (names_of y.0) y.1) (Blamed t)
+read_keeps : (t : Whole) (d : Declared) (at : At) → has_item at ≡ true → Declares t d at → Keeps (item_at d (length t.words) at) (λ y. Reaches t (names_of y.0) y.1) (Blamed t)
 unfolding item_at
-read_keeps t law d at item s =
+read_keeps t d at item s =
     if_keeps (nat_lt most_rows (d.rows + item_rows (length t.words) at)) _ _ _ _
     (λ e.
     let many : most_rows < rows_in s.back + item_rows (length t.words) at = subst (λ (k : ℕ). most_rows < k + item_rows (length t.words) at) s.tallies.rows (ltb-true most_rows (d.rows + item_rows (length t.words) at) e) in
     record { is = rows_blamed t (names_of d) s.back at.words at.end s.stands.inside item many })
     (λ e.
     let few : rows_in s.back + item_rows (length t.words) at ≤ most_rows = subst (λ (k : ℕ). k + item_rows (length t.words) at ≤ most_rows) s.tallies.rows (ltb-false most_rows (d.rows + item_rows (length t.words) at) e) in
-    counted_keeps t (length t.words) law (with_rows (d.rows + item_rows (length t.words) at) d) s.back at s.stands s.tallies.globals s.tallies.locals
+    counted_keeps t (length t.words) (with_rows (d.rows + item_rows (length t.words) at) d) s.back at s.stands s.tallies.globals s.tallies.locals
     (record { is = subst (λ (p : Place). rows_in s.back + item_rows (length t.words) (record { words = at.words; end = p }) ≤ most_rows) s.stands.inside.ends few }))
 
-item_keeps : (t : Whole) → PassesRelations t (length t.words) → (d : Declared) (at : At) → has_item at ≡ true → Declares t d at → Keeps (item_at d (length t.words) at) (λ y. Declares t y.0 y.1) (Blamed t)
-item_keeps t law d at item s =
+item_keeps : (t : Whole) (d : Declared) (at : At) → has_item at ≡ true → Declares t d at → Keeps (item_at d (length t.words) at) (λ y. Declares t y.0 y.1) (Blamed t)
+item_keeps t d at item s =
     let inside : In t (names_of d) s.back at = s.stands.inside in
     let room : length at.words ≤ length t.words = omega (arith, length_ahead s.back at.words, ap (λ (ws : List Word). length ws) inside.whole) in
-    keeps_more _ _ _ _ _ (keeps_found _ _ _ _ (read_keeps t law d at item s) (item_tallies (length t.words) d at s.back room s.tallies))
+    keeps_more _ _ _ _ _ (keeps_found _ _ _ _ (read_keeps t d at item s) (item_tallies (length t.words) d at s.back room s.tallies))
     (λ y p. record { back = p.0.back; stands = p.0.stands; tallies = p.1 p.0.back (p.0.stands.inside.whole ∙ sym inside.whole) })
     (λ e b. b)
 
-pub items_keeps : (t : Whole) → PassesRelations t (length t.words) → (m : ℕ) (d : Declared) (at : At) → Declares t d at → Keeps (items_at (length t.words) d m at) (λ y. Declares t y.0 y.1) (Blamed t)
+pub items_keeps : (t : Whole) (m : ℕ) (d : Declared) (at : At) → Declares t d at → Keeps (items_at (length t.words) d m at) (λ y. Declares t y.0 y.1) (Blamed t)
 unfolding items_at
-items_keeps t law zero d at s = keeps_end _ _ _ s
-items_keeps t law (suc m) d at s =
-    if_keeps (has_item at) _ _ _ _ (λ e. then_keeps _ _ _ _ _ (item_keeps t law d at e s) (λ x p. items_keeps t law m x.0 x.1 p)) (λ e. keeps_end _ _ _ s)
+items_keeps t zero d at s = keeps_end _ _ _ s
+items_keeps t (suc m) d at s =
+    if_keeps (has_item at) _ _ _ _ (λ e. then_keeps _ _ _ _ _ (item_keeps t d at e s) (λ x p. items_keeps t m x.0 x.1 p)) (λ e. keeps_end _ _ _ s)
 
 -- where a text begins
 pub declares_none : (t : Whole) → Declares t nothing_declared (record { words = t.words; end = t.end })

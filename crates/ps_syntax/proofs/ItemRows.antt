@@ -1,9 +1,6 @@
 -- How many rows, globals and locals the words of an item have: as many as are counted before it is read.
-use Rattle.std.proofs.Common.{◌≡◌, ◌≢◌, ℕ, ◌+◌, ◌*◌, ◌≤◌, Bool, true, false, List, [], ◌∷◌, ◌++◌, length, Option, Some, None, Err, refl, sym, ap, ◌∙◌, arith, length-append}
+use Rattle.std.proofs.Common.{◌≡◌, ℕ, ◌+◌, ◌*◌, ◌≤◌, Bool, true, false, List, [], ◌∷◌, ◌++◌, length, Option, Some, None, Err, refl, sym, ap, ◌∙◌, arith, length-append}
 use Rattle.std.specs.Prelude.{nat_lt, if◌then◌else◌}
-use Rattle.std.specs.List.{All, AllByRecursion}
-use Rattle.std.proofs.lemmas.List.{length-map}
-use Rattle.std.proofs.lemmas.List.Elements.{All-head, All-tail}
 use Rattle.std.proofs.lemmas.List.Sums.{sum_by-cons}
 use Rattle.ps_text.specs.declared.token_kind.TokenKind.{TokenKind}
 use Rattle.ps_text.specs.declared.token_kind.TokenKind.TheVariants as kind
@@ -13,14 +10,13 @@ use Rattle.ps_syntax.specs.declared.relation.Sign.TheVariants as sign
 use Rattle.ps_syntax.specs.declared.read_refusal.ReadRefusal.TheVariants.{Limit}
 use Rattle.ps_syntax.specs.Causes.{words_at, count_of, rows_in}
 use Rattle.ps_syntax.specs.Grammar.{ProductText, number, name, number_name, name_number, SumText, RelationText, ValueText, ItemText, global, local, init}
-use Rattle.ps_syntax.specs.Items.{Declared, most_rows, names_of, rows_of_sign, rows_of_value, item_rows, counted_item_at, with_rows, item_at}
-use Rattle.ps_syntax.specs.Fits.{RelationFits}
+use Rattle.ps_syntax.specs.Items.{Declared, most_rows, rows_of_sign, rows_of_value, item_rows, counted_item_at, with_rows, item_at}
 use Rattle.ps_syntax.specs.Spelling.{Piece, NumberPiece, Mark, piece_of_kind, pieces, product_pieces, minus_pieces, plus_or_minus, further_pieces, sum_pieces, sign_kind, relation_pieces, value_pieces, more_relations, item_pieces}
 use Rattle.ps_syntax.specs.Trees.{value_of, rows_of_relations, with_item}
 use Rattle.ps_syntax.specs.Words.{Word, At, is_kind, place_at}
-use Rattle.ps_syntax.proofs.Steps.{kind_of, kind_of_piece, takes_pieces, Ahead, ahead_so, Finds, found_more}
-use Rattle.ps_syntax.proofs.DeclarationLaws.{DeclaredFits, declaration_exact}
-use Rattle.ps_syntax.proofs.ProgramLaws.{rows_of_item, ItemSigned, item_rows_again}
+use Rattle.ps_syntax.proofs.Steps.{kind_of, kind_of_piece, takes_pieces, ahead_so, Finds, found_more}
+use Rattle.ps_syntax.proofs.DeclarationLaws.{declaration_exact}
+use Rattle.ps_syntax.proofs.ProgramLaws.{rows_of_item, item_rows_again, signs_of, room_of}
 
 -- ---- weights of words by their kinds
 
@@ -241,18 +237,6 @@ pub record Tallies (d : Declared) (back : List Word) : Type 0 where
   pub rows : d.rows ≡ rows_in back
   pub globals : length d.globals ≡ count_of kind.Global back
   pub locals : length d.locals ≡ count_of kind.Local back
-
-signs_of : (d : Declared) (i : ItemText) → DeclaredFits d i → ItemSigned i
-signs_of d (global x v) h = tt
-signs_of d (local x) h = tt
-signs_of d (init r rs) h = each (r ∷ rs) h
-  where
-    each : (ss : List RelationText) → All (λ (s : RelationText). RelationFits (names_of d) s × (s.sign ≢ sign.NotEqual)) ss → AllByRecursion (λ (s : RelationText). s.sign ≢ sign.NotEqual) ss
-    each [] g = tt
-    each (s ∷ ss) g = ((All-head (λ (t : RelationText). RelationFits (names_of d) t × (t.sign ≢ sign.NotEqual)) s ss g).1, each ss (All-tail (λ (t : RelationText). RelationFits (names_of d) t × (t.sign ≢ sign.NotEqual)) s ss g))
-
-room_of : (n : ℕ) (at : At) → length at.words ≤ n → Ahead n at (pieces at.words)
-room_of n at h = record { is = refl; room = omega (arith, h, length-map at.words (λ (w : Word). piece_of_kind w.kind w.text)) }
 
 -- An item that was read after its rows were counted.
 pub item_tallies : (n : ℕ) (d : Declared) (at : At) (back : List Word) → length at.words ≤ n → Tallies d back

@@ -7,15 +7,13 @@ use Rattle.ps_syntax.specs.Blocks.{block_at}
 use Rattle.ps_syntax.specs.Causes.{IsFirstCause}
 use Rattle.ps_syntax.specs.Items.{most_levels, names_of, nothing_declared, program_at, program_of}
 use Rattle.ps_syntax.specs.Names.{Names}
-use Rattle.ps_syntax.specs.Sums.{init_sign_of}
 use Rattle.ps_syntax.specs.Words.{Word, end_from}
-use Rattle.ps_syntax.proofs.Guards.{Keeps, keeps_end, keeps_more}
+use Rattle.ps_syntax.proofs.Guards.{Keeps, keeps_end}
 use Rattle.ps_syntax.proofs.ProgramGuards.{refused_is}
-use Rattle.ps_syntax.proofs.RelationLaws.{init_signs}
 use Rattle.ps_syntax.proofs.CauseSteps.{Whole, In, Blamed, Fresh, fresh_linear, grammar_blamed, then_keeps, after_keeps}
-use Rattle.ps_syntax.proofs.SumCauses.{mark_keeps, relation_keeps}
+use Rattle.ps_syntax.proofs.SumCauses.{mark_keeps}
 use Rattle.ps_syntax.proofs.StmtCauses.{outside, block_keeps}
-use Rattle.ps_syntax.proofs.ItemCauses.{PassesRelations, declares_none, items_keeps}
+use Rattle.ps_syntax.proofs.ItemCauses.{declares_none, items_keeps}
 
 -- where the text ends
 end_keeps : {t : Whole} {names : Names} {back : List Word} (ws : List Word) (end : Place) → In t names back (record { words = ws; end = end }) → Fresh false back → Keeps (end_from ws) (λ u. Unit {0}) (Blamed t)
@@ -26,17 +24,10 @@ program_keeps : (t : Whole) → Keeps (program_at (length t.words) (record { wor
 unfolding program_at
 program_keeps t =
     let n : ℕ = length t.words in
-    then_keeps _ _ _ _ _ (items_keeps t relations n nothing_declared (record { words = t.words; end = t.end }) (declares_none t)) (λ d p.
+    then_keeps _ _ _ _ _ (items_keeps t n nothing_declared (record { words = t.words; end = t.end }) (declares_none t)) (λ d p.
     then_keeps _ _ _ _ _ (after_keeps kind.Thread (block_at (Some (names_of d.0)) n most_levels false) d.1 _ _ _ (mark_keeps kind.Thread refl refl refl p.stands.inside p.stands.fresh p.stands.level) (λ w q.
     block_keeps t (names_of d.0) n most_levels [] false false refl outside q.back w.1 q.here q.fresh q.so)) (λ b q.
     then_keeps _ _ _ _ _ (end_keeps b.1.words b.1.end q.here q.fresh) (λ u v. keeps_end _ _ _ tt)))
-  where
-    relations : PassesRelations t (length t.words)
-    relations names = record {
-      law = λ at r.
-          keeps_more _ _ _ _ _ (relation_keeps init_sign_of init_signs (length t.words) r.stands.inside r.stands.fresh r.stands.level)
-          (λ y p. record { back = p.back; stands = record { inside = p.here; fresh = p.fresh; level = p.so } }) (λ e b. b);
-    }
 
 -- A refusal stands at the first word that has a cause of one.
 pub program_of_first : (words : List Word) (end : Place) (e : ReadRefusal) → program_of words end ≡ Err e → IsFirstCause words end e
