@@ -1,9 +1,10 @@
--- Worked examples of what is read off the words before a place: the levels that are open, the names that are declared, and
--- the rows that hold at the start.
-use Rattle.std.proofs.Common.{◌≡◌, ℕ, List, [], ◌∷◌, ◌++◌, refl}
+-- Worked examples of what is read off the words before a place: the levels that are open, the names that are declared, the
+-- rows that hold at the start, and which causes of refusals stand there.
+use Rattle.std.proofs.Common.{◌≡◌, ℕ, false, List, [], ◌∷◌, ◌++◌, refl, arith}
 use Rattle.ps_text.specs.declared.token_kind.TokenKind.{TokenKind}
 use Rattle.ps_text.specs.declared.token_kind.TokenKind.TheVariants as kind
-use Rattle.ps_syntax.specs.Causes.{words_at, declared_in, rows_in, block, atomic_block, parens, negation, levels}
+use Rattle.ps_syntax.specs.declared.read_refusal.ReadRefusal.TheVariants as refusal
+use Rattle.ps_syntax.specs.Causes.{words_at, declared_in, is_after_factor, rows_in, block, atomic_block, parens, negation, levels, IsCauseAt}
 use Rattle.ps_syntax.specs.Words.{Word}
 
 abbrev word : TokenKind → List ℕ → Word
@@ -74,3 +75,24 @@ has_fewer = refl
 -- the words that were passed and those ahead are the whole
 is_whole : words_at (turned [] negated) atomic ≡ negated ++ atomic
 is_whole = refl
+
+-- ---- causes
+
+-- `havoc x` where nothing is declared
+is_unknown : IsCauseAt [] (record { line = 1; column = 1 }) (turned [] (mark kind.Thread ∷ mark kind.OpenBrace ∷ mark kind.Havoc ∷ [])) x [] (refusal.UnknownName x.place)
+is_unknown = (refl, refl, λ c. omega (arith, c.1))
+
+-- `global x ; local x`
+is_twice : IsCauseAt [] (record { line = 1; column = 1 }) (turned [] (mark kind.Global ∷ x ∷ mark kind.Semicolon ∷ mark kind.Local ∷ [])) x [] (refusal.Twice x.place)
+is_twice = (refl, refl, (0, omega arith, refl))
+
+-- `x * y`, but not `0 * y`
+is_second : IsCauseAt [] (record { line = 1; column = 1 }) (turned [] (x ∷ mark kind.Star ∷ [])) y [] (refusal.NotLinear y.place)
+is_second = (refl, refl)
+
+is_only : is_after_factor (turned [] (zero' ∷ mark kind.Star ∷ [])) ≡ false
+is_only = refl
+
+-- `atomic { while`
+is_loop : IsCauseAt [] (record { line = 1; column = 1 }) (turned [] (mark kind.Atomic ∷ mark kind.OpenBrace ∷ [])) (mark kind.While) [] (refusal.LoopInAtomic (mark kind.While).place)
+is_loop = (refl, (0, omega arith, refl))
