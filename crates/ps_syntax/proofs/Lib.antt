@@ -22,6 +22,8 @@ pub mod CondGuards
 pub mod StmtGuards
 pub mod DeclarationGuards
 pub mod ProgramGuards
+pub mod ItemRows
+pub mod NamesDeclared
 pub mod OneAnswer
 pub mod Examples
 pub mod Putting
@@ -35,3 +37,10 @@ pub mod NamesApart
 pub mod ProgramBack
 pub mod PrintedTokens
 pub mod RoundTrip
+pub mod CauseSteps
+pub mod ItemCauses
+pub mod SumCauses
+pub mod CondCauses
+pub mod StmtCauses
+pub mod CauseExamples
+pub mod ProgramCauses

@@ -285,7 +285,7 @@ first_fault words end place f = record {
       (free_never i at' t.text (recursion_from_All HasInitSigns t.text.items t.signs) (record { is = t.spelled; room = omega (arith, l) }));
 }
 
-refused_is : (r : Result Program ReadRefusal) (Q : Program → Type 0) (R : ReadRefusal → Type 0) (e : ReadRefusal) → Keeps r Q R → r ≡ Err e → R e
+pub refused_is : (r : Result Program ReadRefusal) (Q : Program → Type 0) (R : ReadRefusal → Type 0) (e : ReadRefusal) → Keeps r Q R → r ≡ Err e → R e
 refused_is r Q R e h same = kept (subst (λ s. Keeps s Q R) same h)
   where
     kept : Keeps {A = Program} (Err e) Q R → R e

@@ -119,7 +119,7 @@ item_rows_again n at (init r rs) rest signs h =
 
 -- ---- items
 
-signs_of : (d : Declared) (i : ItemText) → DeclaredFits d i → ItemSigned i
+pub signs_of : (d : Declared) (i : ItemText) → DeclaredFits d i → ItemSigned i
 signs_of d (global x v) h = tt
 signs_of d (local x) h = tt
 signs_of d (init r rs) h = each (r ∷ rs) h
@@ -151,7 +151,7 @@ ItemSays d i ps y = y ≡ with_item d i
 item_said : (d : Declared) (i : ItemText) (rows : ℕ) (y : Declared) → rows ≡ rows_of_item i → y ≡ with_rows (d.rows + rows) (with_item (with_rows (d.rows + rows) d) i) → y ≡ with_item d i
 item_said d i rows y e h = h ∙ ap (λ (k : ℕ). with_rows (d.rows + k) (with_item (with_rows (d.rows + k) d) i)) e ∙ with_its_rows d i
 
-room_of : (n : ℕ) (at : At) → length at.words ≤ n → Ahead n at (pieces at.words)
+pub room_of : (n : ℕ) (at : At) → length at.words ≤ n → Ahead n at (pieces at.words)
 room_of n at h = record { is = refl; room = omega (arith, h, length-map at.words (λ (w : Word). piece_of_kind w.kind w.text)) }
 
 item_found : (n : ℕ) (d : Declared) (at : At) → length at.words ≤ n → Finds (item_at d n at) (Spelled item_pieces (ItemFits d) (ItemSays d) at)

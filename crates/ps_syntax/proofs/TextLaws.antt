@@ -11,8 +11,9 @@ use Rattle.ps_syntax.specs.declared.read_refusal.ReadRefusal.{ReadRefusal}
 use Rattle.ps_syntax.specs.declared.read_refusal.ReadRefusal.TheVariants as refusal
 use Rattle.ps_syntax.specs.Words.{Tells, words_of}
 use Rattle.ps_syntax.specs.Items.{program_of}
-use Rattle.ps_syntax.specs.Texts.{IsProgram, TokenIsBad, GrammarIsFault, IsInText, RefusalIsInText, end_of, uncut}
+use Rattle.ps_syntax.specs.Texts.{IsProgram, TokenIsBad, GrammarIsFault, IsInText, RefusalIsInText, IsFirstRefusal, RefusalIsFirst, end_of, uncut}
 use Rattle.ps_syntax.proofs.ProgramGuards.{program_of_grammar, program_of_refused}
+use Rattle.ps_syntax.proofs.ProgramCauses.{program_of_first}
 use Rattle.ps_syntax.proofs.NoTokens.{program_never}
 use Rattle.ps_syntax.proofs.ProgramLaws.{program_of_found, program_of_again}
 
@@ -100,3 +101,23 @@ cut_in_text bytes ts (Err (refusal.NotLinear place)) cut tells = in_text bytes t
 cut_in_text bytes ts (Err (refusal.LoopInAtomic place)) cut tells = in_text bytes ts (refusal.LoopInAtomic place) cut tells
 cut_in_text bytes ts (Err (refusal.Limit place l)) cut tells = in_text bytes ts (refusal.Limit place l) cut tells
 cut_in_text bytes ts (Err (refusal.Memory e)) cut tells = tt
+
+-- ---- the first word that has a cause of a refusal
+
+pub uncut_first : (bytes : List ℕ) (end : TokenEnd) → RefusalIsFirst bytes (uncut end)
+uncut_first bytes (token.BadToken place) = tt
+uncut_first bytes (token.Memory e) = tt
+
+first_in : (bytes : List ℕ) (ts : List Token) (e : ReadRefusal) → AreTokens bytes ts → program_of (words_of bytes ts) (end_of bytes) ≡ Err e → IsFirstRefusal bytes e
+first_in bytes ts e cut tells = record { tokens = ts; cut = cut; is = program_of_first (words_of bytes ts) (end_of bytes) e tells }
+
+pub cut_first : (bytes : List ℕ) (ts : List Token) (result : Result Program ReadRefusal) → AreTokens bytes ts → Tells (λ (p : Program). p) result (program_of (words_of bytes ts) (end_of bytes)) → IfErr result (RefusalIsFirst bytes)
+cut_first bytes ts (Ok p) cut tells = tt
+cut_first bytes ts (Err (refusal.Token place)) cut tells = tt
+cut_first bytes ts (Err (refusal.Grammar place)) cut tells = first_in bytes ts (refusal.Grammar place) cut tells
+cut_first bytes ts (Err (refusal.UnknownName place)) cut tells = first_in bytes ts (refusal.UnknownName place) cut tells
+cut_first bytes ts (Err (refusal.Twice place)) cut tells = first_in bytes ts (refusal.Twice place) cut tells
+cut_first bytes ts (Err (refusal.NotLinear place)) cut tells = first_in bytes ts (refusal.NotLinear place) cut tells
+cut_first bytes ts (Err (refusal.LoopInAtomic place)) cut tells = first_in bytes ts (refusal.LoopInAtomic place) cut tells
+cut_first bytes ts (Err (refusal.Limit place l)) cut tells = first_in bytes ts (refusal.Limit place l) cut tells
+cut_first bytes ts (Err (refusal.Memory e)) cut tells = tt

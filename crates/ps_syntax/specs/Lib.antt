@@ -19,5 +19,6 @@ pub mod Reads
 pub mod Texts
 pub mod Refusals
 pub mod Canonical
+pub mod Causes
 pub mod Printed
 pub mod ReadBack

@@ -8,6 +8,7 @@ use Rattle.ps_text.specs.declared.token_end.TokenEnd.{TokenEnd}
 use Rattle.ps_text.specs.declared.token_end.TokenEnd.TheVariants as token
 use Rattle.ps_syntax.specs.declared.read_refusal.ReadRefusal.{ReadRefusal}
 use Rattle.ps_syntax.specs.declared.read_refusal.ReadRefusal.TheVariants as refusal
+use Rattle.ps_syntax.specs.Causes.{IsFirstCause}
 use Rattle.ps_syntax.specs.Printed.{unplaced}
 use Rattle.ps_syntax.specs.Reads.{IsProgramText, IsFirstFault, StandsInText}
 use Rattle.ps_syntax.specs.Words.{words_of}
@@ -55,6 +56,18 @@ abbrev pub RefusalIsInText : List ℕ → ReadRefusal → Type 0
 RefusalIsInText bytes (refusal.Token place) = Unit {0}
 RefusalIsInText bytes (refusal.Memory e) = Unit {0}
 RefusalIsInText bytes refused = IsInText bytes refused
+
+-- The text has tokens, and the refusal stands at the first word that has a cause of one.
+pub record IsFirstRefusal (bytes : List ℕ) (refused : ReadRefusal) : Type 0 where
+  pub tokens : List Token
+  pub cut : AreTokens bytes tokens
+  pub is : IsFirstCause (words_of bytes tokens) (end_of bytes) refused
+
+-- A refusal of the words stands so.
+abbrev pub RefusalIsFirst : List ℕ → ReadRefusal → Type 0
+RefusalIsFirst bytes (refusal.Token place) = Unit {0}
+RefusalIsFirst bytes (refusal.Memory e) = Unit {0}
+RefusalIsFirst bytes refused = IsFirstRefusal bytes refused
 
 -- The text is a program that is the same as another but for places.
 pub record IsSameProgram (bytes : List ℕ) (other : Program) : Type 0 where

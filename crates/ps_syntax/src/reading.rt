@@ -9,7 +9,7 @@ ghost use Rattle.ps_syntax.specs.declared.read_refusal.ReadRefusal.TheVariants a
 ghost use Rattle.ps_syntax.specs.Within.{AreWithin};
 ghost use Rattle.ps_syntax.specs.Words.{Tells, words_of};
 ghost use Rattle.ps_syntax.specs.Items.{program_at, program_of};
-ghost use Rattle.ps_syntax.specs.Texts.{end_of, uncut, IsProgram, TokenIsBad, GrammarIsFault, RefusalIsInText};
+ghost use Rattle.ps_syntax.specs.Texts.{end_of, uncut, IsProgram, TokenIsBad, GrammarIsFault, RefusalIsInText, RefusalIsFirst};
 
 use crate::cursor::Cursor;
 use crate::items::items;
@@ -78,6 +78,9 @@ pub fn read_program(alloc: Global, bytes: &[u8]) -> Result<Program, ReadRefusal>
     ensures grammar { IfErr result (GrammarIsFault bytes.now) }
     // No refusal of the words stands after that place: before it the words go on as some text of the grammar.
     ensures in_text { IfErr result (RefusalIsInText bytes.now) }
+    // A refusal of the words stands at a word with its cause, as the words before tell it. No cause of a refusal that goes
+    // before it holds there, and none at a word before.
+    ensures first { IfErr result (RefusalIsFirst bytes.now) }
 {
     match tokens(alloc, bytes) {
         Ok(list) => program_of(alloc, bytes, &list),

@@ -2,7 +2,7 @@ use Rattle.std.proofs.Common.{arith, Ok}
 use Rattle.ps_syntax.specs.Items.{program_of}
 use Rattle.ps_syntax.specs.Words.{words_of}
 use Rattle.ps_syntax.specs.Texts.{end_of}
-use Rattle.ps_syntax.proofs.TextLaws.{cut_found, cut_only, cut_exact, cut_not_bad, cut_token, cut_grammar, cut_in_text, uncut_exact, uncut_bad, uncut_token, uncut_grammar, uncut_in_text}
+use Rattle.ps_syntax.proofs.TextLaws.{cut_found, cut_only, cut_exact, cut_not_bad, cut_token, cut_grammar, cut_in_text, cut_first, uncut_exact, uncut_bad, uncut_token, uncut_grammar, uncut_in_text, uncut_first}
 use Rattle.ps_syntax.proofs.WordsWithin.{tokens_within, tokens_few}
 use Rattle.ps_syntax.proofs.reading.read_program.Goals as goal
 
@@ -50,3 +50,9 @@ returns-in-Ok-clause-in_text c = cut_in_text c.args.bytes.now c.in-Ok.list.items
 
 pub returns-in-Err-clause-in_text : goal.returns-in-Err-clause-in_text
 returns-in-Err-clause-in_text c = rw c.uncut.ensures (uncut_in_text c.args.bytes.now c.in-Err.end)
+
+pub returns-in-Ok-clause-first : goal.returns-in-Ok-clause-first
+returns-in-Ok-clause-first c = cut_first c.args.bytes.now c.in-Ok.list.items c.program_of.result c.in-Ok.ensures.tokens (rw c.deref.ensures.value at c.program_of.ensures)
+
+pub returns-in-Err-clause-first : goal.returns-in-Err-clause-first
+returns-in-Err-clause-first c = rw c.uncut.ensures (uncut_first c.args.bytes.now c.in-Err.end)
