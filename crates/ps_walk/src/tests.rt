@@ -1,8 +1,8 @@
-// Walks over stages that are written down as the elimination of the rows gives them, but for their vectors, which the
-// walk doesn't read.
+// Walks over the stages of an elimination, and over stages that are written down, without the vectors, which the walk
+// doesn't read.
 use crate::answer::Walk;
 use crate::integer::integer_walk;
-use ps_elim::Stage;
+use ps_elim::{Elim, Stage, eliminate, has_few_variables};
 use ps_list::Sequence;
 use ps_term::{Row, Term, TermEnd, Var, add_scaled};
 use std::alloc::{AllocError, Global};
@@ -130,5 +130,46 @@ fn walks(rt: HostRuntime) -> Result<(), Fail> {
     assert_eq!(rt; walked(alloc, great, high, None)?.as_str(), "past");
     let walk = integer_walk(alloc, &[], &[])?;
     assert_eq!(rt; shown(alloc, &walk)?.as_str(), "values");
+    Ok(())
+}
+
+// The walk over the stages of the rows' elimination, or what the elimination ends in otherwise.
+fn solved(alloc: Global, triples: &[(i128, i128, i128)]) -> Result<String, TermEnd> {
+    let rows = rows_of(alloc, triples)?;
+    if rows.len() > 1_000 || !has_few_variables(rows.as_slice()) {
+        return Err(TermEnd::Memory(AllocError));
+    }
+    match eliminate(alloc, rows.as_slice()).map_err(TermEnd::Memory)? {
+        Elim::Stages(stages) => {
+            let walk = integer_walk(alloc, rows.as_slice(), stages.as_slice())
+                .map_err(TermEnd::Memory)?;
+            shown(alloc, &walk).map_err(TermEnd::Memory)
+        }
+        other => format!(in alloc; "{other:?}").map_err(TermEnd::Memory),
+    }
+}
+
+#[test]
+fn walks_the_stages_of_an_elimination(rt: HostRuntime) -> Result<(), Fail> {
+    let alloc = rt.alloc();
+    let mut opposite = Vec::new(alloc);
+    for number in 0..96 {
+        opposite.push((if number < 32 { 1 } else { -1 }, 0, 0))?;
+    }
+    let table: [(&[(i128, i128, i128)], &str); 8] = [
+        (&[(2, -3, -1), (-2, 3, 1), (0, 0, 0)], "none Global(0) 1 0"),
+        (&[(-1, 0, 6)], "values Global(0) 6"),
+        (opposite.as_slice(), "values Global(0) 0"),
+        (&[], "values"),
+        // One variable stands in one row only: it is 0 where it may be.
+        (&[(1, 0, 4), (0, -1, 3)], "values Global(0) -4 Global(1) 3"),
+        (&[(1, 1, -9), (-1, 0, 2), (0, -1, 3)], "values Global(0) 2 Global(1) 3"),
+        // Equal rows.
+        (&[(-2, 0, 5), (-2, 0, 5)], "values Global(0) 3"),
+        (&[(MAX, 0, 0), (-2, 0, 0)], "Past128 { stage: 0 }"),
+    ];
+    for (triples, want) in table {
+        assert_eq!(rt; solved(alloc, triples)?.as_str(), want);
+    }
     Ok(())
 }
