@@ -315,7 +315,10 @@ fn printed(alloc: Global, text: &[u8]) -> Result<Vec<u8>, Fail> {
 #[test]
 fn what_is_read_is_printed_word_by_word(rt: HostRuntime) -> Result<(), Fail> {
     let table = [
-        (INC, "global x = 0 ;\nthread {\nx := x + 1 ;\nassert x >= 1 ;\n}\n"),
+        (
+            INC,
+            "global x = 0 ;\nthread {\nx := x + 1 ;\nassert x >= 1 ;\n}\n",
+        ),
         (
             BRANCH,
             "global x = 0 ;\nthread {\nx := x + 1 ;\nif ( * ) {\n}\nelse {\nskip ;\n}\nassert x >= 1 ;\nassert x >= 1 ;\n}\n",
@@ -327,7 +330,11 @@ fn what_is_read_is_printed_word_by_word(rt: HostRuntime) -> Result<(), Fail> {
         ),
     ];
     for (text, want) in table {
-        assert_eq!(rt; printed(rt.alloc(), text.as_bytes())?.as_slice(), want.as_bytes(), "at {text}");
+        assert_eq!(rt;
+            printed(rt.alloc(), text.as_bytes())?.as_slice(),
+            want.as_bytes(),
+            "at {text}"
+        );
     }
     Ok(())
 }

@@ -58,13 +58,22 @@ fn faults_of_the_grammar_stand_at_their_word(rt: HostRuntime) -> Result<(), Fail
         ("global x; thread { x := x * 2 * 3; }", 1, 31, "grammar"),
         ("global x; thread { x := - - x; }", 1, 27, "grammar"),
         ("global x; thread { x := (x); }", 1, 25, "grammar"),
-        ("global x; thread { assume (x + 1 ) < 2; }", 1, 34, "grammar"),
+        (
+            "global x; thread { assume (x + 1 ) < 2; }",
+            1,
+            34,
+            "grammar",
+        ),
         ("global x; thread { assume x ; }", 1, 29, "grammar"),
         ("global x; thread { assume x < 1 < 2; }", 1, 33, "grammar"),
     ];
     for (text, line, column, name) in table {
         let want = refusal(rt.alloc(), line, column, name)?;
-        assert_eq!(rt; answer(rt.alloc(), text)?.as_slice(), want.as_bytes(), "at {text}");
+        assert_eq!(rt;
+            answer(rt.alloc(), text)?.as_slice(),
+            want.as_bytes(),
+            "at {text}"
+        );
     }
     Ok(())
 }
@@ -85,15 +94,29 @@ fn faults_of_statements_stand_at_their_word(rt: HostRuntime) -> Result<(), Fail>
         ("local x = 5; thread { }", 1, 9, "grammar"),
         ("thread { } }", 1, 12, "grammar"),
         ("thread { { } }", 1, 10, "grammar"),
-        ("thread { atomic { while (*) { } } }", 1, 19, "loop in atomic"),
-        ("thread { atomic { if (*) { } else { while (*) { } } } }", 1, 37, "loop in atomic"),
+        (
+            "thread { atomic { while (*) { } } }",
+            1,
+            19,
+            "loop in atomic",
+        ),
+        (
+            "thread { atomic { if (*) { } else { while (*) { } } } }",
+            1,
+            37,
+            "loop in atomic",
+        ),
         ("thread { atomic { while x } }", 1, 19, "loop in atomic"),
         ("thread { atomic { atomic { while", 1, 28, "loop in atomic"),
         ("thread { atomic { skip while (*) { } } }", 1, 24, "grammar"),
     ];
     for (text, line, column, name) in table {
         let want = refusal(rt.alloc(), line, column, name)?;
-        assert_eq!(rt; answer(rt.alloc(), text)?.as_slice(), want.as_bytes(), "at {text}");
+        assert_eq!(rt;
+            answer(rt.alloc(), text)?.as_slice(),
+            want.as_bytes(),
+            "at {text}"
+        );
     }
     Ok(())
 }
@@ -111,27 +134,81 @@ fn names_and_their_number_are_refused_at_the_name(rt: HostRuntime) -> Result<(),
         ("thread { assume ) y > 1; }", 1, 17, "grammar"),
         ("global x; thread { x := y * z; }", 1, 25, "unknown name"),
         ("global x; thread { x := x * y; }", 1, 29, "not linear"),
-        ("global x; global y; thread { x := x * y; }", 1, 39, "not linear"),
-        ("global x; thread { assume x * x == 1; }", 1, 31, "not linear"),
-        ("global x; thread { assume 1 < - x * x; y := 1; }", 1, 37, "not linear"),
+        (
+            "global x; global y; thread { x := x * y; }",
+            1,
+            39,
+            "not linear",
+        ),
+        (
+            "global x; thread { assume x * x == 1; }",
+            1,
+            31,
+            "not linear",
+        ),
+        (
+            "global x; thread { assume 1 < - x * x; y := 1; }",
+            1,
+            37,
+            "not linear",
+        ),
         ("global x; init x * x > 0; thread { }", 1, 20, "not linear"),
-        ("thread { y := 1; atomic { while (*) { } } }", 1, 10, "unknown name"),
-        ("thread { atomic { while (*) { y := 1; } } }", 1, 19, "loop in atomic"),
+        (
+            "thread { y := 1; atomic { while (*) { } } }",
+            1,
+            10,
+            "unknown name",
+        ),
+        (
+            "thread { atomic { while (*) { y := 1; } } }",
+            1,
+            19,
+            "loop in atomic",
+        ),
         ("global x; global x; thread { }", 1, 18, "name twice"),
         ("global x; local x; thread { }", 1, 17, "name twice"),
         ("local a; local a 1;", 1, 16, "name twice"),
         ("local a; global a = 9; init b > 0;", 1, 17, "name twice"),
         ("local a; init b > 0; global a;", 1, 15, "unknown name"),
         ("global x; thread { assume x ! y > 1; }", 1, 29, "grammar"),
-        ("global x; thread { x := x * x; atomic { while", 1, 29, "not linear"),
-        ("global a;\nglobal b;\nglobal c;\nglobal d;\nglobal e;\nglobal f;\nglobal g;\nglobal h;\nglobal i;\nglobal j;\nglobal k;\nglobal l;\nglobal m;\nglobal n;\nglobal o;\nglobal p;\nglobal q;\nthread { }", 17, 8, "limit globals"),
-        ("global a;\nglobal b;\nglobal c;\nglobal d;\nglobal e;\nglobal f;\nglobal g;\nglobal h;\nglobal i;\nglobal j;\nglobal k;\nglobal l;\nglobal m;\nglobal n;\nglobal o;\nglobal p;\nglobal a;", 17, 8, "name twice"),
-        ("local a;local b;local c;local d;local e;local f;local g;local h;local i = 1;", 1, 71, "limit locals"),
-        ("local a;local b;local c;local d;local e;local f;local g;local h;local c;", 1, 71, "name twice"),
+        (
+            "global x; thread { x := x * x; atomic { while",
+            1,
+            29,
+            "not linear",
+        ),
+        (
+            "global a;\nglobal b;\nglobal c;\nglobal d;\nglobal e;\nglobal f;\nglobal g;\nglobal h;\nglobal i;\nglobal j;\nglobal k;\nglobal l;\nglobal m;\nglobal n;\nglobal o;\nglobal p;\nglobal q;\nthread { }",
+            17,
+            8,
+            "limit globals",
+        ),
+        (
+            "global a;\nglobal b;\nglobal c;\nglobal d;\nglobal e;\nglobal f;\nglobal g;\nglobal h;\nglobal i;\nglobal j;\nglobal k;\nglobal l;\nglobal m;\nglobal n;\nglobal o;\nglobal p;\nglobal a;",
+            17,
+            8,
+            "name twice",
+        ),
+        (
+            "local a;local b;local c;local d;local e;local f;local g;local h;local i = 1;",
+            1,
+            71,
+            "limit locals",
+        ),
+        (
+            "local a;local b;local c;local d;local e;local f;local g;local h;local c;",
+            1,
+            71,
+            "name twice",
+        ),
     ];
     for (text, line, column, name) in table {
         let want = refusal(rt.alloc(), line, column, name)?;
-        assert_eq!(rt; answer(rt.alloc(), text)?.as_slice(), want.as_bytes(), "at {text}");
+        assert_eq!(rt;
+            answer(rt.alloc(), text)?.as_slice(),
+            want.as_bytes(),
+            "at {text}"
+        );
     }
     Ok(())
 }
@@ -259,7 +336,11 @@ fn one_above_a_limit_is_refused_at_its_place(rt: HostRuntime) -> Result<(), Fail
     for (nested, column, name) in table {
         let text = text_of(alloc, nested)?;
         let want = refusal(alloc, 1, column, name)?;
-        assert_eq!(rt; answer(alloc, text.as_str())?.as_slice(), want.as_bytes(), "at {text}");
+        assert_eq!(rt;
+            answer(alloc, text.as_str())?.as_slice(),
+            want.as_bytes(),
+            "at {text}"
+        );
     }
     Ok(())
 }

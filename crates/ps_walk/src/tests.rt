@@ -141,8 +141,9 @@ fn solved(alloc: Global, triples: &[(i128, i128, i128)]) -> Result<String, TermE
     }
     match eliminate(alloc, rows.as_slice()).map_err(TermEnd::Memory)? {
         Elim::Stages(stages) => {
-            let walk = integer_walk(alloc, rows.as_slice(), stages.as_slice())
-                .map_err(TermEnd::Memory)?;
+            let walk = integer_walk(alloc, rows.as_slice(), stages.as_slice()).map_err(
+                TermEnd::Memory,
+            )?;
             shown(alloc, &walk).map_err(TermEnd::Memory)
         }
         other => format!(in alloc; "{other:?}").map_err(TermEnd::Memory),
@@ -163,7 +164,10 @@ fn walks_the_stages_of_an_elimination(rt: HostRuntime) -> Result<(), Fail> {
         (&[], "values"),
         // One variable stands in one row only: it is 0 where it may be.
         (&[(1, 0, 4), (0, -1, 3)], "values Global(0) -4 Global(1) 3"),
-        (&[(1, 1, -9), (-1, 0, 2), (0, -1, 3)], "values Global(0) 2 Global(1) 3"),
+        (
+            &[(1, 1, -9), (-1, 0, 2), (0, -1, 3)],
+            "values Global(0) 2 Global(1) 3",
+        ),
         // Equal rows.
         (&[(-2, 0, 5), (-2, 0, 5)], "values Global(0) 3"),
         (&[(MAX, 0, 0), (-2, 0, 0)], "Past128 { stage: 0 }"),
