@@ -1,5 +1,5 @@
 -- What statements with blocks are printed as, with their blocks as lists.
-use Rattle.std.proofs.Common.{◌≡◌, ℕ, List, [], ◌∷◌, ◌++◌, map, refl, sym, ◌∙◌, ap, ap₂, append_assoc}
+use Rattle.std.proofs.Common.{◌≡◌, ℕ, List, [], ◌∷◌, ◌++◌, map, refl, ◌∙◌, ap, ap₂, append_assoc}
 use Rattle.ps_text.specs.declared.token_kind.TokenKind.TheVariants as kind
 use Rattle.ps_syntax.specs.declared.cond.Test.{Test}
 use Rattle.ps_syntax.specs.declared.stmt.Stmt.{Stmt}

@@ -1,10 +1,8 @@
 -- The text that is printed of the statements of a text is read as the same statements, but for places.
-use Rattle.std.proofs.Common.{◌≡◌, ℕ, ◌+◌, ◌-◌, ◌<◌, ◌≤◌, Bool, true, false, List, [], ◌∷◌, ◌++◌, length, drop, map, refl, sym, ◌∙◌, ap, ap₂, subst, arith}
+use Rattle.std.proofs.Common.{◌≡◌, ℕ, ◌+◌, ◌-◌, ◌≤◌, Bool, true, false, List, [], ◌∷◌, ◌++◌, length, drop, map, refl, sym, ◌∙◌, ap, ap₂, subst}
 use Rattle.ps_term.specs.declared.var.Var.{Var}
 use Rattle.ps_text.specs.declared.place.Place.{Place}
 use Rattle.ps_text.specs.declared.token_kind.TokenKind.TheVariants as kind
-use Rattle.ps_text.specs.Lexing.{IsName}
-use Rattle.ps_syntax.specs.declared.cond.Cond.{Cond}
 use Rattle.ps_syntax.specs.declared.cond.Test.{Test}
 use Rattle.ps_syntax.specs.declared.stmt.Stmt.{Stmt}
 use Rattle.ps_syntax.specs.declared.stmt.StmtKind.{StmtKind, Row_of-Stmt, end_of-Stmt, more_of-Stmt, items-the_row-Stmt}
@@ -12,15 +10,15 @@ use Rattle.ps_syntax.specs.declared.stmt.StmtKind.TheVariants as stmt
 use Rattle.ps_syntax.specs.declared.stmt.StmtKind.TheBlock.{hidden-the_row-Stmt-0, items_hidden-the_row-Stmt-0}
 use Rattle.ps_syntax.specs.declared.sum.Sum.{Sum}
 use Rattle.ps_syntax.specs.Names.{Names}
-use Rattle.ps_syntax.specs.Canonical.{block_text, cond_text, if_text, name_of, stmt_text, sum_text, test_text}
-use Rattle.ps_syntax.specs.Fits.{IsKnown, RestFits, StmtFits}
+use Rattle.ps_syntax.specs.Canonical.{cond_text, if_text, stmt_text, sum_text, test_text}
+use Rattle.ps_syntax.specs.Fits.{RestFits, StmtFits}
 use Rattle.ps_syntax.specs.Grammar.{StmtText, assign, havoc, assume, assert, skip, atomic, if_then, if_else, while_do, BlockText, block_end, block_more}
 use Rattle.ps_syntax.specs.Printed.{stmts_text, unplaced_kind, unplaced_rest}
-use Rattle.ps_syntax.specs.Spelling.{Piece, Mark, cond_pieces, rest_pieces, stmt_pieces, sum_pieces, test_pieces}
-use Rattle.ps_syntax.specs.Trees.{block_trees, cond_tree, stmt_tree, sum_tree, test_tree, variable_named}
+use Rattle.ps_syntax.specs.Spelling.{Mark, cond_pieces, rest_pieces, stmt_pieces, sum_pieces, test_pieces}
+use Rattle.ps_syntax.specs.Trees.{block_trees, cond_tree, stmt_tree, sum_tree, test_tree}
 use Rattle.ps_syntax.proofs.BlockPieces.{block_is}
 use Rattle.ps_syntax.specs.ReadBack.{AreSpelled}
-use Rattle.ps_syntax.proofs.Spelled.{joined, left, named, right}
+use Rattle.ps_syntax.proofs.Spelled.{joined, left, right}
 use Rattle.ps_syntax.proofs.SumsBack.{known_again, name_again, sum_good, variable_again}
 use Rattle.ps_syntax.proofs.CondsBack.{GoodTest, cond_good, test_good}
 

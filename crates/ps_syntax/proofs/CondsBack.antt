@@ -1,5 +1,5 @@
 -- The text that is printed of the condition of a text is read as the same condition.
-use Rattle.std.proofs.Common.{◌≡◌, ℕ, ◌+◌, ◌-◌, ◌<◌, ◌≤◌, List, [], ◌∷◌, ◌++◌, refl, sym, ◌∙◌, ap, ap₂, subst, arith}
+use Rattle.std.proofs.Common.{◌≡◌, ℕ, ◌-◌, ◌≤◌, List, [], ◌∷◌, refl, sym, ◌∙◌, ap, ap₂, subst, arith}
 use denote.Hole.Carrier.{hidden}
 use Rattle.ps_text.specs.declared.token_kind.TokenKind.TheVariants as kind
 use Rattle.ps_syntax.specs.declared.cond.Cond.{Cond, Rel, Not', And', Or', Row_of-Cond, end_of-Cond, more_of-Cond, items-the_row-Cond}
@@ -8,10 +8,10 @@ use Rattle.ps_syntax.specs.declared.cond.Cond.TheBlock.{hidden-the_row-Cond-0, h
 use Rattle.ps_syntax.specs.declared.cond.Test.{Test}
 use Rattle.ps_syntax.specs.declared.cond.Test.TheVariants as test
 use Rattle.ps_syntax.specs.Names.{Names}
-use Rattle.ps_syntax.specs.Canonical.{cond_of_members, cond_text, conj_of_members, conj_text, falsehood_text, relation_text, test_text, truth_text, unary_text}
+use Rattle.ps_syntax.specs.Canonical.{cond_of_members, cond_text, conj_of_members, conj_text, falsehood_text, test_text, truth_text, unary_text}
 use Rattle.ps_syntax.specs.Fits.{CondFits, ConjFits, TestFits, UnaryFits}
 use Rattle.ps_syntax.specs.Grammar.{CondText, last_conj, or_else, ConjText, last_unary, and_also, UnaryText, negation, in_parens, relation, TestText, either, condition}
-use Rattle.ps_syntax.specs.Spelling.{Piece, Mark, cond_pieces, conj_pieces, relation_pieces, test_pieces, unary_pieces}
+use Rattle.ps_syntax.specs.Spelling.{Mark, cond_pieces, conj_pieces, test_pieces, unary_pieces}
 use Rattle.ps_syntax.specs.Trees.{cond_members, cond_tree, conj_members, gathered, test_tree, unary_tree}
 use Rattle.ps_syntax.specs.ReadBack.{AreSpelled}
 use Rattle.ps_syntax.proofs.Spelled.{joined, left, right}

@@ -6,7 +6,6 @@ use Rattle.std.proofs.lemmas.List.Elements.{All-cons, All-head, All-nil, All-tai
 use Rattle.std.proofs.lemmas.Slice.Eq.{bytes_eq-Decides}
 use Rattle.ps_term.specs.declared.var.Var.{Var}
 use Rattle.ps_term.specs.declared.var.Var.TheVariants.{Global, Local}
-use Rattle.ps_syntax.specs.declared.relation.Relation.{Relation}
 use Rattle.ps_syntax.specs.declared.sum.Sum.{Sum}
 use Rattle.ps_syntax.specs.Names.{Names, first_of, position_from, variable_of}
 use Rattle.ps_syntax.specs.Fits.{IsKnown, ProductFits, RelationFits, SumFits}

@@ -1,9 +1,8 @@
 -- The text that is printed of the program of a text fits and is read as the same program, but for places.
-use Rattle.std.proofs.Common.{◌≡◌, ◌≢◌, ℕ, ◌+◌, ◌-◌, ◌^◌, ◌<◌, ◌≤◌, ℤ, pos, Bool, true, false, List, [], ◌∷◌, ◌++◌, length, drop, map, Option, Some, None, refl, sym, ◌∙◌, ap, ap₂, subst, append_assoc, append-nil, arith}
+use Rattle.std.proofs.Common.{◌≡◌, ◌≢◌, ℕ, ◌+◌, ◌-◌, ◌^◌, ◌<◌, ◌≤◌, ℤ, false, List, [], ◌∷◌, ◌++◌, length, drop, map, Option, Some, None, refl, sym, ◌∙◌, ap, subst, append_assoc, append-nil, arith}
 use Rattle.std.specs.Prelude.{All, decimal, unsigned_abs}
 use Rattle.std.specs.List.{flat_map}
 use Rattle.std.specs.Str.Parse.{digits_value}
-use Rattle.std.proofs.lemmas.Grind.{flat_map-append}
 use Rattle.std.proofs.lemmas.List.{length-append, map-append}
 use Rattle.std.proofs.lemmas.List.Elements.{All-cons, All-head, All-nil, All-tail}
 use Rattle.ps_term.specs.declared.var.Var.{Var}
@@ -13,23 +12,22 @@ use Rattle.ps_text.specs.Lexing.{IsName}
 use Rattle.ps_syntax.specs.declared.global_decl.GlobalDecl.{GlobalDecl}
 use Rattle.ps_syntax.specs.declared.program.Program.{Program}
 use Rattle.ps_syntax.specs.declared.relation.Relation.{Relation}
-use Rattle.ps_syntax.specs.declared.relation.Sign.{Sign}
 use Rattle.ps_syntax.specs.declared.relation.Sign.TheVariants as sign
 use Rattle.ps_syntax.specs.declared.stmt.Stmt.{Stmt}
-use Rattle.ps_syntax.specs.Names.{Names, variable_of}
+use Rattle.ps_syntax.specs.Names.{Names}
 use Rattle.ps_syntax.specs.Canonical.{is_negative, relation_text}
 use Rattle.ps_syntax.specs.Fits.{IsNew, ItemFits, ItemsFit, ProgramFits, RelationFits, RestFits}
-use Rattle.ps_syntax.specs.Grammar.{RelationText, ValueText, ItemText, global, local, init, BlockText, ProgramText}
+use Rattle.ps_syntax.specs.Grammar.{RelationText, ValueText, ItemText, global, local, init, ProgramText}
 use Rattle.ps_syntax.specs.Items.{Declared, most_globals, most_levels, most_locals, most_rows, names_of, nothing_declared, rows_of_sign, rows_of_value}
-use Rattle.ps_syntax.specs.Printed.{global_item, init_item, program_text, stmts_text, unplaced, value_text}
-use Rattle.ps_syntax.specs.Spelling.{Piece, NamePiece, NumberPiece, Mark, item_pieces, minus_pieces, more_relations, program_pieces, relation_pieces, rest_pieces, value_pieces}
-use Rattle.ps_syntax.specs.Sums.{number_value, signed}
+use Rattle.ps_syntax.specs.Printed.{global_item, init_item, program_text, unplaced, value_text}
+use Rattle.ps_syntax.specs.Spelling.{NumberPiece, Mark, item_pieces, minus_pieces, more_relations, program_pieces, relation_pieces, rest_pieces, value_pieces}
+use Rattle.ps_syntax.specs.Sums.{signed}
 use Rattle.ps_syntax.specs.Trees.{block_trees, program_tree, relation_tree, rows_of_relations, value_of, with_item, with_items}
 use Rattle.ps_syntax.specs.ReadBack.{AreSpelled}
 use Rattle.ps_syntax.proofs.Spelled.{abs_signed, decimal_spelled, decimal_value, joined, left, right, signed_abs, value_below}
 use Rattle.ps_syntax.proofs.SumsBack.{GoodRelation, minus_spelled, relation_good}
 use Rattle.ps_syntax.proofs.BlocksBack.{block_good, without_place}
-use Rattle.ps_syntax.proofs.NamesApart.{Apart, apart_before, apart_insert, apart_left, Extends, global_extends, local_extends, new_from, new_to, NotIn, not_in_both, not_in_left, not_in_right, relation_more}
+use Rattle.ps_syntax.proofs.NamesApart.{Apart, apart_before, apart_insert, apart_left, Extends, global_extends, local_extends, new_from, new_to, not_in_both, not_in_left, not_in_right, relation_more}
 
 abbrev names_in : List GlobalDecl → List (List ℕ)
 names_in gs = map (λ (g : GlobalDecl). g.name) gs

@@ -1,5 +1,5 @@
 -- Pieces whose names and numbers are spelled as such, and what is printed of numbers and names.
-use Rattle.std.proofs.Common.{◌≡◌, ◌≢◌, ℕ, zero, suc, ◌+◌, ◌^◌, ◌<◌, ◌≤◌, ℤ, pos, negsuc, Bool, true, false, List, [], ◌∷◌, ◌++◌, length, map, get_or, Option, Some, None, refl, sym, ◌∙◌, ap, arith}
+use Rattle.std.proofs.Common.{◌≡◌, ◌≢◌, ℕ, zero, suc, ◌+◌, ◌^◌, ◌<◌, ◌≤◌, ℤ, pos, negsuc, Bool, true, false, List, [], ◌∷◌, ◌++◌, length, get_or, Option, Some, None, refl, sym, ◌∙◌, ap, arith}
 use Rattle.std.specs.Prelude.{decimal, unsigned_abs, option_map, if◌then◌else◌}
 use Rattle.std.specs.Str.{bytes_eq}
 use Rattle.std.specs.Str.Parse.{digits_value}
@@ -10,15 +10,15 @@ use Rattle.std.proofs.lemmas.Int.Digits.{digits_value-lt}
 use Rattle.std.proofs.lemmas.Slice.Eq.{bytes_eq-Decides}
 use Rattle.ps_term.specs.declared.var.Var.{Var}
 use Rattle.ps_term.specs.declared.var.Var.TheVariants.{Global, Local}
-use Rattle.ps_text.specs.Lexing.{IsName, IsNumber}
+use Rattle.ps_text.specs.Lexing.{IsNumber}
 use Rattle.ps_text.proofs.Decimals.{decimal-is}
 use Rattle.ps_text.proofs.Digits.{AllDigits-from, are_digits-from}
 use Rattle.ps_text.proofs.Front.{digits_are}
-use Rattle.ps_syntax.specs.Names.{Names, first_of, position_from, variable_of}
+use Rattle.ps_syntax.specs.Names.{Names, first_of, position_from}
 use Rattle.ps_syntax.specs.Canonical.{is_negative, name_of}
 use Rattle.ps_syntax.specs.Fits.{IsKnown}
-use Rattle.ps_syntax.specs.Spelling.{Piece, NamePiece, NumberPiece, Mark}
-use Rattle.ps_syntax.specs.ReadBack.{AreSpelled, IsMark}
+use Rattle.ps_syntax.specs.Spelling.{Piece}
+use Rattle.ps_syntax.specs.ReadBack.{AreSpelled}
 use Rattle.ps_syntax.specs.Sums.{number_value, signed}
 use Rattle.ps_syntax.specs.Trees.{variable_named, variable_or_first}
 

@@ -1,5 +1,5 @@
 -- The text that is printed of the sum of a text is read as the same sum.
-use Rattle.std.proofs.Common.{◌≡◌, ◌≢◌, ℕ, ◌+◌, ◌^◌, ◌<◌, ◌≤◌, ℤ, pos, Bool, true, false, List, [], ◌∷◌, ◌++◌, map, Option, Some, None, refl, sym, ◌∙◌, ap, ap₂, subst, arith}
+use Rattle.std.proofs.Common.{◌≡◌, ℕ, ◌^◌, ◌<◌, ℤ, pos, Bool, true, false, List, [], ◌∷◌, ◌++◌, map, Option, Some, None, refl, sym, ◌∙◌, ap, ap₂, subst, arith}
 use Rattle.std.specs.Prelude.{All, decimal, unsigned_abs, ◌==◌, if◌then◌else◌}
 use Rattle.std.specs.Str.Parse.{digits_value}
 use Rattle.std.proofs.lemmas.List.Elements.{All-cons, All-head, All-nil, All-tail}
@@ -10,10 +10,10 @@ use Rattle.ps_syntax.specs.declared.relation.Relation.{Relation}
 use Rattle.ps_syntax.specs.declared.relation.Sign.{Sign}
 use Rattle.ps_syntax.specs.declared.relation.Sign.TheVariants as sign
 use Rattle.ps_syntax.specs.Names.{Names}
-use Rattle.ps_syntax.specs.Canonical.{is_negative, name_of, product_of, product_text, products_text, relation_text, sum_text}
+use Rattle.ps_syntax.specs.Canonical.{is_negative, name_of, product_of, product_text, relation_text, sum_text}
 use Rattle.ps_syntax.specs.Fits.{IsKnown, ProductFits, RelationFits, SumFits}
 use Rattle.ps_syntax.specs.Grammar.{ProductText, name, name_number, number, number_name, RelationText, SumText}
-use Rattle.ps_syntax.specs.Spelling.{Piece, Mark, further_pieces, minus_pieces, plus_or_minus, product_pieces, relation_pieces, sign_kind, sum_pieces}
+use Rattle.ps_syntax.specs.Spelling.{further_pieces, minus_pieces, plus_or_minus, product_pieces, relation_pieces, sign_kind, sum_pieces}
 use Rattle.ps_syntax.specs.Sums.{number_value, signed}
 use Rattle.ps_syntax.specs.Trees.{product_tree, relation_tree, sum_tree, variable_named}
 use Rattle.ps_syntax.specs.ReadBack.{AreSpelled, IsMark}

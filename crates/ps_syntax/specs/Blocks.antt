@@ -1,11 +1,9 @@
 -- Reading statements and blocks.
-use Rattle.std.specs.Prelude.{ℕ, zero, suc, Bool, true, false, not, List, [], ◌∷◌, Option, Result, Ok, Err, if◌then◌else◌}
-use Rattle.ps_text.specs.declared.place.Place.{Place}
+use Rattle.std.specs.Prelude.{ℕ, zero, suc, Bool, true, not, List, [], Option, Ok, Err, if◌then◌else◌}
 use Rattle.ps_text.specs.declared.token_kind.TokenKind.{TokenKind}
 use Rattle.ps_text.specs.declared.token_kind.TokenKind.TheVariants as kind
 use Rattle.ps_syntax.specs.declared.cond.Cond.{Cond}
 use Rattle.ps_syntax.specs.declared.limit_name.LimitName.TheVariants as limit
-use Rattle.ps_syntax.specs.declared.read_refusal.ReadRefusal.{ReadRefusal}
 use Rattle.ps_syntax.specs.declared.read_refusal.ReadRefusal.TheVariants.{Grammar, Limit, LoopInAtomic}
 use Rattle.ps_syntax.specs.declared.stmt.Stmt.{Stmt}
 use Rattle.ps_syntax.specs.declared.stmt.StmtKind.{StmtKind}

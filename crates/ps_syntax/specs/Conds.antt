@@ -1,5 +1,5 @@
 -- Reading conditions and tests.
-use Rattle.std.specs.Prelude.{ℕ, zero, suc, Bool, ◌||◌, List, [], ◌∷◌, Option, Result, Ok, Err, if◌then◌else◌}
+use Rattle.std.specs.Prelude.{ℕ, zero, suc, Bool, ◌||◌, List, [], ◌∷◌, Option, Ok, Err, if◌then◌else◌}
 use Rattle.ps_text.specs.declared.token_kind.TokenKind.{TokenKind}
 use Rattle.ps_text.specs.declared.token_kind.TokenKind.TheVariants as kind
 use Rattle.ps_syntax.specs.declared.cond.Cond.{Cond}
@@ -7,7 +7,6 @@ use Rattle.ps_syntax.specs.declared.cond.Cond.TheVariants as cond
 use Rattle.ps_syntax.specs.declared.cond.Test.{Test}
 use Rattle.ps_syntax.specs.declared.cond.Test.TheVariants as test
 use Rattle.ps_syntax.specs.declared.limit_name.LimitName.TheVariants as limit
-use Rattle.ps_syntax.specs.declared.read_refusal.ReadRefusal.{ReadRefusal}
 use Rattle.ps_syntax.specs.declared.read_refusal.ReadRefusal.TheVariants.{Limit}
 use Rattle.ps_syntax.specs.Names.{Names}
 use Rattle.ps_syntax.specs.Sums.{relation_at, sign_of}

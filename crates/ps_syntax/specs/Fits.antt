@@ -1,8 +1,8 @@
 -- Which texts of the grammar are programs: names are declared before they are used, and once; no `!=` stands in an
 -- `init` and no `while` in an `atomic`; and the limits are kept.
-use Rattle.std.specs.Prelude.{◌≡◌, ◌≢◌, ◌≤◌, ◌<◌, ℕ, ◌-◌, Bool, true, false, List, [], ◌∷◌, Option, Some, None, All, length, map}
+use Rattle.std.specs.Prelude.{◌≡◌, ◌≢◌, ◌≤◌, ◌<◌, ℕ, ◌-◌, Bool, true, false, List, [], ◌∷◌, None, All, length}
 use Rattle.ps_syntax.specs.declared.relation.Sign.TheVariants as sign
-use Rattle.ps_syntax.specs.Grammar.{ProductText, number, name, number_name, name_number, SumText, RelationText, CondText, last_conj, or_else, ConjText, last_unary, and_also, UnaryText, negation, in_parens, relation, TestText, either, condition, StmtText, assign, havoc, assume, assert, skip, atomic, if_then, if_else, while_do, BlockText, block_end, block_more, ValueText, ItemText, global, local, init, ProgramText}
+use Rattle.ps_syntax.specs.Grammar.{ProductText, number, name, number_name, name_number, SumText, RelationText, CondText, last_conj, or_else, ConjText, last_unary, and_also, UnaryText, negation, in_parens, relation, TestText, either, condition, StmtText, assign, havoc, assume, assert, skip, atomic, if_then, if_else, while_do, BlockText, block_end, block_more, ItemText, global, local, init, ProgramText}
 use Rattle.ps_syntax.specs.Items.{Declared, most_globals, most_levels, most_locals, most_rows, names_of, nothing_declared}
 use Rattle.ps_syntax.specs.Names.{Names, variable_of}
 use Rattle.ps_syntax.specs.Trees.{with_item, with_items}

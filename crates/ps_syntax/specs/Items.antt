@@ -1,6 +1,5 @@
 -- Reading declarations and whole programs.
 use Rattle.std.specs.Prelude.{ℕ, zero, suc, ◌+◌, ℤ, Bool, true, false, ◌||◌, List, [], ◌∷◌, ◌++◌, length, map, Option, Some, None, Result, Ok, Err, nat_le, nat_lt, if◌then◌else◌}
-use Rattle.ps_text.specs.declared.token_kind.TokenKind.{TokenKind}
 use Rattle.ps_text.specs.declared.token_kind.TokenKind.TheVariants as kind
 use Rattle.ps_text.specs.declared.place.Place.{Place}
 use Rattle.ps_syntax.specs.declared.global_decl.GlobalDecl.{GlobalDecl}

@@ -1,12 +1,11 @@
 -- Declared names, and the variables that they stand for.
-use Rattle.std.specs.Prelude.{ℕ, ◌+◌, Bool, true, false, List, [], ◌∷◌, Option, Some, None, option_map, ok_or, Result, Ok, if◌then◌else◌}
+use Rattle.std.specs.Prelude.{ℕ, ◌+◌, List, [], ◌∷◌, Option, Some, None, option_map, ok_or, Ok, if◌then◌else◌}
 use Rattle.std.specs.Str.{bytes_eq}
 use Rattle.ps_text.specs.declared.token_kind.TokenKind.TheVariants as kind
 use Rattle.ps_term.specs.declared.var.Var.{Var}
 use Rattle.ps_term.specs.declared.var.Var.TheVariants.{Global, Local}
-use Rattle.ps_syntax.specs.declared.read_refusal.ReadRefusal.{ReadRefusal}
 use Rattle.ps_syntax.specs.declared.read_refusal.ReadRefusal.TheVariants.{UnknownName}
-use Rattle.ps_syntax.specs.Words.{At, Read, ◌>>=◌, word_at}
+use Rattle.ps_syntax.specs.Words.{Read, ◌>>=◌, word_at}
 
 -- the names of the globals and of the locals, in their order
 pub record Names : Type 0 where

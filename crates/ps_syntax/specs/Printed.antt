@@ -4,7 +4,7 @@ use Rattle.std.specs.List.{flat_map}
 use Rattle.ps_text.specs.Lexing.{spelling}
 use Rattle.ps_text.specs.declared.token_kind.TokenKind.{TokenKind}
 use Rattle.ps_text.specs.declared.token_kind.TokenKind.TheVariants as kind
-use Rattle.ps_syntax.specs.Canonical.{block_text, is_negative, relation_text, stmt_text}
+use Rattle.ps_syntax.specs.Canonical.{is_negative, relation_text, stmt_text}
 use Rattle.ps_syntax.specs.Grammar.{BlockText, block_end, block_more, ItemText, global, local, init, ProgramText, ValueText}
 use Rattle.ps_syntax.specs.Names.{Names}
 use Rattle.ps_syntax.specs.Spelling.{Piece, NamePiece, NumberPiece, Mark, minus_pieces, plus_or_minus, program_pieces}

@@ -1,5 +1,5 @@
 -- The words of a program text, and reading them from left to right with the first refusal.
-use Rattle.std.specs.Prelude.{◌≡◌, ℕ, zero, suc, Bool, true, false, List, [], ◌∷◌, ◌++◌, map, slice_range, ◌==◌, Result, Ok, Err, if◌then◌else◌}
+use Rattle.std.specs.Prelude.{◌≡◌, ℕ, zero, suc, Bool, false, List, [], ◌∷◌, ◌++◌, map, slice_range, ◌==◌, Result, Ok, Err, if◌then◌else◌}
 use Rattle.ps_text.specs.declared.place.Place.{Place}
 use Rattle.ps_text.specs.declared.token.Token.{Token}
 use Rattle.ps_text.specs.declared.token_kind.TokenKind.{TokenKind}

@@ -1,5 +1,3 @@
-use Rattle.std.proofs.Common.{subst, sym}
-use Rattle.ps_syntax.specs.Printed.{Puts, word_between}
 use Rattle.ps_syntax.proofs.Putting.{nothing}
 use Rattle.ps_syntax.proofs.print_conds.put_between.Goals as goal
 

@@ -1,4 +1,4 @@
-use Rattle.std.proofs.Common.{◌≡◌, Bool, false, ap, rules}
+use Rattle.std.proofs.Common.{◌≡◌, false, ap, rules}
 use Rattle.ps_syntax.specs.Canonical.{is_negative}
 use Rattle.ps_syntax.specs.Spelling.{minus_pieces}
 use Rattle.ps_syntax.proofs.Putting.{nothing, respell}

@@ -1,4 +1,4 @@
-use Rattle.std.proofs.Common.{◌≡◌, ℕ, [], ◌∷◌, List, ◌∙◌, map, sym, subst, ap, ap₂, rules}
+use Rattle.std.proofs.Common.{◌≡◌, ℕ, [], List, ◌∙◌, map, sym, subst, ap, ap₂, rules}
 use Rattle.std.specs.List.{flat_map}
 use Rattle.ps_syntax.specs.declared.global_decl.GlobalDecl.{GlobalDecl}
 use Rattle.ps_syntax.specs.declared.relation.Relation.{Relation}

@@ -1,4 +1,4 @@
-use Rattle.std.proofs.Common.{◌≡◌, ◌∙◌, sym, ap}
+use Rattle.std.proofs.Common.{◌∙◌, sym, ap}
 use Rattle.ps_text.specs.declared.token_kind.TokenKind.TheVariants as kind
 use Rattle.ps_syntax.proofs.Members.{and_is, and_none, conj_not, conj_put, member_put, no_members, or_is, or_none, threaded, unary_not, unary_put}
 use Rattle.ps_syntax.proofs.Putting.{chain, nothing, respell, rest_put}
