@@ -1,6 +1,6 @@
 -- The laws of causes of refusals, in steps: where a reading function stands in the whole text, what it is to pass a word
 -- there that has no cause of a refusal, and what a refusal there promises of its cause.
-use Rattle.std.proofs.Common.{◌≡◌, ℕ, ◌+◌, ◌<◌, ◌≤◌, Bool, true, false, ◌&&◌, ◌||◌, List, [], ◌∷◌, length, Some, None, Result, refl, sym, ap, subst, ◌∙◌, arith}
+use Rattle.std.proofs.Common.{◌≡◌, ℕ, ◌+◌, ◌<◌, ◌≤◌, Bool, true, false, ◌&&◌, ◌||◌, List, [], ◌∷◌, ◌++◌, length, Some, None, Result, inl, inr, refl, sym, ap, subst, ◌∙◌, arith}
 use Rattle.std.specs.Prelude.{Contains, if◌then◌else◌}
 use Rattle.std.proofs.lemmas.Bool.{cond-false, or_parts, true≢false}
 use Rattle.ps_text.specs.declared.place.Place.{Place}
@@ -10,12 +10,13 @@ use Rattle.ps_term.specs.declared.var.Var.{Var}
 use Rattle.ps_syntax.specs.declared.limit_name.LimitName.TheVariants as limit
 use Rattle.ps_syntax.specs.declared.read_refusal.ReadRefusal.{ReadRefusal}
 use Rattle.ps_syntax.specs.declared.read_refusal.ReadRefusal.TheVariants as refusal
-use Rattle.ps_syntax.specs.Causes.{words_at, is_declaration, declared_in, is_after_factor, count_of, rows_in, Level, atomic_block, levels_with, levels, opens_level, opens_item, IsCauseAt, IsCause, HasCause, IsClean, rank, IsFirstCause}
-use Rattle.ps_syntax.specs.Items.{item_rows, most_globals, most_levels, most_locals, most_rows}
+use Rattle.ps_syntax.specs.Causes.{words_at, is_declaration, declared_in, is_after_factor, count_of, rows_in, Level, atomic_block, levels_with, levels, opens_level, GivesRows, IsCauseAt, IsCause, HasCause, IsClean, rank, IsFirstCause}
+use Rattle.ps_syntax.specs.Items.{most_globals, most_levels, most_locals, most_rows}
 use Rattle.ps_syntax.specs.Names.{Names, variable_of}
 use Rattle.ps_syntax.specs.Reads.{refusal_place}
+use Rattle.ps_syntax.specs.Spelling.{Piece, Mark, pieces}
 use Rattle.ps_syntax.specs.Words.{Word, At, Read, ◌>>=◌, is_kind, begins_with, place_of_next, word_from, word_at, after_word}
-use Rattle.ps_syntax.proofs.Steps.{one_kind, same_kind}
+use Rattle.ps_syntax.proofs.Steps.{one_kind, same_kind, Takes, takes_pieces, begins_piece, begins_pieces}
 use Rattle.ps_syntax.proofs.Guards.{Keeps, keeps_bind, keeps_more}
 
 -- all the words of a text, and its end
@@ -28,7 +29,7 @@ pub record Whole : Type 0 where
 pub record In (t : Whole) (names : Names) (back : List Word) (at : At) : Type 0 where
   pub whole : words_at back at.words ≡ t.words
   pub ends : at.end ≡ t.end
-  pub clean : IsClean t.words t.end back at.words
+  pub clean : IsClean back at.words
   pub known : (x : List ℕ) (v : Var) → variable_of names x ≡ Some v → Contains (declared_in back) x
   pub unknown : (x : List ℕ) → variable_of names x ≡ None → ¬ Contains (declared_in back) x
 
@@ -38,25 +39,39 @@ Blamed t e = IsFirstCause t.words t.end e
 
 -- ---- words without a cause
 
+-- `global`, `local` or `init`
+abbrev pub opens_item : TokenKind → Bool
+opens_item k = is_kind k kind.Global || is_kind k kind.Local || is_kind k kind.Init
+
+spelled_first : (k : TokenKind) (ps : List Piece) (w : Word) (ahead front rest : List Word) → w ∷ ahead ≡ front ++ rest → pieces front ≡ Mark k ∷ ps → w.kind ≡ k
+spelled_first k ps w ahead front rest split spelled =
+    let taken : Takes (w ∷ ahead) (Mark k ∷ ps) rest = record { front = front; split = split; spelled = spelled } in
+    one_kind w.kind k (begins_pieces k (w ∷ ahead) ∙ ap (begins_piece k) (takes_pieces taken) ∙ same_kind k k refl)
+
+-- where words give rows, an item begins
+rows_open : (w : Word) (ahead : List Word) (rows : ℕ) → GivesRows (w ∷ ahead) rows → opens_item w.kind ≡ true
+rows_open w ahead rows (inl h) = ap opens_item (spelled_first kind.Global _ w ahead h.0.front h.0.rest h.0.split h.0.spelled)
+rows_open w ahead rows (inr h) = ap opens_item (spelled_first kind.Init _ w ahead h.0.front h.0.rest h.0.split h.0.spelled)
+
 -- what rules out each cause of a refusal at a word
-pub record Allows (t : Whole) (back : List Word) (w : Word) (ahead : List Word) : Type 0 where
+pub record Allows (back : List Word) (w : Word) (ahead : List Word) : Type 0 where
   pub known : w.kind ≡ kind.Name → is_declaration back ≡ false → Contains (declared_in back) w.text
   pub new : w.kind ≡ kind.Name → is_declaration back ≡ true → ¬ Contains (declared_in back) w.text
   pub linear : w.kind ≡ kind.Name → is_after_factor back ≡ false
   pub globals : w.kind ≡ kind.Name → begins_with kind.Global back ≡ true → count_of kind.Global back ≤ most_globals
   pub locals : w.kind ≡ kind.Name → begins_with kind.Local back ≡ true → count_of kind.Local back ≤ most_locals
   pub loops : w.kind ≡ kind.While → ¬ Contains (levels back) atomic_block
-  pub rows : opens_item w.kind ≡ true → rows_in back + item_rows (length t.words) (record { words = w ∷ ahead; end = t.end }) ≤ most_rows
+  pub rows : opens_item w.kind ≡ true → (rows : ℕ) → GivesRows (w ∷ ahead) rows → rows_in back + rows ≤ most_rows
   pub depth : opens_level w.kind ≡ true → length (levels back) < most_levels
 
-pub no_cause : {t : Whole} {back : List Word} {w : Word} {ahead : List Word} → Allows t back w ahead → (other : ReadRefusal) → ¬ IsCauseAt t.words t.end back w ahead other
+pub no_cause : {back : List Word} {w : Word} {ahead : List Word} → Allows back w ahead → (other : ReadRefusal) → ¬ IsCauseAt back w ahead other
 no_cause a (refusal.UnknownName p) h = h.2 (a.known h.0 h.1)
 no_cause a (refusal.Twice p) h = a.new h.0 h.1 h.2
 no_cause a (refusal.NotLinear p) h = true≢false (sym h.1 ∙ a.linear h.0)
 no_cause a (refusal.LoopInAtomic p) h = a.loops h.0 h.1
 no_cause a (refusal.Limit p limit.Globals) h = let b = a.globals h.0 h.1 in omega (arith, b, h.2)
 no_cause a (refusal.Limit p limit.Locals) h = let b = a.locals h.0 h.1 in omega (arith, b, h.2)
-no_cause a (refusal.Limit p limit.Init) h = let b = a.rows h.0 in omega (arith, b, h.1)
+no_cause {w = w} {ahead = ahead} a (refusal.Limit p limit.Init) h = let b = a.rows (rows_open w ahead h.0 h.1) h.0 h.1 in omega (arith, b, h.2)
 no_cause a (refusal.Limit p limit.Depth) h = let b = a.depth h.0 in omega (arith, b, h.1)
 no_cause a (refusal.Limit p what) h = h
 no_cause a (refusal.Token p) h = h
@@ -74,8 +89,8 @@ test_clash w f e no' h = absurd (true≢false (sym h ∙ ap f e ∙ no'))
 abbrev pub has_causes : TokenKind → Bool
 has_causes k = is_kind k kind.Name || (is_kind k kind.While || (opens_item k || opens_level k))
 
-pub plain : (t : Whole) (back : List Word) (w : Word) (ahead : List Word) (k : TokenKind) → has_causes k ≡ false → w.kind ≡ k → Allows t back w ahead
-plain t back w ahead k h e =
+pub plain : (back : List Word) (w : Word) (ahead : List Word) (k : TokenKind) → has_causes k ≡ false → w.kind ≡ k → Allows back w ahead
+plain back w ahead k h e =
     let a : (is_kind k kind.Name ≡ false) × ((is_kind k kind.While || (opens_item k || opens_level k)) ≡ false) = or_parts _ _ h in
     let b : (is_kind k kind.While ≡ false) × ((opens_item k || opens_level k) ≡ false) = or_parts _ _ a.1 in
     let c : (opens_item k ≡ false) × (opens_level k ≡ false) = or_parts _ _ b.1 in
@@ -91,8 +106,8 @@ plain t back w ahead k h e =
     }
 
 -- `{`, `(` and `!`, where fewer levels are open than may be
-pub opening : (t : Whole) (back : List Word) (w : Word) (ahead : List Word) (k : TokenKind) → (is_kind k kind.Name || (is_kind k kind.While || opens_item k)) ≡ false → length (levels back) < most_levels → w.kind ≡ k → Allows t back w ahead
-opening t back w ahead k h few e =
+pub opening : (back : List Word) (w : Word) (ahead : List Word) (k : TokenKind) → (is_kind k kind.Name || (is_kind k kind.While || opens_item k)) ≡ false → length (levels back) < most_levels → w.kind ≡ k → Allows back w ahead
+opening back w ahead k h few e =
     let a : (is_kind k kind.Name ≡ false) × ((is_kind k kind.While || opens_item k) ≡ false) = or_parts _ _ h in
     let b : (is_kind k kind.While ≡ false) × (opens_item k ≡ false) = or_parts _ _ a.1 in
     record {
@@ -107,8 +122,8 @@ opening t back w ahead k h few e =
     }
 
 -- `while`, where no atomic block is open
-pub looping : (t : Whole) (back : List Word) (w : Word) (ahead : List Word) → ¬ Contains (levels back) atomic_block → w.kind ≡ kind.While → Allows t back w ahead
-looping t back w ahead out e = record {
+pub looping : (back : List Word) (w : Word) (ahead : List Word) → ¬ Contains (levels back) atomic_block → w.kind ≡ kind.While → Allows back w ahead
+looping back w ahead out e = record {
   known = λ i. kind_clash w e refl i;
   new = λ i. kind_clash w e refl i;
   linear = λ i. kind_clash w e refl i;
@@ -123,8 +138,8 @@ begins_either : (back : List Word) → is_declaration back ≡ false → (begins
 begins_either back h = or_parts _ _ h
 
 -- a name that was declared
-pub naming : (t : Whole) (back : List Word) (w : Word) (ahead : List Word) → is_declaration back ≡ false → is_after_factor back ≡ false → Contains (declared_in back) w.text → w.kind ≡ kind.Name → Allows t back w ahead
-naming t back w ahead outside linear known e =
+pub naming : (back : List Word) (w : Word) (ahead : List Word) → is_declaration back ≡ false → is_after_factor back ≡ false → Contains (declared_in back) w.text → w.kind ≡ kind.Name → Allows back w ahead
+naming back w ahead outside linear known e =
     let b : (begins_with kind.Global back ≡ false) × (begins_with kind.Local back ≡ false) = or_parts _ _ outside in
     record {
       known = λ i h. known;
@@ -140,8 +155,8 @@ naming t back w ahead outside linear known e =
 -- ---- passing a word
 
 -- a word that declares no name
-pub stepped : {t : Whole} {names : Names} {back : List Word} {w : Word} {ws : List Word} {end : Place} → In t names back (record { words = w ∷ ws; end = end }) → is_declaration back ≡ false → Allows t back w ws → In t names (w ∷ back) (record { words = ws; end = end })
-stepped {t = t} {names = names} {back = back} {w = w} {ws = ws} h outside a =
+pub stepped : {t : Whole} {names : Names} {back : List Word} {w : Word} {ws : List Word} {end : Place} → In t names back (record { words = w ∷ ws; end = end }) → is_declaration back ≡ false → Allows back w ws → In t names (w ∷ back) (record { words = ws; end = end })
+stepped {names = names} {back = back} {w = w} {ws = ws} h outside a =
     let same : declared_in (w ∷ back) ≡ declared_in back = cond-false _ _ _ outside in
     record {
       whole = h.whole;
@@ -188,7 +203,7 @@ level_word w k back atomic ls e a h =
 -- ---- refusals
 
 pub blame : {t : Whole} {names : Names} {back ws : List Word} {end : Place} (e : ReadRefusal) → In t names back (record { words = ws; end = end }) → refusal_place e ≡ Some (place_of_next ws end)
-    → HasCause t.words t.end back ws e → ((other : ReadRefusal) → IsCause t.words t.end back ws other → rank e ≤ rank other) → Blamed t e
+    → HasCause back ws e → ((other : ReadRefusal) → IsCause back ws other → rank e ≤ rank other) → Blamed t e
 blame {back = back} {ws = ws} e h place cause least = record {
   back = back;
   ahead = ws;
@@ -206,60 +221,60 @@ Linear back ws = (is_after_factor back && begins_with kind.Name ws) ≡ false
 pub fresh_linear : {atomic : Bool} {back : List Word} (ws : List Word) → Fresh atomic back → Linear back ws
 fresh_linear ws f = ap (λ (b : Bool). b && begins_with kind.Name ws) f.factor
 
-pub least_grammar : (t : Whole) (back ws : List Word) → Linear back ws → (other : ReadRefusal) → IsCause t.words t.end back ws other → 1 ≤ rank other
-least_grammar t back [] l other h = absurd h
-least_grammar t back (w ∷ ws) l (refusal.NotLinear p) h =
+pub least_grammar : (back ws : List Word) → Linear back ws → (other : ReadRefusal) → IsCause back ws other → 1 ≤ rank other
+least_grammar back [] l other h = absurd h
+least_grammar back (w ∷ ws) l (refusal.NotLinear p) h =
     absurd (true≢false (sym (ap (λ (b : Bool). b && is_kind w.kind kind.Name) h.1 ∙ same_kind w.kind kind.Name h.0) ∙ l))
-least_grammar t back (w ∷ ws) l (refusal.Grammar p) h = absurd h
-least_grammar t back (w ∷ ws) l (refusal.UnknownName p) h = omega arith
-least_grammar t back (w ∷ ws) l (refusal.Twice p) h = omega arith
-least_grammar t back (w ∷ ws) l (refusal.LoopInAtomic p) h = omega arith
-least_grammar t back (w ∷ ws) l (refusal.Limit p what) h = omega arith
-least_grammar t back (w ∷ ws) l (refusal.Token p) h = omega arith
-least_grammar t back (w ∷ ws) l (refusal.Memory e) h = omega arith
+least_grammar back (w ∷ ws) l (refusal.Grammar p) h = absurd h
+least_grammar back (w ∷ ws) l (refusal.UnknownName p) h = omega arith
+least_grammar back (w ∷ ws) l (refusal.Twice p) h = omega arith
+least_grammar back (w ∷ ws) l (refusal.LoopInAtomic p) h = omega arith
+least_grammar back (w ∷ ws) l (refusal.Limit p what) h = omega arith
+least_grammar back (w ∷ ws) l (refusal.Token p) h = omega arith
+least_grammar back (w ∷ ws) l (refusal.Memory e) h = omega arith
 
 pub grammar_blamed : {t : Whole} {names : Names} {back ws : List Word} {end : Place} → In t names back (record { words = ws; end = end }) → Linear back ws → Blamed t (refusal.Grammar (place_of_next ws end))
-grammar_blamed {t = t} {back = back} {ws = ws} {end = end} h l = blame (refusal.Grammar (place_of_next ws end)) h refl tt (least_grammar t back ws l)
+grammar_blamed {back = back} {ws = ws} {end = end} h l = blame (refusal.Grammar (place_of_next ws end)) h refl tt (least_grammar back ws l)
 
 -- at a word that is neither a name nor `while`, only limits have a cause
-pub least_limit : (t : Whole) (back : List Word) (w : Word) (ws : List Word) (k : TokenKind) → w.kind ≡ k → (is_kind k kind.Name || is_kind k kind.While) ≡ false → (other : ReadRefusal) → IsCauseAt t.words t.end back w ws other → 5 ≤ rank other
-least_limit t back w ws k e c (refusal.UnknownName p) h = kind_clash w e (or_parts _ _ c).0 h.0
-least_limit t back w ws k e c (refusal.Twice p) h = kind_clash w e (or_parts _ _ c).0 h.0
-least_limit t back w ws k e c (refusal.NotLinear p) h = kind_clash w e (or_parts _ _ c).0 h.0
-least_limit t back w ws k e c (refusal.LoopInAtomic p) h = kind_clash w e (or_parts _ _ c).1 h.0
-least_limit t back w ws k e c (refusal.Limit p what) h = omega arith
-least_limit t back w ws k e c (refusal.Grammar p) h = absurd h
-least_limit t back w ws k e c (refusal.Token p) h = omega arith
-least_limit t back w ws k e c (refusal.Memory e') h = omega arith
+pub least_limit : (back : List Word) (w : Word) (ws : List Word) (k : TokenKind) → w.kind ≡ k → (is_kind k kind.Name || is_kind k kind.While) ≡ false → (other : ReadRefusal) → IsCauseAt back w ws other → 5 ≤ rank other
+least_limit back w ws k e c (refusal.UnknownName p) h = kind_clash w e (or_parts _ _ c).0 h.0
+least_limit back w ws k e c (refusal.Twice p) h = kind_clash w e (or_parts _ _ c).0 h.0
+least_limit back w ws k e c (refusal.NotLinear p) h = kind_clash w e (or_parts _ _ c).0 h.0
+least_limit back w ws k e c (refusal.LoopInAtomic p) h = kind_clash w e (or_parts _ _ c).1 h.0
+least_limit back w ws k e c (refusal.Limit p what) h = omega arith
+least_limit back w ws k e c (refusal.Grammar p) h = absurd h
+least_limit back w ws k e c (refusal.Token p) h = omega arith
+least_limit back w ws k e c (refusal.Memory e') h = omega arith
 
 pub depth_blamed : {t : Whole} {names : Names} {back : List Word} {w : Word} {ws : List Word} {end : Place} (k : TokenKind) → In t names back (record { words = w ∷ ws; end = end }) → w.kind ≡ k → (is_kind k kind.Name || is_kind k kind.While) ≡ false → opens_level k ≡ true → most_levels ≤ length (levels back) → Blamed t (refusal.Limit w.place limit.Depth)
-depth_blamed {t = t} {back = back} {w = w} {ws = ws} k h e c o many = blame (refusal.Limit w.place limit.Depth) h refl (ap opens_level e ∙ o, many) (least_limit t back w ws k e c)
+depth_blamed {back = back} {w = w} {ws = ws} k h e c o many = blame (refusal.Limit w.place limit.Depth) h refl (ap opens_level e ∙ o, many) (least_limit back w ws k e c)
 
-least_loop : (t : Whole) (back : List Word) (w : Word) (ws : List Word) → w.kind ≡ kind.While → (other : ReadRefusal) → IsCauseAt t.words t.end back w ws other → 4 ≤ rank other
-least_loop t back w ws e (refusal.UnknownName p) h = kind_clash w e refl h.0
-least_loop t back w ws e (refusal.Twice p) h = kind_clash w e refl h.0
-least_loop t back w ws e (refusal.NotLinear p) h = kind_clash w e refl h.0
-least_loop t back w ws e (refusal.LoopInAtomic p) h = omega arith
-least_loop t back w ws e (refusal.Limit p what) h = omega arith
-least_loop t back w ws e (refusal.Grammar p) h = absurd h
-least_loop t back w ws e (refusal.Token p) h = omega arith
-least_loop t back w ws e (refusal.Memory e') h = omega arith
+least_loop : (back : List Word) (w : Word) (ws : List Word) → w.kind ≡ kind.While → (other : ReadRefusal) → IsCauseAt back w ws other → 4 ≤ rank other
+least_loop back w ws e (refusal.UnknownName p) h = kind_clash w e refl h.0
+least_loop back w ws e (refusal.Twice p) h = kind_clash w e refl h.0
+least_loop back w ws e (refusal.NotLinear p) h = kind_clash w e refl h.0
+least_loop back w ws e (refusal.LoopInAtomic p) h = omega arith
+least_loop back w ws e (refusal.Limit p what) h = omega arith
+least_loop back w ws e (refusal.Grammar p) h = absurd h
+least_loop back w ws e (refusal.Token p) h = omega arith
+least_loop back w ws e (refusal.Memory e') h = omega arith
 
 pub loop_blamed : {t : Whole} {names : Names} {back : List Word} {w : Word} {ws : List Word} {end : Place} → In t names back (record { words = w ∷ ws; end = end }) → w.kind ≡ kind.While → Contains (levels back) atomic_block → Blamed t (refusal.LoopInAtomic w.place)
-loop_blamed {t = t} {back = back} {w = w} {ws = ws} h e inside = blame (refusal.LoopInAtomic w.place) h refl (e, inside) (least_loop t back w ws e)
+loop_blamed {back = back} {w = w} {ws = ws} h e inside = blame (refusal.LoopInAtomic w.place) h refl (e, inside) (least_loop back w ws e)
 
-least_unknown : (t : Whole) (back : List Word) (w : Word) (ws : List Word) → is_after_factor back ≡ false → (other : ReadRefusal) → IsCauseAt t.words t.end back w ws other → 2 ≤ rank other
-least_unknown t back w ws l (refusal.NotLinear p) h = absurd (true≢false (sym h.1 ∙ l))
-least_unknown t back w ws l (refusal.Grammar p) h = absurd h
-least_unknown t back w ws l (refusal.UnknownName p) h = omega arith
-least_unknown t back w ws l (refusal.Twice p) h = omega arith
-least_unknown t back w ws l (refusal.LoopInAtomic p) h = omega arith
-least_unknown t back w ws l (refusal.Limit p what) h = omega arith
-least_unknown t back w ws l (refusal.Token p) h = omega arith
-least_unknown t back w ws l (refusal.Memory e) h = omega arith
+least_unknown : (back : List Word) (w : Word) (ws : List Word) → is_after_factor back ≡ false → (other : ReadRefusal) → IsCauseAt back w ws other → 2 ≤ rank other
+least_unknown back w ws l (refusal.NotLinear p) h = absurd (true≢false (sym h.1 ∙ l))
+least_unknown back w ws l (refusal.Grammar p) h = absurd h
+least_unknown back w ws l (refusal.UnknownName p) h = omega arith
+least_unknown back w ws l (refusal.Twice p) h = omega arith
+least_unknown back w ws l (refusal.LoopInAtomic p) h = omega arith
+least_unknown back w ws l (refusal.Limit p what) h = omega arith
+least_unknown back w ws l (refusal.Token p) h = omega arith
+least_unknown back w ws l (refusal.Memory e) h = omega arith
 
 pub unknown_blamed : {t : Whole} {names : Names} {back : List Word} {w : Word} {ws : List Word} {end : Place} → In t names back (record { words = w ∷ ws; end = end }) → w.kind ≡ kind.Name → is_declaration back ≡ false → is_after_factor back ≡ false → ¬ Contains (declared_in back) w.text → Blamed t (refusal.UnknownName w.place)
-unknown_blamed {t = t} {back = back} {w = w} {ws = ws} h e outside l none = blame (refusal.UnknownName w.place) h refl (e, outside, none) (least_unknown t back w ws l)
+unknown_blamed {back = back} {w = w} {ws = ws} h e outside l none = blame (refusal.UnknownName w.place) h refl (e, outside, none) (least_unknown back w ws l)
 
 pub linear_blamed : {t : Whole} {names : Names} {back : List Word} {w : Word} {ws : List Word} {end : Place} → In t names back (record { words = w ∷ ws; end = end }) → w.kind ≡ kind.Name → is_after_factor back ≡ true → Blamed t (refusal.NotLinear w.place)
 linear_blamed {w = w} h e l = blame (refusal.NotLinear w.place) h refl (e, l) (λ other c. omega arith)
@@ -290,6 +305,6 @@ found_word {t = t} {names = names} {back = back} {at = at} k h l = by_words at.w
         if_keeps (is_kind w.kind k) _ _ _ _ (λ e. record { is = (one_kind w.kind k e, h) }) (λ e. record { is = grammar_blamed h l })
 
 -- the same, and it is passed
-pub word_keeps : {t : Whole} {names : Names} {back : List Word} {at : At} (k : TokenKind) → In t names back at → Linear back at.words → is_declaration back ≡ false → ((w : Word) (ahead : List Word) → w.kind ≡ k → Allows t back w ahead)
+pub word_keeps : {t : Whole} {names : Names} {back : List Word} {at : At} (k : TokenKind) → In t names back at → Linear back at.words → is_declaration back ≡ false → ((w : Word) (ahead : List Word) → w.kind ≡ k → Allows back w ahead)
     → Keeps (word_at k at) (λ y. (y.0.kind ≡ k) × In t names (y.0 ∷ back) y.1) (Blamed t)
 word_keeps k h l outside allows = keeps_more _ _ _ _ _ (found_word k h l) (λ y p. (p.0, stepped p.1 outside (allows y.0 y.1.words p.0))) (λ e b. b)

@@ -9,7 +9,7 @@ use Rattle.ps_syntax.specs.declared.cond.Cond.{Cond}
 use Rattle.ps_syntax.specs.declared.cond.Cond.TheVariants as cond
 use Rattle.ps_syntax.specs.declared.limit_name.LimitName.TheVariants as limit
 use Rattle.ps_syntax.specs.declared.read_refusal.ReadRefusal.TheVariants.{Limit}
-use Rattle.ps_syntax.specs.Causes.{Level, block, atomic_block, parens, negation, settled, closed, levels, levels_with, opens_level, opens_item}
+use Rattle.ps_syntax.specs.Causes.{Level, block, atomic_block, parens, negation, settled, closed, levels, levels_with, opens_level}
 use Rattle.ps_syntax.specs.Conds.{members_at, conj_with, cond_with, opens_at, unary_at, cond_at, test_at, parens_at}
 use Rattle.ps_syntax.specs.Items.{most_levels}
 use Rattle.ps_syntax.specs.Names.{Names}
@@ -18,7 +18,7 @@ use Rattle.ps_syntax.specs.Words.{Word, At, Read, ◌>>=◌, is_kind, begins_wit
 use Rattle.ps_syntax.proofs.Steps.{one_kind}
 use Rattle.ps_syntax.proofs.Guards.{Keeps, keeps_end, keeps_more}
 use Rattle.ps_syntax.proofs.RelationLaws.{all_signs}
-use Rattle.ps_syntax.proofs.CauseSteps.{Whole, In, Blamed, has_causes, plain, opening, Fresh, joins, fresh_word, fresh_star, level_word, fresh_linear, depth_blamed, then_keeps, if_keeps, after_keeps, found_word, word_keeps}
+use Rattle.ps_syntax.proofs.CauseSteps.{Whole, In, Blamed, opens_item, has_causes, plain, opening, Fresh, joins, fresh_word, fresh_star, level_word, fresh_linear, depth_blamed, then_keeps, if_keeps, after_keeps, found_word, word_keeps}
 use Rattle.ps_syntax.proofs.SumCauses.{Past, LevelsAre, past_as, mark_keeps, while_keeps, relation_keeps}
 
 -- ---- levels
@@ -37,9 +37,9 @@ settled_again (parens ∷ ls) = refl
 -- a word that opens a level, where fewer are open than may be
 pub opening_keeps : {t : Whole} {names : Names} {back : List Word} {at : At} {after : Bool} {ls : List Level} (k : TokenKind) → (is_kind k kind.Name || (is_kind k kind.While || opens_item k)) ≡ false → joins k ≡ false → is_kind k kind.Atomic ≡ false → length ls < most_levels
     → In t names back at → Fresh after back → levels back ≡ ls → Keeps (word_at k at) (Past t names (LevelsAre (levels_with after k ls))) (Blamed t)
-opening_keeps {t = t} {back = back} {at = at} {after = after} {ls = ls} k c j n few h f o =
+opening_keeps {back = back} {at = at} {after = after} {ls = ls} k c j n few h f o =
     let room : length (levels back) < most_levels = subst (λ (xs : List Level). length xs < most_levels) (sym o) few in
-    keeps_more _ _ _ _ _ (word_keeps k h (fresh_linear at.words f) f.declaration (λ w ahead e. opening t back w ahead k c room e)) (λ y p. record {
+    keeps_more _ _ _ _ _ (word_keeps k h (fresh_linear at.words f) f.declaration (λ w ahead e. opening back w ahead k c room e)) (λ y p. record {
       back = y.0 ∷ back;
       here = p.1;
       fresh = subst (λ (b : Bool). Fresh b (y.0 ∷ back)) n (fresh_word k back j p.0);
@@ -136,9 +136,9 @@ cond_keeps {t = t} {names = names} {back = back} {at = at} {ls = ls} n more room
 test_keeps : {t : Whole} {names : Names} {back : List Word} {at : At} {ls : List Level} (n more : ℕ) → length ls + more ≡ most_levels → settled ls ≡ ls → In t names back at → Fresh false back → levels back ≡ ls → begins_with kind.Name back ≡ false
     → Keeps (test_at (Some names) n more at) (Past t names (Settles ls)) (Blamed t)
 unfolding test_at
-test_keeps {t = t} {back = back} {at = at} {ls = ls} n more room calm h f o apart =
+test_keeps {back = back} {at = at} {ls = ls} n more room calm h f o apart =
     if_keeps (next_is kind.Star at) _ _ _ _
-    (λ on. then_keeps _ _ _ _ _ (word_keeps kind.Star h (fresh_linear at.words f) f.declaration (λ w ahead e. plain t back w ahead kind.Star refl e)) (λ w p.
+    (λ on. then_keeps _ _ _ _ _ (word_keeps kind.Star h (fresh_linear at.words f) f.declaration (λ w ahead e. plain back w ahead kind.Star refl e)) (λ w p.
     keeps_end _ _ _ (record { back = w.0 ∷ back; here = p.1; fresh = fresh_star back apart p.0; so = ap settled (level_word w.0 kind.Star back false ls p.0 f.atomic o) ∙ calm })))
     (λ off. then_keeps _ _ _ _ _ (cond_keeps n more room calm h f o) (λ c p. keeps_end _ _ _ (past_as _ _ p (λ b e. e))))
 
@@ -146,9 +146,9 @@ pub parens_keeps : {t : Whole} {names : Names} {back : List Word} {at : At} {ls 
     → Keeps (parens_at (Some names) n more at) (Past t names (LevelsAre ls)) (Blamed t)
 unfolding parens_at
 parens_keeps n zero room calm h f o = full_keeps _ kind.OpenParen refl refl (omega (arith, room)) h f o
-parens_keeps {t = t} {names = names} {back = back} {at = at} {ls = ls} n (suc more) room calm h f o =
+parens_keeps {names = names} {back = back} {at = at} {ls = ls} n (suc more) room calm h f o =
     let few : length (levels back) < most_levels = subst (λ (xs : List Level). length xs < most_levels) (sym o) (omega (arith, room)) in
-    then_keeps _ _ _ _ _ (word_keeps kind.OpenParen h (fresh_linear at.words f) f.declaration (λ w ahead e. opening t back w ahead kind.OpenParen refl few e)) (λ w p.
+    then_keeps _ _ _ _ _ (word_keeps kind.OpenParen h (fresh_linear at.words f) f.declaration (λ w ahead e. opening back w ahead kind.OpenParen refl few e)) (λ w p.
     then_keeps _ _ _ _ _ (test_keeps n more (omega (arith, room)) refl p.1 (fresh_word kind.OpenParen back refl p.0) (level_word w.0 kind.OpenParen back false ls p.0 f.atomic o) (ap (λ (j : TokenKind). is_kind j kind.Name) p.0)) (λ x q.
     then_keeps _ _ _ _ _ (mark_keeps kind.CloseParen refl refl refl q.here q.fresh refl) (λ v r.
     keeps_end _ _ _ (past_as _ _ r (λ b e. e ∙ ap (λ (xs : List Level). settled (closed xs)) q.so ∙ calm)))))

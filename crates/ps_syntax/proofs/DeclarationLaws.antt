@@ -97,7 +97,7 @@ number_exact n = record {
   again = λ at v rest fit h _. number_again n at v.negative v.digits rest h;
 }
 
-some_exact : (n : ℕ) → Exact n (mapped Some (after_word kind.Equal number_at)) (λ v. value_pieces (Some v)) Always (Is (λ v. value_of (Some v))) Always
+pub some_exact : (n : ℕ) → Exact n (mapped Some (after_word kind.Equal number_at)) (λ v. value_pieces (Some v)) Always (Is (λ v. value_of (Some v))) Always
 some_exact n = mapped_exact _ Some (λ v ps y h. ap (λ (z : ℤ). Some z) h) (after_exact kind.Equal (λ t. refl) (number_exact n))
 
 value_again : (n : ℕ) (at : At) (v : Option ValueText) (rest : List Piece) → Ahead n at (value_pieces v ++ rest) → Not kind.Equal rest → Gets (value_at at) (λ y. (y.0 ≡ value_of v) × Ahead n y.1 rest)

@@ -14,7 +14,7 @@ use Rattle.ps_syntax.specs.declared.limit_name.LimitName.TheVariants as limit
 use Rattle.ps_syntax.specs.declared.read_refusal.ReadRefusal.{ReadRefusal}
 use Rattle.ps_syntax.specs.declared.read_refusal.ReadRefusal.TheVariants as refusal
 use Rattle.ps_syntax.specs.Blocks.{ended_at}
-use Rattle.ps_syntax.specs.Causes.{words_at, is_declaration, declared_in, is_after_factor, count_of, rows_in, levels_with, levels, opens_level, opens_item, IsCauseAt, rank}
+use Rattle.ps_syntax.specs.Causes.{words_at, is_declaration, declared_in, is_after_factor, count_of, rows_in, levels_with, levels, opens_level, GivesRows, IsCauseAt, rank}
 use Rattle.ps_syntax.specs.Items.{Declared, most_globals, most_locals, most_rows, nothing_declared, names_of, is_declared, refused_name, new_name_at, number_at, value_at, item_rows, global_at, local_at, init_at, counted_item_at, with_rows, item_at, has_item, items_at}
 use Rattle.ps_syntax.specs.Names.{Names, variable_of}
 use Rattle.ps_syntax.specs.Sums.{init_sign_of, relation_at}
@@ -24,8 +24,9 @@ use Rattle.ps_syntax.proofs.RelationLaws.{init_signs}
 use Rattle.ps_syntax.proofs.DeclarationLaws.{with_global}
 use Rattle.ps_syntax.proofs.Guards.{Keeps, keeps_end, keeps_found, keeps_more}
 use Rattle.ps_syntax.proofs.ItemRows.{ones, weight, count_of_weight, Tallies, item_tallies}
+use Rattle.ps_syntax.proofs.RowLaws.{rows_given, rows_counted}
 use Rattle.ps_syntax.proofs.NamesDeclared.{has_name, Knows, knows_none, knows_global, knows_local, contains_named, named_contains, contains_known, not_contains}
-use Rattle.ps_syntax.proofs.CauseSteps.{Whole, In, Blamed, Allows, no_cause, kind_clash, test_clash, has_causes, stepped, Fresh, joins, fresh_word, level_word, blame, fresh_linear, least_limit, then_keeps, if_keeps, after_keeps, found_word}
+use Rattle.ps_syntax.proofs.CauseSteps.{Whole, In, Blamed, opens_item, Allows, no_cause, kind_clash, test_clash, has_causes, stepped, Fresh, joins, fresh_word, level_word, blame, fresh_linear, least_limit, then_keeps, if_keeps, after_keeps, found_word}
 use Rattle.ps_syntax.proofs.SumCauses.{Past, LevelsAre, mark_keeps, while_keeps, relation_keeps}
 
 -- ---- between two words
@@ -131,25 +132,25 @@ record Declaring (t : Whole) (names : Names) (back : List Word) (at : At) : Type
   pub factor : is_after_factor back ≡ false
   pub level : levels back ≡ []
 
-least_twice : (t : Whole) (back : List Word) (w : Word) (ws : List Word) → is_declaration back ≡ true → is_after_factor back ≡ false → (other : ReadRefusal) → IsCauseAt t.words t.end back w ws other → 3 ≤ rank other
-least_twice t back w ws d f (refusal.UnknownName p) h = absurd (true≢false (sym d ∙ h.1))
-least_twice t back w ws d f (refusal.NotLinear p) h = absurd (true≢false (sym h.1 ∙ f))
-least_twice t back w ws d f (refusal.Grammar p) h = absurd h
-least_twice t back w ws d f (refusal.Twice p) h = omega arith
-least_twice t back w ws d f (refusal.LoopInAtomic p) h = omega arith
-least_twice t back w ws d f (refusal.Limit p what) h = omega arith
-least_twice t back w ws d f (refusal.Token p) h = omega arith
-least_twice t back w ws d f (refusal.Memory e) h = omega arith
+least_twice : (back : List Word) (w : Word) (ws : List Word) → is_declaration back ≡ true → is_after_factor back ≡ false → (other : ReadRefusal) → IsCauseAt back w ws other → 3 ≤ rank other
+least_twice back w ws d f (refusal.UnknownName p) h = absurd (true≢false (sym d ∙ h.1))
+least_twice back w ws d f (refusal.NotLinear p) h = absurd (true≢false (sym h.1 ∙ f))
+least_twice back w ws d f (refusal.Grammar p) h = absurd h
+least_twice back w ws d f (refusal.Twice p) h = omega arith
+least_twice back w ws d f (refusal.LoopInAtomic p) h = omega arith
+least_twice back w ws d f (refusal.Limit p what) h = omega arith
+least_twice back w ws d f (refusal.Token p) h = omega arith
+least_twice back w ws d f (refusal.Memory e) h = omega arith
 
-least_full : (t : Whole) (back : List Word) (w : Word) (ws : List Word) → w.kind ≡ kind.Name → is_declaration back ≡ true → is_after_factor back ≡ false → ¬ Contains (declared_in back) w.text → (other : ReadRefusal) → IsCauseAt t.words t.end back w ws other → 5 ≤ rank other
-least_full t back w ws e d f new (refusal.UnknownName p) h = absurd (true≢false (sym d ∙ h.1))
-least_full t back w ws e d f new (refusal.NotLinear p) h = absurd (true≢false (sym h.1 ∙ f))
-least_full t back w ws e d f new (refusal.Grammar p) h = absurd h
-least_full t back w ws e d f new (refusal.Twice p) h = absurd (new h.2)
-least_full t back w ws e d f new (refusal.LoopInAtomic p) h = kind_clash w e refl h.0
-least_full t back w ws e d f new (refusal.Limit p what) h = omega arith
-least_full t back w ws e d f new (refusal.Token p) h = omega arith
-least_full t back w ws e d f new (refusal.Memory e') h = omega arith
+least_full : (back : List Word) (w : Word) (ws : List Word) → w.kind ≡ kind.Name → is_declaration back ≡ true → is_after_factor back ≡ false → ¬ Contains (declared_in back) w.text → (other : ReadRefusal) → IsCauseAt back w ws other → 5 ≤ rank other
+least_full back w ws e d f new (refusal.UnknownName p) h = absurd (true≢false (sym d ∙ h.1))
+least_full back w ws e d f new (refusal.NotLinear p) h = absurd (true≢false (sym h.1 ∙ f))
+least_full back w ws e d f new (refusal.Grammar p) h = absurd h
+least_full back w ws e d f new (refusal.Twice p) h = absurd (new h.2)
+least_full back w ws e d f new (refusal.LoopInAtomic p) h = kind_clash w e refl h.0
+least_full back w ws e d f new (refusal.Limit p what) h = omega arith
+least_full back w ws e d f new (refusal.Token p) h = omega arith
+least_full back w ws e d f new (refusal.Memory e') h = omega arith
 
 -- the limits of names that are kept
 record HasRoom (back : List Word) : Type 0 where
@@ -162,10 +163,10 @@ record IsNamed (t : Whole) (names : Names) (back : List Word) (y : List ℕ × A
   pub kind_is : word.kind ≡ kind.Name
   pub text : y.0 ≡ word.text
   pub inside : In t names back (record { words = word ∷ y.1.words; end = y.1.end })
-  pub allows : Allows t back word y.1.words
+  pub allows : Allows back word y.1.words
 
-new_allows : (t : Whole) (back : List Word) (w : Word) (ahead : List Word) → w.kind ≡ kind.Name → is_declaration back ≡ true → is_after_factor back ≡ false → ¬ Contains (declared_in back) w.text → HasRoom back → Allows t back w ahead
-new_allows t back w ahead e declares factor new room = record {
+new_allows : (back : List Word) (w : Word) (ahead : List Word) → w.kind ≡ kind.Name → is_declaration back ≡ true → is_after_factor back ≡ false → ¬ Contains (declared_in back) w.text → HasRoom back → Allows back w ahead
+new_allows back w ahead e declares factor new room = record {
   known = λ i h. absurd (true≢false (sym declares ∙ h));
   new = λ i h. new;
   linear = λ i. factor;
@@ -177,10 +178,10 @@ new_allows t back w ahead e declares factor new room = record {
 }
 
 -- what a limit of names promises at the place of one
-abbrev IsFull : Whole → List Word → LimitName → Type 0
-IsFull t back what = (w : Word) (ws : List Word) → w.kind ≡ kind.Name → IsCauseAt t.words t.end back w ws (refusal.Limit w.place what)
+abbrev IsFull : List Word → LimitName → Type 0
+IsFull back what = (w : Word) (ws : List Word) → w.kind ≡ kind.Name → IsCauseAt back w ws (refusal.Limit w.place what)
 
-new_keeps : (t : Whole) (d : Declared) (count most : ℕ) (what : LimitName) (back : List Word) (at : At) → Declaring t (names_of d) back at → (most ≤ count → IsFull t back what) → (count < most → HasRoom back)
+new_keeps : (t : Whole) (d : Declared) (count most : ℕ) (what : LimitName) (back : List Word) (at : At) → Declaring t (names_of d) back at → (most ≤ count → IsFull back what) → (count < most → HasRoom back)
     → Keeps (new_name_at d count most what at) (IsNamed t (names_of d) back) (Blamed t)
 unfolding new_name_at
 new_keeps t d count most what back at h full room =
@@ -190,10 +191,10 @@ new_keeps t d count most what back at h full room =
     by_tests : (w : Word × At) → w.0.kind ≡ kind.Name → In t (names_of d) back (record { words = w.0 ∷ w.1.words; end = w.1.end }) → (a b : Bool) → is_declared (variable_of (names_of d) w.0.text) ≡ a → nat_le most count ≡ b
         → Keeps (refused_name a b what w) (IsNamed t (names_of d) back) (Blamed t)
     by_tests w e i true b f g = record {
-      is = blame (refusal.Twice w.0.place) i refl (e, h.declares, contains_known (names_of d) (declared_in back) w.0.text (knows_in i) f) (least_twice t back w.0 w.1.words h.declares h.factor);
+      is = blame (refusal.Twice w.0.place) i refl (e, h.declares, contains_known (names_of d) (declared_in back) w.0.text (knows_in i) f) (least_twice back w.0 w.1.words h.declares h.factor);
     }
     by_tests w e i false true f g = record {
-      is = blame (refusal.Limit w.0.place what) i refl (full (leb-true most count g) w.0 w.1.words e) (least_full t back w.0 w.1.words e h.declares h.factor (not_contains (names_of d) (declared_in back) w.0.text (knows_in i) f));
+      is = blame (refusal.Limit w.0.place what) i refl (full (leb-true most count g) w.0 w.1.words e) (least_full back w.0 w.1.words e h.declares h.factor (not_contains (names_of d) (declared_in back) w.0.text (knows_in i) f));
     }
     by_tests w e i false false f g = record {
       is = record {
@@ -201,13 +202,13 @@ new_keeps t d count most what back at h full room =
         kind_is = e;
         text = refl;
         inside = i;
-        allows = new_allows t back w.0 w.1.words e h.declares h.factor (not_contains (names_of d) (declared_in back) w.0.text (knows_in i) f) (room (leb-false most count g));
+        allows = new_allows back w.0 w.1.words e h.declares h.factor (not_contains (names_of d) (declared_in back) w.0.text (knows_in i) f) (room (leb-false most count g));
       };
     }
 
 -- the word declares its name
 declared_step : {t : Whole} {names : Names} {back : List Word} {at : At} (names' : Names) (y : List ℕ × At) → Declaring t names back at → IsNamed t names back y → (Knows names (declared_in back) → Knows names' (y.0 ∷ declared_in back)) → Reaches t names' y.1
-declared_step {t = t} {names = names} {back = back} names' y h n more =
+declared_step {names = names} {back = back} names' y h n more =
     let list : declared_in (n.word ∷ back) ≡ y.0 ∷ declared_in back = cond-true _ _ _ h.declares ∙ ap (λ (x : List ℕ). x ∷ declared_in back) (sym n.text) in
     let knows : Knows names' (declared_in (n.word ∷ back)) = subst (Knows names') (sym list) (more (knows_in h.inside)) in
     record {
@@ -232,12 +233,12 @@ word_is : (k : TokenKind) (ws : List Word) (end : Place) → Finds (word_from k 
 word_is k [] end = record { is = tt }
 word_is k (w ∷ ws) end = found_if (is_kind w.kind k) _ _ _ (record { is = refl }) (record { is = tt })
 
--- the rows of the item ahead are within the limit
-record RowsFit (t : Whole) (back ws : List Word) : Type 0 where
-  pub is : rows_in back + item_rows (length t.words) (record { words = ws; end = t.end }) ≤ most_rows
+-- whatever rows the words ahead give, they are within the limit
+record RowsFit (back ws : List Word) : Type 0 where
+  pub is : (rows : ℕ) → GivesRows ws rows → rows_in back + rows ≤ most_rows
 
-item_allows : (t : Whole) (back : List Word) (w : Word) (ahead : List Word) (k : TokenKind) → (is_kind k kind.Name || (is_kind k kind.While || opens_level k)) ≡ false → RowsFit t back (w ∷ ahead) → w.kind ≡ k → Allows t back w ahead
-item_allows t back w ahead k h fit e =
+item_allows : (back : List Word) (w : Word) (ahead : List Word) (k : TokenKind) → (is_kind k kind.Name || (is_kind k kind.While || opens_level k)) ≡ false → RowsFit back (w ∷ ahead) → w.kind ≡ k → Allows back w ahead
+item_allows back w ahead k h fit e =
     let a : (is_kind k kind.Name ≡ false) × ((is_kind k kind.While || opens_level k) ≡ false) = or_parts _ _ h in
     let b : (is_kind k kind.While ≡ false) × (opens_level k ≡ false) = or_parts _ _ a.1 in
     record {
@@ -251,12 +252,12 @@ item_allows t back w ahead k h fit e =
       depth = λ i. test_clash w opens_level e b.1 i;
     }
 
-item_word : {t : Whole} {names : Names} {back : List Word} {at : At} (k : TokenKind) → (is_kind k kind.Name || (is_kind k kind.While || opens_level k)) ≡ false → Stands t names back at → RowsFit t back at.words
+item_word : {t : Whole} {names : Names} {back : List Word} {at : At} (k : TokenKind) → (is_kind k kind.Name || (is_kind k kind.While || opens_level k)) ≡ false → Stands t names back at → RowsFit back at.words
     → Keeps (word_at k at) (λ y. (y.0.kind ≡ k) × In t names (y.0 ∷ back) y.1) (Blamed t)
 unfolding word_at
-item_word {t = t} {back = back} {at = at} k h s fit =
+item_word {back = back} {at = at} k h s fit =
     keeps_more _ _ _ _ _ (keeps_found _ _ _ _ (found_word k s.inside (fresh_linear at.words s.fresh)) (word_is k at.words at.end))
-    (λ y p. (p.0.0, stepped p.0.1 s.fresh.declaration (item_allows t back y.0 y.1.words k h (subst (RowsFit t back) p.1 fit) p.0.0)))
+    (λ y p. (p.0.0, stepped p.0.1 s.fresh.declaration (item_allows back y.0 y.1.words k h (subst (RowsFit back) p.1 fit) p.0.0)))
     (λ e b. b)
 
 -- `global` or `local`, and then a name is declared
@@ -298,7 +299,7 @@ one_local d x = record { globals = (names_of d).globals; locals = d.locals ++ x 
 global_names : (d : Declared) (x : List ℕ) (v : Option ℤ) → names_of (with_global d x v) ≡ one_global d x
 global_names d x v = ap (λ (xs : List (List ℕ)). record { globals = xs; locals = d.locals }) (map-append (λ (g : GlobalDecl). g.name) d.globals (record { name = x; value = v } ∷ []))
 
-global_keeps : (t : Whole) (d : Declared) (back : List Word) (at : At) → Stands t (names_of d) back at → length d.globals ≡ count_of kind.Global back → RowsFit t back at.words → Keeps (global_at d at) (λ y. Reaches t (names_of y.0) y.1) (Blamed t)
+global_keeps : (t : Whole) (d : Declared) (back : List Word) (at : At) → Stands t (names_of d) back at → length d.globals ≡ count_of kind.Global back → RowsFit back at.words → Keeps (global_at d at) (λ y. Reaches t (names_of y.0) y.1) (Blamed t)
 unfolding global_at
 global_keeps t d back at s counted fit =
     then_keeps _ _ (λ y. Reaches t (one_global d y.0) y.1) _ _
@@ -314,7 +315,7 @@ global_keeps t d back at s counted fit =
     (λ x p. then_keeps _ _ _ _ _ ((passes_ended (passes_value t (one_global d x.0))).law x.1 p)
     (λ v q. keeps_end _ _ _ (subst (λ (names : Names). Reaches t names v.1) (sym (global_names d x.0 v.0)) q)))
 
-local_keeps : (t : Whole) (d : Declared) (back : List Word) (at : At) → Stands t (names_of d) back at → length d.locals ≡ count_of kind.Local back → RowsFit t back at.words → Keeps (local_at d at) (λ y. Reaches t (names_of y.0) y.1) (Blamed t)
+local_keeps : (t : Whole) (d : Declared) (back : List Word) (at : At) → Stands t (names_of d) back at → length d.locals ≡ count_of kind.Local back → RowsFit back at.words → Keeps (local_at d at) (λ y. Reaches t (names_of y.0) y.1) (Blamed t)
 unfolding local_at ended_at
 local_keeps t d back at s counted fit =
     then_keeps _ _ _ _ _
@@ -335,7 +336,7 @@ local_keeps t d back at s counted fit =
 passes_relation : (t : Whole) (names : Names) (n : ℕ) → Passes t names (relation_at init_sign_of (Some names) n)
 passes_relation t names n = record { law = λ at r. keeps_more _ _ _ _ _ (relation_keeps init_sign_of init_signs n r.stands.inside r.stands.fresh r.stands.level) (λ y p. reached y p) (λ e b. b) }
 
-init_keeps : (t : Whole) (n : ℕ) (d : Declared) (back : List Word) (at : At) → Stands t (names_of d) back at → RowsFit t back at.words → Keeps (init_at d n at) (λ y. Reaches t (names_of y.0) y.1) (Blamed t)
+init_keeps : (t : Whole) (n : ℕ) (d : Declared) (back : List Word) (at : At) → Stands t (names_of d) back at → RowsFit back at.words → Keeps (init_at d n at) (λ y. Reaches t (names_of y.0) y.1) (Blamed t)
 unfolding init_at
 init_keeps t n d back at s fit =
     then_keeps _ _ _ _ _
@@ -352,7 +353,7 @@ init_keeps t n d back at s fit =
     ((passes_ended (passes_while (next_is kind.And) n (passes_after kind.And (record { causes = refl; joins = refl; atomic = refl; level = refl }) (passes_relation t (names_of d) n)))).law r.1 p)
     (λ rs q. keeps_end _ _ _ q))
 
-counted_keeps : (t : Whole) (n : ℕ) (d : Declared) (back : List Word) (at : At) → Stands t (names_of d) back at → length d.globals ≡ count_of kind.Global back → length d.locals ≡ count_of kind.Local back → RowsFit t back at.words
+counted_keeps : (t : Whole) (n : ℕ) (d : Declared) (back : List Word) (at : At) → Stands t (names_of d) back at → length d.globals ≡ count_of kind.Global back → length d.locals ≡ count_of kind.Local back → RowsFit back at.words
     → Keeps (counted_item_at d n at) (λ y. Reaches t (names_of y.0) y.1) (Blamed t)
 unfolding counted_item_at
 counted_keeps t n d back at s globals locals fit =
@@ -366,34 +367,35 @@ item_kind kind.Init h = refl
 item_kind k h = absurd (true≢false (sym h))
 
 -- the rows of an item pass the limit
-rows_blamed : (t : Whole) (names : Names) (back ws : List Word) (end : Place) → In t names back (record { words = ws; end = end }) → has_item (record { words = ws; end = end }) ≡ true
-    → most_rows < rows_in back + item_rows (length t.words) (record { words = ws; end = end }) → Blamed t (refusal.Limit (place_of_next ws end) limit.Init)
-rows_blamed t names back [] end h item many = absurd (true≢false (sym item))
-rows_blamed t names back (w ∷ ws) end h item many =
-    blame (refusal.Limit w.place limit.Init) h refl (item, subst (λ (e : Place). most_rows < rows_in back + item_rows (length t.words) (record { words = w ∷ ws; end = e })) h.ends many)
-    (least_limit t back w ws w.kind refl (item_kind w.kind item))
+rows_blamed : (t : Whole) (names : Names) (back ws : List Word) (end : Place) (rows : ℕ) → In t names back (record { words = ws; end = end }) → has_item (record { words = ws; end = end }) ≡ true
+    → GivesRows ws rows → most_rows < rows_in back + rows → Blamed t (refusal.Limit (place_of_next ws end) limit.Init)
+rows_blamed t names back [] end rows h item gives many = absurd (true≢false (sym item))
+rows_blamed t names back (w ∷ ws) end rows h item gives many = blame (refusal.Limit w.place limit.Init) h refl (rows, gives, many) (least_limit back w ws w.kind refl (item_kind w.kind item))
 
 length_ahead : (back ws : List Word) → length ws ≤ length (words_at back ws)
 length_ahead [] ws = omega arith
 length_ahead (w ∷ back) ws = let h : length (w ∷ ws) ≤ length (words_at back (w ∷ ws)) = length_ahead back (w ∷ ws) in omega (arith, h)
 
-read_keeps : (t : Whole) (d : Declared) (at : At) → has_item at ≡ true → Declares t d at → Keeps (item_at d (length t.words) at) (λ y. Reaches t (names_of y.0) y.1) (Blamed t)
+read_keeps : (t : Whole) (d : Declared) (at : At) → length at.words ≤ length t.words → has_item at ≡ true → Declares t d at → Keeps (item_at d (length t.words) at) (λ y. Reaches t (names_of y.0) y.1) (Blamed t)
 unfolding item_at
-read_keeps t d at item s =
-    if_keeps (nat_lt most_rows (d.rows + item_rows (length t.words) at)) _ _ _ _
+read_keeps t d at room item s =
+    let n : ℕ = length t.words in
+    let same : d.rows ≡ rows_in s.back = s.tallies.rows in
+    let within : d.rows ≤ most_rows = s.tallies.within in
+    if_keeps (nat_lt most_rows (d.rows + item_rows n at)) _ _ _ _
     (λ e.
-    let many : most_rows < rows_in s.back + item_rows (length t.words) at = subst (λ (k : ℕ). most_rows < k + item_rows (length t.words) at) s.tallies.rows (ltb-true most_rows (d.rows + item_rows (length t.words) at) e) in
-    record { is = rows_blamed t (names_of d) s.back at.words at.end s.stands.inside item many })
+    let many : most_rows < d.rows + item_rows n at = ltb-true most_rows (d.rows + item_rows n at) e in
+    record { is = rows_blamed t (names_of d) s.back at.words at.end (item_rows n at) s.stands.inside item (rows_given n at room (omega (arith, many, within))) (omega (arith, many, same)) })
     (λ e.
-    let few : rows_in s.back + item_rows (length t.words) at ≤ most_rows = subst (λ (k : ℕ). k + item_rows (length t.words) at ≤ most_rows) s.tallies.rows (ltb-false most_rows (d.rows + item_rows (length t.words) at) e) in
-    counted_keeps t (length t.words) (with_rows (d.rows + item_rows (length t.words) at) d) s.back at s.stands s.tallies.globals s.tallies.locals
-    (record { is = subst (λ (p : Place). rows_in s.back + item_rows (length t.words) (record { words = at.words; end = p }) ≤ most_rows) s.stands.inside.ends few }))
+    let few : d.rows + item_rows n at ≤ most_rows = ltb-false most_rows (d.rows + item_rows n at) e in
+    counted_keeps t n (with_rows (d.rows + item_rows n at) d) s.back at s.stands s.tallies.globals s.tallies.locals
+    (record { is = λ rows g. let counted : rows ≤ item_rows n at = rows_counted n at rows room g in omega (arith, few, same, counted) }))
 
 item_keeps : (t : Whole) (d : Declared) (at : At) → has_item at ≡ true → Declares t d at → Keeps (item_at d (length t.words) at) (λ y. Declares t y.0 y.1) (Blamed t)
 item_keeps t d at item s =
     let inside : In t (names_of d) s.back at = s.stands.inside in
     let room : length at.words ≤ length t.words = omega (arith, length_ahead s.back at.words, ap (λ (ws : List Word). length ws) inside.whole) in
-    keeps_more _ _ _ _ _ (keeps_found _ _ _ _ (read_keeps t d at item s) (item_tallies (length t.words) d at s.back room s.tallies))
+    keeps_more _ _ _ _ _ (keeps_found _ _ _ _ (read_keeps t d at room item s) (item_tallies (length t.words) d at s.back room s.tallies))
     (λ y p. record { back = p.0.back; stands = p.0.stands; tallies = p.1 p.0.back (p.0.stands.inside.whole ∙ sym inside.whole) })
     (λ e b. b)
 
@@ -418,5 +420,5 @@ declares_none t = record {
     fresh = record { declaration = refl; factor = refl; atomic = refl };
     level = refl;
   };
-  tallies = record { rows = refl; globals = refl; locals = refl };
+  tallies = record { rows = refl; within = omega arith; globals = refl; locals = refl };
 }

@@ -1,6 +1,7 @@
 -- How many rows, globals and locals the words of an item have: as many as are counted before it is read.
 use Rattle.std.proofs.Common.{◌≡◌, ℕ, ◌+◌, ◌*◌, ◌≤◌, Bool, true, false, List, [], ◌∷◌, ◌++◌, length, Option, Some, None, Err, refl, sym, ap, ◌∙◌, arith, length-append}
 use Rattle.std.specs.Prelude.{nat_lt, if◌then◌else◌}
+use Rattle.std.proofs.lemmas.Bool.{ltb-false}
 use Rattle.std.proofs.lemmas.List.Sums.{sum_by-cons}
 use Rattle.ps_text.specs.declared.token_kind.TokenKind.{TokenKind}
 use Rattle.ps_text.specs.declared.token_kind.TokenKind.TheVariants as kind
@@ -232,9 +233,10 @@ weigh_locals d (init r rs) = omega (arith, weigh_init (ones kind.Local) local_sp
 
 -- ---- what was counted, from what was passed
 
--- The declarations have as many rows, globals and locals as the words that were passed.
+-- The declarations have as many rows, globals and locals as the words that were passed, and no more rows than may be.
 pub record Tallies (d : Declared) (back : List Word) : Type 0 where
   pub rows : d.rows ≡ rows_in back
+  pub within : d.rows ≤ most_rows
   pub globals : length d.globals ≡ count_of kind.Global back
   pub locals : length d.locals ≡ count_of kind.Local back
 
@@ -242,11 +244,11 @@ pub record Tallies (d : Declared) (back : List Word) : Type 0 where
 pub item_tallies : (n : ℕ) (d : Declared) (at : At) (back : List Word) → length at.words ≤ n → Tallies d back
     → Finds (item_at d n at) (λ y. (back' : List Word) → words_at back' y.1.words ≡ words_at back at.words → Tallies y.0 back')
 unfolding item_at
-item_tallies n d at back room h = by_test (nat_lt most_rows (d.rows + item_rows n at))
+item_tallies n d at back room h = by_test (nat_lt most_rows (d.rows + item_rows n at)) refl
   where
-    by_test : (t : Bool) → Finds (if t then Err (Limit (place_at at) limit.Init) else counted_item_at (with_rows (d.rows + item_rows n at) d) n at) (λ y. (back' : List Word) → words_at back' y.1.words ≡ words_at back at.words → Tallies y.0 back')
-    by_test true = record { is = tt }
-    by_test false =
+    by_test : (t : Bool) → nat_lt most_rows (d.rows + item_rows n at) ≡ t → Finds (if t then Err (Limit (place_at at) limit.Init) else counted_item_at (with_rows (d.rows + item_rows n at) d) n at) (λ y. (back' : List Word) → words_at back' y.1.words ≡ words_at back at.words → Tallies y.0 back')
+    by_test true test = record { is = tt }
+    by_test false test =
         found_more _ _ _ ((declaration_exact n (with_rows (d.rows + item_rows n at) d)).found at) (λ y p back' same.
         let e : Declared = with_rows (d.rows + item_rows n at) d in
         let rows : item_rows n at ≡ rows_of_item p.text = item_rows_again n at p.text (pieces y.1.words) (signs_of e p.text p.fit) (ahead_so (takes_pieces p.taken) (room_of n at room)) in
@@ -256,6 +258,7 @@ item_tallies n d at back room h = by_test (nat_lt most_rows (d.rows + item_rows 
         let its_globals : length y.0.globals ≡ length d.globals + weigh (ones kind.Global) (item_pieces p.text) = ap (λ (c : Declared). length c.globals) p.is ∙ weigh_globals e p.text in
         let its_locals : length y.0.locals ≡ length d.locals + weigh (ones kind.Local) (item_pieces p.text) = ap (λ (c : Declared). length c.locals) p.is ∙ weigh_locals e p.text in
         record {
+          within = omega (arith, its_rows, ltb-false most_rows (d.rows + item_rows n at) test);
           rows = omega (arith, its_rows, rows, h.rows, passed row_weight, weigh_rows p.text, rows_in_weight back, rows_in_weight back');
           globals = omega (arith, its_globals, h.globals, passed (ones kind.Global), count_of_weight kind.Global back, count_of_weight kind.Global back');
           locals = omega (arith, its_locals, h.locals, passed (ones kind.Local), count_of_weight kind.Local back, count_of_weight kind.Local back');

@@ -37,6 +37,7 @@ pub mod NamesApart
 pub mod ProgramBack
 pub mod PrintedTokens
 pub mod RoundTrip
+pub mod RowLaws
 pub mod CauseSteps
 pub mod ItemCauses
 pub mod SumCauses

@@ -77,7 +77,7 @@ rows_again n r (s ∷ rs) (suc m) at rest le signs h =
     omega (arith, deeper)) in
     omega (arith, more, same))
 
-few_relations : (rs : List RelationText) → length rs ≤ length (more_relations rs)
+pub few_relations : (rs : List RelationText) → length rs ≤ length (more_relations rs)
 few_relations [] = omega arith
 few_relations (r ∷ rs) =
     let h : length rs ≤ length (more_relations rs) = few_relations rs in

@@ -119,7 +119,7 @@ abbrev pub begins_piece : TokenKind → List Piece → Bool
 begins_piece k [] = false
 begins_piece k (p ∷ ps) = is_kind (kind_of p) k
 
-begins_pieces : (k : TokenKind) (ws : List Word) → begins_with k ws ≡ begins_piece k (pieces ws)
+pub begins_pieces : (k : TokenKind) (ws : List Word) → begins_with k ws ≡ begins_piece k (pieces ws)
 begins_pieces k [] = refl
 begins_pieces k (w ∷ ws) = ap (λ (j : TokenKind). is_kind j k) (sym (kind_of_piece w.kind w.text))
 

@@ -108,7 +108,7 @@ skip_keeps t names ls calm back at h f o =
 atomic_keeps : (t : Whole) (names : Names) (ls : List Level) (read : Read (List Stmt)) → LeavesOpen t names ls true read → LeavesOpen t names ls false (atomic_at read)
 unfolding atomic_at
 atomic_keeps t names ls read law back at h f o =
-    then_keeps _ _ _ _ _ (after_keeps kind.Atomic read _ _ _ _ (word_keeps kind.Atomic h (fresh_linear at.words f) f.declaration (λ w ahead e. plain t back w ahead kind.Atomic refl e)) (λ w p.
+    then_keeps _ _ _ _ _ (after_keeps kind.Atomic read _ _ _ _ (word_keeps kind.Atomic h (fresh_linear at.words f) f.declaration (λ w ahead e. plain back w ahead kind.Atomic refl e)) (λ w p.
     law (w.0 ∷ back) w.1 p.1 (fresh_word kind.Atomic back refl p.0) (level_word w.0 kind.Atomic back false ls p.0 f.atomic o))) (λ b q.
     keeps_end _ _ _ (past_as _ _ q (λ b e. e)))
 
@@ -137,7 +137,7 @@ while_stmt_keeps t names ls true read n more room calm within law back at h f o 
     by_words (w ∷ ws) end here next = loop_blamed here (one_kind w.kind kind.While next) (subst (λ (xs : List Level). Contains xs atomic_block) (sym o) within)
 while_stmt_keeps t names ls false read n more room calm within law back at h f o on =
     let out : ¬ Contains (levels back) atomic_block = subst (λ (xs : List Level). ¬ Contains xs atomic_block) (sym o) within in
-    then_keeps _ _ _ _ _ (after_keeps kind.While (parens_at (Some names) n more) _ _ _ _ (word_keeps kind.While h (fresh_linear at.words f) f.declaration (λ w ahead e. looping t back w ahead out e)) (λ w p.
+    then_keeps _ _ _ _ _ (after_keeps kind.While (parens_at (Some names) n more) _ _ _ _ (word_keeps kind.While h (fresh_linear at.words f) f.declaration (λ w ahead e. looping back w ahead out e)) (λ w p.
     parens_keeps n more room calm p.1 (fresh_word kind.While back refl p.0) (level_word w.0 kind.While back false ls p.0 f.atomic o))) (λ x p.
     then_keeps _ _ _ _ _ (law p.back x.1 p.here p.fresh p.so) (λ y q.
     keeps_end _ _ _ (past_as _ _ q (λ b e. e))))

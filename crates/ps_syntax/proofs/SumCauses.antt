@@ -40,8 +40,8 @@ past_as z Q p f = record { back = p.back; here = p.here; fresh = p.fresh; so = f
 -- a word that has no cause, and that the next doesn't rest on
 pub mark_keeps : {t : Whole} {names : Names} {back : List Word} {at : At} {after : Bool} {ls : List Level} (k : TokenKind) → has_causes k ≡ false → joins k ≡ false → is_kind k kind.Atomic ≡ false → In t names back at → Fresh after back → levels back ≡ ls
     → Keeps (word_at k at) (Past t names (LevelsAre (levels_with after k ls))) (Blamed t)
-mark_keeps {t = t} {names = names} {back = back} {at = at} {after = after} {ls = ls} k c j n h f o =
-    keeps_more _ _ _ _ _ (word_keeps k h (fresh_linear at.words f) f.declaration (λ w ahead e. plain t back w ahead k c e)) (λ y p. record {
+mark_keeps {names = names} {back = back} {at = at} {after = after} {ls = ls} k c j n h f o =
+    keeps_more _ _ _ _ _ (word_keeps k h (fresh_linear at.words f) f.declaration (λ w ahead e. plain back w ahead k c e)) (λ y p. record {
       back = y.0 ∷ back;
       here = p.1;
       fresh = subst (λ (b : Bool). Fresh b (y.0 ∷ back)) n (fresh_word k back j p.0);
@@ -72,7 +72,7 @@ variable_keeps {t = t} {names = names} {back = back} {at = at} {after = after} {
     then_keeps _ _ _ _ _ (by_test w.0 w.1 p.0 p.1 (variable_in (Some names) w.0.text) refl) (λ v known.
     keeps_end _ _ _ (record {
       back = w.0 ∷ back;
-      here = stepped p.1 f.declaration (naming t back w.0 w.1.words f.declaration f.factor known p.0);
+      here = stepped p.1 f.declaration (naming back w.0 w.1.words f.declaration f.factor known p.0);
       fresh = fresh_word kind.Name back refl p.0;
       so = (level_word w.0 kind.Name back after ls p.0 f.atomic o, same_kind w.0.kind kind.Name p.0);
     })))
@@ -88,7 +88,7 @@ factor_keeps : {t : Whole} {names : Names} {back : List Word} {at : At} {ls : Li
 unfolding factor_at
 factor_keeps {t = t} {names = names} {back = back} {at = at} {ls = ls} h l d a o =
     if_keeps _ _ _ _ _ (λ on. by_words at.words at.end h on)
-    (λ off. then_keeps _ _ _ _ _ (word_keeps kind.Number h (and_right _ _ off) d (λ w ahead e. plain t back w ahead kind.Number refl e)) (λ w p.
+    (λ off. then_keeps _ _ _ _ _ (word_keeps kind.Number h (and_right _ _ off) d (λ w ahead e. plain back w ahead kind.Number refl e)) (λ w p.
     keeps_end _ _ _ (record { back = w.0 ∷ back; here = p.1; fresh = fresh_word kind.Number back refl p.0; so = level_word w.0 kind.Number back false ls p.0 a o })))
   where
     by_words : {B : Type 0} {Q : B → Type 0} (ws : List Word) (end : Place) → In t names back (record { words = ws; end = end }) → begins_with kind.Name ws ≡ true → Keeps {A = B} (Err (NotLinear (place_of_next ws end))) Q (Blamed t)
@@ -97,22 +97,22 @@ factor_keeps {t = t} {names = names} {back = back} {at = at} {ls = ls} h l d a o
 
 number_product_keeps : {t : Whole} {names : Names} {back : List Word} {at : At} {after : Bool} {ls : List Level} → In t names back at → Fresh after back → levels back ≡ ls → Keeps (number_product_at (Some names) at) (Past t names (LevelsAre ls)) (Blamed t)
 unfolding number_product_at
-number_product_keeps {t = t} {names = names} {back = back} {at = at} {after = after} {ls = ls} h f o =
-    then_keeps _ _ _ _ _ (word_keeps kind.Number h (fresh_linear at.words f) f.declaration (λ w ahead e. plain t back w ahead kind.Number refl e)) (λ n p.
+number_product_keeps {names = names} {back = back} {at = at} {after = after} {ls = ls} h f o =
+    then_keeps _ _ _ _ _ (word_keeps kind.Number h (fresh_linear at.words f) f.declaration (λ w ahead e. plain back w ahead kind.Number refl e)) (λ n p.
     let g : Fresh false (n.0 ∷ back) = fresh_word kind.Number back refl p.0 in
     let q : levels (n.0 ∷ back) ≡ ls = level_word n.0 kind.Number back after ls p.0 f.atomic o in
     if_keeps (next_is kind.Star n.1) _ _ _ _ (λ on.
-    then_keeps _ _ _ _ _ (after_keeps kind.Star _ _ _ _ _ (word_keeps kind.Star p.1 (fresh_linear n.1.words g) g.declaration (λ w ahead e. plain t (n.0 ∷ back) w ahead kind.Star refl e)) (λ s r.
+    then_keeps _ _ _ _ _ (after_keeps kind.Star _ _ _ _ _ (word_keeps kind.Star p.1 (fresh_linear n.1.words g) g.declaration (λ w ahead e. plain (n.0 ∷ back) w ahead kind.Star refl e)) (λ s r.
     variable_keeps r.1 (fresh_star (n.0 ∷ back) (ap (λ (j : TokenKind). is_kind j kind.Name) p.0) r.0) (level_word s.0 kind.Star (n.0 ∷ back) false ls r.0 g.atomic q))) (λ x r.
     keeps_end _ _ _ (past_as _ _ r (λ b s. s.0))))
     (λ off. keeps_end _ _ _ (record { back = n.0 ∷ back; here = p.1; fresh = g; so = q })))
 
 name_product_keeps : {t : Whole} {names : Names} {back : List Word} {at : At} {after : Bool} {ls : List Level} → In t names back at → Fresh after back → levels back ≡ ls → Keeps (name_product_at (Some names) at) (Past t names (LevelsAre ls)) (Blamed t)
 unfolding name_product_at
-name_product_keeps {t = t} {names = names} {ls = ls} h f o =
+name_product_keeps {names = names} {ls = ls} h f o =
     then_keeps _ _ _ _ _ (variable_keeps h f o) (λ x p.
     if_keeps (next_is kind.Star x.1) _ _ _ _ (λ on.
-    then_keeps _ _ _ _ _ (after_keeps kind.Star _ _ _ _ _ (word_keeps kind.Star p.here (fresh_linear x.1.words p.fresh) p.fresh.declaration (λ w ahead e. plain t p.back w ahead kind.Star refl e)) (λ s r.
+    then_keeps _ _ _ _ _ (after_keeps kind.Star _ _ _ _ _ (word_keeps kind.Star p.here (fresh_linear x.1.words p.fresh) p.fresh.declaration (λ w ahead e. plain p.back w ahead kind.Star refl e)) (λ s r.
     factor_keeps r.1
     (ap (λ (j : TokenKind). is_kind j kind.Star && begins_with kind.Name p.back) r.0 ∙ p.so.1)
     (ap (λ (j : TokenKind). is_kind j kind.Global || is_kind j kind.Local) r.0)
@@ -184,7 +184,7 @@ sign_keeps {t = t} {names = names} {back = back} {at = at} {ls = ls} of are h f 
         let c : (has_causes (sign_kind s) ≡ false) × (joins (sign_kind s) ≡ false) × (is_kind (sign_kind s) kind.Atomic ≡ false) = sign_plain s in
         keeps_end _ _ _ (record {
           back = w ∷ back;
-          here = stepped here f.declaration (plain t back w ws (sign_kind s) c.0 e);
+          here = stepped here f.declaration (plain back w ws (sign_kind s) c.0 e);
           fresh = subst (λ (b : Bool). Fresh b (w ∷ back)) c.2 (fresh_word (sign_kind s) back c.1 e);
           so = level_word w (sign_kind s) back false ls e f.atomic o ∙ sign_levels s false ls;
         }))

@@ -26,7 +26,7 @@ number_piece d = NumberPiece d ∷ []
 abbrev NumberSays : List ℕ → List Place → ℤ → Type 0
 NumberSays d ps y = y ≡ number_value d
 
-factor_exact : (n : ℕ) → Exact n factor_at number_piece Always NumberSays Always
+pub factor_exact : (n : ℕ) → Exact n factor_at number_piece Always NumberSays Always
 unfolding factor_at
 factor_exact n = record {
   found = λ at.
@@ -78,14 +78,14 @@ name_found n scope at =
     })))
     (found_end _ _ (record { text = name p.text; taken = p.taken; fit = p.fit; is = says_of scope (λ (v : Var). (pos 1, Some v)) (λ names. variable_named names p.text) x.0 p.is })))
 
-number_again : (n : ℕ) (scope : Option Names) (at : At) (d : List ℕ) (rest : List Piece) → Ahead n at (NumberPiece d ∷ rest) → Not kind.Star rest → Gets (number_product_at scope at) (λ y. ProductSays scope (number d) (places at.words) y.0 × Ahead n y.1 rest)
+pub number_again : (n : ℕ) (scope : Option Names) (at : At) (d : List ℕ) (rest : List Piece) → Ahead n at (NumberPiece d ∷ rest) → Not kind.Star rest → Gets (number_product_at scope at) (λ y. ProductSays scope (number d) (places at.words) y.0 × Ahead n y.1 rest)
 unfolding number_product_at
 number_again n scope at d rest h stop =
     gets_bind _ _ _ _ ((word_exact n kind.Number).again at d rest tt h tt) (λ w p.
     gets_false (next_is kind.Star w.1) _ _ _ (next_ahead kind.Star p.1 ∙ stop)
     (gets_end _ _ (subst (λ (t : List ℕ). Says scope (λ names. product_tree names (number d)) (number_value t, None)) (sym p.0) (says_const scope (number_value d, None)), p.1)))
 
-number_name_again : (n : ℕ) (scope : Option Names) (at : At) (d x : List ℕ) (rest : List Piece) → KnownIn scope x → Ahead n at (NumberPiece d ∷ Mark kind.Star ∷ NamePiece x ∷ rest) → Gets (number_product_at scope at) (λ y. ProductSays scope (number_name d x) (places at.words) y.0 × Ahead n y.1 rest)
+pub number_name_again : (n : ℕ) (scope : Option Names) (at : At) (d x : List ℕ) (rest : List Piece) → KnownIn scope x → Ahead n at (NumberPiece d ∷ Mark kind.Star ∷ NamePiece x ∷ rest) → Gets (number_product_at scope at) (λ y. ProductSays scope (number_name d x) (places at.words) y.0 × Ahead n y.1 rest)
 unfolding number_product_at
 number_name_again n scope at d x rest fit h =
     gets_bind _ _ _ _ ((word_exact n kind.Number).again at d (Mark kind.Star ∷ NamePiece x ∷ rest) tt h tt) (λ w p.
@@ -96,14 +96,14 @@ number_name_again n scope at d x rest fit h =
       q.1,
     ))))
 
-name_again : (n : ℕ) (scope : Option Names) (at : At) (x : List ℕ) (rest : List Piece) → KnownIn scope x → Ahead n at (NamePiece x ∷ rest) → Not kind.Star rest → Gets (name_product_at scope at) (λ y. ProductSays scope (name x) (places at.words) y.0 × Ahead n y.1 rest)
+pub name_again : (n : ℕ) (scope : Option Names) (at : At) (x : List ℕ) (rest : List Piece) → KnownIn scope x → Ahead n at (NamePiece x ∷ rest) → Not kind.Star rest → Gets (name_product_at scope at) (λ y. ProductSays scope (name x) (places at.words) y.0 × Ahead n y.1 rest)
 unfolding name_product_at
 name_again n scope at x rest fit h stop =
     gets_bind _ _ _ _ ((variable_exact n scope).again at x rest fit h tt) (λ v p.
     gets_false (next_is kind.Star v.1) _ _ _ (next_ahead kind.Star p.1 ∙ stop)
     (gets_end _ _ (says_of scope (λ (v : Var). (pos 1, Some v)) (λ names. variable_named names x) v.0 p.0, p.1)))
 
-name_number_again : (n : ℕ) (scope : Option Names) (at : At) (x d : List ℕ) (rest : List Piece) → KnownIn scope x → Ahead n at (NamePiece x ∷ Mark kind.Star ∷ NumberPiece d ∷ rest) → Gets (name_product_at scope at) (λ y. ProductSays scope (name_number x d) (places at.words) y.0 × Ahead n y.1 rest)
+pub name_number_again : (n : ℕ) (scope : Option Names) (at : At) (x d : List ℕ) (rest : List Piece) → KnownIn scope x → Ahead n at (NamePiece x ∷ Mark kind.Star ∷ NumberPiece d ∷ rest) → Gets (name_product_at scope at) (λ y. ProductSays scope (name_number x d) (places at.words) y.0 × Ahead n y.1 rest)
 unfolding name_product_at
 name_number_again n scope at x d rest fit h =
     gets_bind _ _ _ _ ((variable_exact n scope).again at x (Mark kind.Star ∷ NumberPiece d ∷ rest) fit h tt) (λ v p.

@@ -1,14 +1,19 @@
 -- Why a refusal stands at a word of a text: looking back from it, at the words before, the nearest first. They tell which
--- names are declared, what is open and how many rows hold at the start.
-use Rattle.std.specs.Prelude.{◌≡◌, ◌≤◌, ◌<◌, ℕ, ◌+◌, ◌*◌, Bool, true, false, ◌&&◌, ◌||◌, List, [], ◌∷◌, length, count_by, Contains, Some, if◌then◌else◌}
+-- names are declared, what is open and how many rows hold at the start. Only at an item do the words ahead count: its rows
+-- are added before it is read.
+use Rattle.std.specs.Prelude.{◌≡◌, ◌≢◌, ◌⊎◌, ◌≤◌, ◌<◌, ℕ, ◌+◌, ◌*◌, Bool, true, false, ◌&&◌, ◌||◌, List, [], ◌∷◌, ◌++◌, length, map, count_by, All, Contains, Some, if◌then◌else◌}
 use Rattle.ps_text.specs.declared.place.Place.{Place}
 use Rattle.ps_text.specs.declared.token_kind.TokenKind.{TokenKind}
 use Rattle.ps_text.specs.declared.token_kind.TokenKind.TheVariants as kind
 use Rattle.ps_syntax.specs.declared.limit_name.LimitName.TheVariants as limit
 use Rattle.ps_syntax.specs.declared.read_refusal.ReadRefusal.{ReadRefusal}
 use Rattle.ps_syntax.specs.declared.read_refusal.ReadRefusal.TheVariants as refusal
-use Rattle.ps_syntax.specs.Items.{item_rows, most_globals, most_levels, most_locals, most_rows}
+use Rattle.ps_syntax.specs.declared.relation.Sign.TheVariants as sign
+use Rattle.ps_syntax.specs.Grammar.{ProductText, number, name, number_name, name_number, SumText, RelationText, ValueText}
+use Rattle.ps_syntax.specs.Items.{most_globals, most_levels, most_locals, most_rows}
 use Rattle.ps_syntax.specs.Reads.{refusal_place}
+use Rattle.ps_syntax.specs.Spelling.{NamePiece, Mark, pieces, relation_pieces, value_pieces, more_relations}
+use Rattle.ps_syntax.specs.Trees.{rows_of_relations}
 use Rattle.ps_syntax.specs.Words.{Word, begins_with, is_kind, place_of_next}
 
 -- The words of a text, from those that were passed, the nearest first, and those ahead.
@@ -86,41 +91,83 @@ levels (w ∷ back) = levels_with (begins_with kind.Atomic back) w.kind (levels 
 abbrev pub opens_level : TokenKind → Bool
 opens_level k = is_kind k kind.OpenBrace || is_kind k kind.OpenParen || is_kind k kind.Not
 
--- `global`, `local` or `init`
-abbrev pub opens_item : TokenKind → Bool
-opens_item k = is_kind k kind.Global || is_kind k kind.Local || is_kind k kind.Init
+-- ---- the rows of an item ahead
+
+-- the last one of a list, from its first
+abbrev pub last_of : {A : Type 0} → A → List A → A
+last_of x [] = x
+last_of x (y ∷ ys) = last_of y ys
+
+-- the last product of a sum
+abbrev pub last_product : SumText → ProductText
+last_product s = last_of s.first (map (λ (p : Bool × ProductText). p.1) s.further)
+
+-- a number or a name alone, so that `*` goes on in the product
+abbrev pub is_alone : ProductText → Bool
+is_alone (number n) = true
+is_alone (name x) = true
+is_alone (number_name n x) = false
+is_alone (name_number x n) = false
+
+-- The words after a relation go on in it: by `+` or `-`, or by `*` after a number or a name alone.
+abbrev pub goes_on : RelationText → List Word → Bool
+goes_on r ahead = begins_with kind.Plus ahead || begins_with kind.Minus ahead || (is_alone (last_product r.right) && begins_with kind.Star ahead)
+
+-- The words begin with `global`, a name and its value.
+pub record BeginsGlobal (words : List Word) : Type 0 where
+  pub named : List ℕ
+  pub value : ValueText
+  pub front : List Word
+  pub rest : List Word
+  pub split : words ≡ front ++ rest
+  pub spelled : pieces front ≡ Mark kind.Global ∷ NamePiece named ∷ value_pieces (Some value)
+
+-- The words begin with `init` and relations that it may have, of which the last is whole: no word after it goes on in it.
+pub record BeginsInit (words : List Word) : Type 0 where
+  pub first : RelationText
+  pub further : List RelationText
+  pub front : List Word
+  pub rest : List Word
+  pub split : words ≡ front ++ rest
+  pub spelled : pieces front ≡ Mark kind.Init ∷ (relation_pieces first ++ more_relations further)
+  pub signs : All (λ (r : RelationText). r.sign ≢ sign.NotEqual) (first ∷ further)
+  pub whole : goes_on (last_of first further) rest ≡ false
+
+-- The words begin with an item, or with a part of one, that gives so many rows.
+abbrev pub GivesRows : List Word → ℕ → Type 0
+GivesRows words rows = (BeginsGlobal words × (rows ≡ 2)) ⊎ ((i : BeginsInit words) × (rows ≡ rows_of_relations (i.first ∷ i.further)))
 
 -- ---- causes
 
 -- The cause of a refusal at the word ahead, in a text of these words. A fault of the grammar, whose place is told apart
 -- from this, has none here, and none stands at the end of the text.
-abbrev pub IsCauseAt : List Word → Place → List Word → Word → List Word → ReadRefusal → Type 0
-IsCauseAt words end back w ahead (refusal.UnknownName p) = (w.kind ≡ kind.Name) × (is_declaration back ≡ false) × ¬ Contains (declared_in back) w.text
-IsCauseAt words end back w ahead (refusal.Twice p) = (w.kind ≡ kind.Name) × (is_declaration back ≡ true) × Contains (declared_in back) w.text
-IsCauseAt words end back w ahead (refusal.NotLinear p) = (w.kind ≡ kind.Name) × (is_after_factor back ≡ true)
-IsCauseAt words end back w ahead (refusal.LoopInAtomic p) = (w.kind ≡ kind.While) × Contains (levels back) atomic_block
-IsCauseAt words end back w ahead (refusal.Limit p limit.Globals) = (w.kind ≡ kind.Name) × (begins_with kind.Global back ≡ true) × (most_globals < count_of kind.Global back)
-IsCauseAt words end back w ahead (refusal.Limit p limit.Locals) = (w.kind ≡ kind.Name) × (begins_with kind.Local back ≡ true) × (most_locals < count_of kind.Local back)
-IsCauseAt words end back w ahead (refusal.Limit p limit.Init) = (opens_item w.kind ≡ true) × (most_rows < rows_in back + item_rows (length words) (record { words = w ∷ ahead; end = end }))
-IsCauseAt words end back w ahead (refusal.Limit p limit.Depth) = (opens_level w.kind ≡ true) × (most_levels ≤ length (levels back))
-IsCauseAt words end back w ahead (refusal.Limit p what) = ⊥
-IsCauseAt words end back w ahead (refusal.Token p) = ⊥
-IsCauseAt words end back w ahead (refusal.Grammar p) = ⊥
-IsCauseAt words end back w ahead (refusal.Memory e) = ⊥
+abbrev pub IsCauseAt : List Word → Word → List Word → ReadRefusal → Type 0
+IsCauseAt back w ahead (refusal.UnknownName p) = (w.kind ≡ kind.Name) × (is_declaration back ≡ false) × ¬ Contains (declared_in back) w.text
+IsCauseAt back w ahead (refusal.Twice p) = (w.kind ≡ kind.Name) × (is_declaration back ≡ true) × Contains (declared_in back) w.text
+IsCauseAt back w ahead (refusal.NotLinear p) = (w.kind ≡ kind.Name) × (is_after_factor back ≡ true)
+IsCauseAt back w ahead (refusal.LoopInAtomic p) = (w.kind ≡ kind.While) × Contains (levels back) atomic_block
+IsCauseAt back w ahead (refusal.Limit p limit.Globals) = (w.kind ≡ kind.Name) × (begins_with kind.Global back ≡ true) × (most_globals < count_of kind.Global back)
+IsCauseAt back w ahead (refusal.Limit p limit.Locals) = (w.kind ≡ kind.Name) × (begins_with kind.Local back ≡ true) × (most_locals < count_of kind.Local back)
+IsCauseAt back w ahead (refusal.Limit p limit.Init) = (rows : ℕ) × GivesRows (w ∷ ahead) rows × (most_rows < rows_in back + rows)
+IsCauseAt back w ahead (refusal.Limit p limit.Depth) = (opens_level w.kind ≡ true) × (most_levels ≤ length (levels back))
+IsCauseAt back w ahead (refusal.Limit p what) = ⊥
+IsCauseAt back w ahead (refusal.Token p) = ⊥
+IsCauseAt back w ahead (refusal.Grammar p) = ⊥
+IsCauseAt back w ahead (refusal.Memory e) = ⊥
 
-abbrev pub IsCause : List Word → Place → List Word → List Word → ReadRefusal → Type 0
-IsCause words end back [] refused = ⊥
-IsCause words end back (w ∷ ahead) refused = IsCauseAt words end back w ahead refused
+abbrev pub IsCause : List Word → List Word → ReadRefusal → Type 0
+IsCause back [] refused = ⊥
+IsCause back (w ∷ ahead) refused = IsCauseAt back w ahead refused
 
 -- the cause of a refusal, but for a fault of the grammar
-abbrev pub HasCause : List Word → Place → List Word → List Word → ReadRefusal → Type 0
-HasCause words end back ahead (refusal.Grammar p) = Unit {0}
-HasCause words end back ahead refused = IsCause words end back ahead refused
+abbrev pub HasCause : List Word → List Word → ReadRefusal → Type 0
+HasCause back ahead (refusal.Grammar p) = Unit {0}
+HasCause back ahead refused = IsCause back ahead refused
 
 -- no cause at any of the words that were passed
-abbrev pub IsClean : List Word → Place → List Word → List Word → Type 0
-IsClean words end [] ahead = Unit {0}
-IsClean words end (w ∷ back) ahead = ((other : ReadRefusal) → ¬ IsCause words end back (w ∷ ahead) other) × IsClean words end back (w ∷ ahead)
+abbrev pub IsClean : List Word → List Word → Type 0
+IsClean [] ahead = Unit {0}
+IsClean (w ∷ back) ahead = ((other : ReadRefusal) → ¬ IsCause back (w ∷ ahead) other) × IsClean back (w ∷ ahead)
 
 -- the order of refusals at one place
 abbrev pub rank : ReadRefusal → ℕ
@@ -139,6 +186,6 @@ pub record IsFirstCause (words : List Word) (end : Place) (refused : ReadRefusal
   pub ahead : List Word
   pub split : words ≡ words_at back ahead
   pub place_is : refusal_place refused ≡ Some (place_of_next ahead end)
-  pub cause : HasCause words end back ahead refused
-  pub first_here : (other : ReadRefusal) → IsCause words end back ahead other → rank refused ≤ rank other
-  pub first : IsClean words end back ahead
+  pub cause : HasCause back ahead refused
+  pub first_here : (other : ReadRefusal) → IsCause back ahead other → rank refused ≤ rank other
+  pub first : IsClean back ahead
