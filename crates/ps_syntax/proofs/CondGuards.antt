@@ -1,5 +1,5 @@
 -- The laws of refusals of conditions and tests.
-use Rattle.std.proofs.Common.{◌≡◌, ℕ, zero, suc, Bool, true, false, ◌||◌, ◌⊎◌, inl, inr, List, [], ◌∷◌, ◌++◌, refl, ap, ◌∙◌, arith}
+use Rattle.std.proofs.Common.{◌≡◌, ℕ, zero, suc, Bool, true, false, ◌||◌, ◌⊎◌, inl, inr, List, [], ◌∷◌, ◌++◌, refl, sym, ap, ◌∙◌, arith}
 use Rattle.std.specs.List.{flat_map}
 use Rattle.ps_text.specs.declared.token_kind.TokenKind.{TokenKind}
 use Rattle.ps_text.specs.declared.token_kind.TokenKind.TheVariants as kind
@@ -18,8 +18,8 @@ use Rattle.ps_syntax.proofs.Sequences.{IsMark, mapped, Ends}
 use Rattle.ps_syntax.proofs.SumLaws.{SumEnds}
 use Rattle.ps_syntax.proofs.RelationLaws.{all_signs, every_sign, SignIn, relation_begins}
 use Rattle.ps_syntax.proofs.CondLaws.{members_go_on, members_pieces, conj_chain, conj_first, conj_rest, conj_back, conj_spelled, ConjEnds, cond_chain, cond_first, cond_rest, cond_back, cond_spelled, CondEnds, inner_pieces, cond_begins, test_spelled}
-use Rattle.ps_syntax.proofs.Guards.{IsTest, next_test, Any, Example}
-use Rattle.ps_syntax.proofs.GuardSteps.{guards_as, mapped_guards, refusing_guards, both_guards, after_guards, word_refused_guards, word_alone, mark_example, closed_guards, example_after, example_closed, OfSort, choice_guards}
+use Rattle.ps_syntax.proofs.Guards.{IsTest, next_test, Any, Example, Resumed, resumed_mark}
+use Rattle.ps_syntax.proofs.GuardSteps.{guards_as, mapped_guards, refusing_guards, both_guards, after_guards, word_refused_guards, word_alone, mark_example, closed_guards, example_after, example_closed, OfSort, choosing_guards, choice_guards}
 use Rattle.ps_syntax.proofs.GuardLoops.{while_guards}
 use Rattle.ps_syntax.proofs.SumGuards.{Two, GuardsIn, all_always, relation_guards, relation_example}
 
@@ -92,12 +92,30 @@ opens_ahead : (n : ℕ) (at : At) (ps : List Piece) → Ahead n at ps → opens_
 unfolding opens_at
 opens_ahead n at ps h = ap (λ (t : Bool). t || next_is kind.OpenParen at) (next_ahead kind.Not h) ∙ ap (λ (t : Bool). begins_piece kind.Not ps || t) (next_ahead kind.OpenParen h)
 
+not_example : Example unary_pieces Always
+not_example =
+    let e : Example (λ u. Mark kind.Not ∷ unary_pieces u) Always = example_after kind.Not (λ u. refl) unary_example in
+    record { text = negation e.text; fine = tt; words = e.words; spelled = e.spelled }
+
+parens_example : Example unary_pieces Always
+parens_example =
+    let e : Example (λ c. Mark kind.OpenParen ∷ (cond_pieces c ++ Mark kind.CloseParen ∷ [])) Always = example_after kind.OpenParen (λ u. refl) (example_closed kind.CloseParen (λ u. refl) cond_example) in
+    record { text = in_parens e.text; fine = tt; words = e.words; spelled = e.spelled }
+
+opening_resumed : (at : At) → opens_at at ≡ true → Resumed unary_pieces Always at.words (Limit (place_at at) limit.Depth)
+unfolding opens_at not_example parens_example
+opening_resumed at h = by_test (next_is kind.Not at) refl
+  where
+    by_test : (t : Bool) → next_is kind.Not at ≡ t → Resumed unary_pieces Always at.words (Limit (place_at at) limit.Depth)
+    by_test true e = resumed_mark kind.Not (λ u. refl) at.words (Limit (place_at at) limit.Depth) e not_example refl
+    by_test false e = resumed_mark kind.OpenParen (λ u. refl) at.words (Limit (place_at at) limit.Depth) (sym (ap (λ (t : Bool). t || next_is kind.OpenParen at) e) ∙ h) parens_example refl
+
 last_guards : (t : Two) → UnaryGuards t zero
 unfolding unary_at
 last_guards t =
-    choice_guards unary_pieces Always SumEnds opens_at begins_opening opens_test opens_ahead
+    choosing_guards unary_pieces Always SumEnds opens_at begins_opening opens_test opens_ahead
     (λ u. u) (λ u. refl) (λ u h. tt) relation (λ r. refl) (λ r h. tt) opening_sort (λ rest h. h) (λ rest h. h)
-    (refusing_guards t.left t.left' t.most' (λ at. Limit (place_at at) limit.Depth) unary_pieces Always Any SumEnds (λ at. record { is = tt }) (λ at. refl) unary_example)
+    (refusing_guards opens_at t.left t.left' t.most' (λ at. Limit (place_at at) limit.Depth) unary_pieces Always Any SumEnds (λ at. record { is = tt }) (λ at. refl) opening_resumed)
     (rel_guards t)
 
 -- it isn't a negation

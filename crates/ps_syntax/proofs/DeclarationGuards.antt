@@ -1,5 +1,5 @@
 -- The laws of refusals of declarations, beside a reading of them that asks nothing of names.
-use Rattle.std.proofs.Common.{◌≡◌, ◌≢◌, ℕ, suc, ◌+◌, ◌<◌, ℤ, Bool, true, false, ◌⊎◌, inl, inr, List, [], ◌∷◌, ◌++◌, length, Option, Some, None, Err, refl, ap, arith, ◌∙◌, sym}
+use Rattle.std.proofs.Common.{◌≡◌, ◌≢◌, ℕ, suc, ◌+◌, ◌<◌, ℤ, Bool, true, false, ◌||◌, ◌⊎◌, inl, inr, List, [], ◌∷◌, ◌++◌, length, Option, Some, None, Err, refl, ap, arith, ◌∙◌, sym}
 use Rattle.std.specs.Prelude.{nat_lt, nat_le, if◌then◌else◌}
 use Rattle.std.specs.List.{All, AllByRecursion}
 use Rattle.std.proofs.lemmas.List.Elements.{All-head, All-tail}
@@ -19,16 +19,16 @@ use Rattle.ps_syntax.specs.Words.{Word, At, Read, next_is, place_at, word_at, af
 use Rattle.ps_syntax.specs.Names.{Names, variable_of}
 use Rattle.ps_syntax.specs.Sums.{number_value, init_sign_of, relation_at}
 use Rattle.ps_syntax.specs.Blocks.{ended_at}
-use Rattle.ps_syntax.specs.Items.{Declared, most_globals, most_locals, most_rows, nothing_declared, names_of, is_declared, refused_name, new_name_at, number_at, value_at, global_at, local_at, init_at, item_rows, counted_item_at, with_rows, item_at}
-use Rattle.ps_syntax.specs.Spelling.{Piece, Mark, relation_pieces, value_pieces, item_pieces}
+use Rattle.ps_syntax.specs.Items.{Declared, most_globals, most_locals, most_rows, nothing_declared, names_of, is_declared, refused_name, new_name_at, number_at, value_at, global_at, local_at, init_at, item_rows, counted_item_at, with_rows, item_at, has_item}
+use Rattle.ps_syntax.specs.Spelling.{Piece, NamePiece, Mark, relation_pieces, value_pieces, item_pieces}
 use Rattle.ps_syntax.specs.Reads.{HasInitSigns, refusal_place}
 use Rattle.ps_syntax.proofs.Steps.{begins_piece, next_ahead, Not, Always, gets_bind, gets_end, gets_more}
 use Rattle.ps_syntax.proofs.Sequences.{mapped, both}
 use Rattle.ps_syntax.proofs.SumLaws.{number_piece, SumEnds}
 use Rattle.ps_syntax.proofs.RelationLaws.{init_signs, every_init_sign, no_init_sign, SignIn}
 use Rattle.ps_syntax.proofs.DeclarationLaws.{relations_go_on, number_pieces, negated, with_global, with_local, with_inits, more_is, relations_join}
-use Rattle.ps_syntax.proofs.Guards.{Lets, not_grammar, placed_word, Keeps, refused_bind, lets_bind, lets_end, keeps_bind, keeps_end, keeps_more, next_test, Went, Stood, Guards, Any, Same, Example, word_guards}
-use Rattle.ps_syntax.proofs.GuardSteps.{guards_same, guards_as, mapped_guards, mapped_any, paired, pair_up, nothing_guards, both_guards, after_guards, example_closed, OfSort, choice_guards}
+use Rattle.ps_syntax.proofs.Guards.{Lets, not_grammar, placed_word, Keeps, refused_bind, lets_bind, lets_end, keeps_bind, keeps_end, keeps_more, resumes_word, next_test, Went, Stood, Guards, GuardsWhere, Any, Same, Example, Resumed, resumed_mark, pieces_are, word_guards}
+use Rattle.ps_syntax.proofs.GuardSteps.{guards_same, guards_as, mapped_guards, mapped_any, paired, pair_up, nothing_guards, both_guards, after_guards, example_after, example_closed, OfSort, choice_guards}
 use Rattle.ps_syntax.proofs.GuardLoops.{while_guards}
 use Rattle.ps_syntax.proofs.SumGuards.{Two, Widens, name_example, number_example, relation_guards, relation_example}
 use Rattle.ps_syntax.proofs.Scopes.{name_piece}
@@ -52,6 +52,7 @@ new_guards n n' most d count limit' what = record {
         front = r.front;
         rest = r.rest;
         more = r.more;
+        next = r.next;
         split = r.split;
         place = r.place;
         spelled = r.spelled;
@@ -59,22 +60,23 @@ new_guards n n' most d count limit' what = record {
       });
 }
   where
-    at_name : (at : At) (w : Word × At) (e : ReadRefusal) → place_at at ≡ w.0.place → refusal_place e ≡ Some w.0.place → Lets {A = Var} (Err e) (λ _. ⊥) → Stood n' (λ i. free_name) name_piece Always at e
-    at_name at w e place is other = record {
-      text = [];
+    at_name : (at : At) (w : Word × At) (e : ReadRefusal) → Went n' (λ i. word_at kind.Name) name_piece Always Same at w → place_at at ≡ w.0.place → refusal_place e ≡ Some w.0.place → Lets {A = Var} (Err e) (λ _. ⊥) → Stood n' (λ i. free_name) name_piece Always at e
+    at_name at w e p place is other = record {
+      text = p.text;
       fine = tt;
       front = [];
       rest = at.words;
-      more = record { kind = kind.Name; text = []; place = record { line = 0; column = 0 } } ∷ [];
+      more = p.front;
+      next = λ g. resumes_word at.words p.front w.1.words (NamePiece p.text) p.split p.spelled;
       split = refl;
-      spelled = refl;
+      spelled = p.spelled;
       place = is ∙ ap (λ (o : Place). Some o) (sym place);
       same = λ g i at' more room' s h. absurd (not_grammar e other g);
     }
 
     by_tests : (at : At) (w : Word × At) → Went n' (λ i. word_at kind.Name) name_piece Always Same at w → place_at at ≡ w.0.place → (t u : Bool) → Keeps (refused_name t u what w) (Went n' (λ i. free_name) name_piece Always Any at) (Stood n' (λ i. free_name) name_piece Always at)
-    by_tests at w p place true u = record { is = at_name at w (Twice w.0.place) place refl (record { is = tt }) }
-    by_tests at w p place false true = record { is = at_name at w (Limit w.0.place what) place refl (record { is = tt }) }
+    by_tests at w p place true u = record { is = at_name at w (Twice w.0.place) p place refl (record { is = tt }) }
+    by_tests at w p place false true = record { is = at_name at w (Limit w.0.place what) p place refl (record { is = tt }) }
     by_tests at w p place false false = keeps_end _ _ _ (record {
       text = p.text;
       fine = tt;
@@ -238,26 +240,62 @@ counted_guards n d =
     local (λ c. refl) (λ c h. tt) (λ c. init c.0 c.1) (λ c. refl) (λ c h. h) local_sort (λ rest h. tt) (λ rest h. tt)
     (local_guards (suc n) (λ i. suc i) (λ i. i) d) (init_guards n d))
 
-pub item_guards : (n : ℕ) (d : Declared) → Guards (suc n) (λ i. suc i) (λ i. i) (item_at d n) free_item item_pieces HasInitSigns Any Always
+global_item : Example item_pieces HasInitSigns
+global_item = record {
+  text = global name_example.text value_example.text;
+  fine = tt;
+  words = record { kind = kind.Global; text = []; place = record { line = 0; column = 0 } } ∷ (name_example.words ++ value_example.words);
+  spelled = ap (λ (ps : List Piece). Mark kind.Global ∷ ps) (pieces_are name_example.words value_example.words (name_piece name_example.text) (value_pieces value_example.text ++ Mark kind.Semicolon ∷ []) name_example.spelled value_example.spelled);
+}
+
+local_item : Example item_pieces HasInitSigns
+local_item =
+    let e : Example (λ x. Mark kind.Local ∷ (name_piece x ++ Mark kind.Semicolon ∷ [])) Always = example_after kind.Local (λ u. refl) (example_closed kind.Semicolon (λ u. refl) name_example) in
+    record { text = local e.text; fine = tt; words = e.words; spelled = e.spelled }
+
+init_item : Example item_pieces HasInitSigns
+init_item =
+    let e : Example (λ r. Mark kind.Init ∷ (relation_pieces r ++ Mark kind.Semicolon ∷ [])) InitOk = example_after kind.Init (λ u. refl) (example_closed kind.Semicolon (λ u. refl) init_example) in
+    record { text = init e.text []; fine = All-from_recursion IsInitSign (e.text ∷ []) (no_init_sign e.text.sign e.fine, tt); words = e.words; spelled = e.spelled }
+
+-- an item that begins as the one that is refused
+item_resumed : (at : At) (refused : ReadRefusal) → has_item at ≡ true → Resumed item_pieces HasInitSigns at.words refused
+unfolding global_item local_item init_item
+item_resumed at refused h = by_global (next_is kind.Global at) refl
+  where
+    by_local : (t : Bool) → next_is kind.Local at ≡ t → next_is kind.Global at ≡ false → Resumed item_pieces HasInitSigns at.words refused
+    by_local true e off = resumed_mark kind.Local (λ u. refl) at.words refused e local_item refl
+    by_local false e off =
+        let on : next_is kind.Init at ≡ true = sym (ap (λ (t : Bool). t || next_is kind.Local at || next_is kind.Init at) off ∙ ap (λ (t : Bool). t || next_is kind.Init at) e) ∙ h in
+        resumed_mark kind.Init (λ u. refl) at.words refused on init_item refl
+
+    by_global : (t : Bool) → next_is kind.Global at ≡ t → Resumed item_pieces HasInitSigns at.words refused
+    by_global true e = resumed_mark kind.Global (λ u. refl) at.words refused e global_item refl
+    by_global false e = by_local (next_is kind.Local at) refl e
+
+pub item_guards : (n : ℕ) (d : Declared) → GuardsWhere has_item (suc n) (λ i. suc i) (λ i. i) (item_at d n) free_item item_pieces HasInitSigns Any Always
 unfolding item_at
 item_guards n d = record {
   never = (counted_guards n d).never;
-  stuck = λ at room. by_test at room (nat_lt most_rows (d.rows + item_rows n at));
+  stuck = λ at room on. by_test at room on (nat_lt most_rows (d.rows + item_rows n at));
 }
   where
-    by_test : (at : At) → length at.words < suc n → (t : Bool)
+    by_test : (at : At) → length at.words < suc n → has_item at ≡ true → (t : Bool)
         → Keeps (if t then Err (Limit (place_at at) limit.Init) else counted_item_at (with_rows (d.rows + item_rows n at) d) n at) (Went (λ i. suc i) free_item item_pieces HasInitSigns Any at) (Stood (λ i. suc i) free_item item_pieces HasInitSigns at)
-    by_test at room true = record {
-      is = record {
-        text = local [];
-        fine = tt;
-        front = [];
-        rest = at.words;
-        split = refl;
-        place = refl;
-        spelled = refl;
-        more = record { kind = kind.Local; text = []; place = record { line = 0; column = 0 } } ∷ record { kind = kind.Name; text = []; place = record { line = 0; column = 0 } } ∷ record { kind = kind.Semicolon; text = []; place = record { line = 0; column = 0 } } ∷ [];
-        same = λ g i at' more room' s h. absurd (not_grammar {A = Var} (Limit (place_at at) limit.Init) (record { is = tt }) g);
-      };
-    }
-    by_test at room false = (counted_guards n (with_rows (d.rows + item_rows n at) d)).stuck at room
+    by_test at room on true =
+        let r : Resumed item_pieces HasInitSigns at.words (Limit (place_at at) limit.Init) = item_resumed at (Limit (place_at at) limit.Init) on in
+        record {
+          is = record {
+            text = r.example.text;
+            fine = r.example.fine;
+            front = [];
+            rest = at.words;
+            more = r.example.words;
+            next = r.next;
+            split = refl;
+            place = refl;
+            spelled = r.example.spelled;
+            same = λ g i at' more room' s h. absurd (not_grammar {A = Var} (Limit (place_at at) limit.Init) (record { is = tt }) g);
+          };
+        }
+    by_test at room on false = (counted_guards n (with_rows (d.rows + item_rows n at) d)).stuck at room

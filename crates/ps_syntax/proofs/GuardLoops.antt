@@ -53,6 +53,7 @@ turn_fails {read' = read'} {spell = spell} goes test g m' l' a' b' at e p q = re
   front = q.front;
   rest = q.rest;
   more = q.more;
+  next = q.next;
   split = q.split;
   place = q.place;
   spelled = q.spelled ∙ sym (append-nil (spell q.text));
@@ -93,6 +94,7 @@ turn_goes {n' = n'} {read' = read'} {spell = spell} goes test some g m' l' a' b'
       front = p.front ++ q.front;
       rest = q.rest;
       more = q.more;
+      next = q.next;
       split = p.split ∙ ap (λ (ws : List Word). p.front ++ ws) q.split ∙ sym (append_assoc p.front q.front q.rest);
       place = q.place ∙ ap (λ (o : Place). Some (place_of_next q.rest o)) p.ends;
       spelled = ap pieces (append_assoc p.front q.front q.more) ∙ pieces_are p.front (q.front ++ q.more) (spell p.text) (flat_map spell q.text) p.spelled q.spelled;

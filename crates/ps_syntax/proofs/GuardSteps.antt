@@ -10,7 +10,7 @@ use Rattle.ps_syntax.specs.Spelling.{Piece, Mark, pieces}
 use Rattle.ps_syntax.specs.Reads.{BeginAlike, refusal_place}
 use Rattle.ps_syntax.proofs.Steps.{Ahead, ahead_so, begins_piece, next_ahead, Always, Gets, gets_bind, gets_end, gets_true, gets_false}
 use Rattle.ps_syntax.proofs.Sequences.{mapped, both, closed, IsMark}
-use Rattle.ps_syntax.proofs.Guards.{not_grammar, placed_word, Refused, Lets, Keeps, refused_bind, refused_after, refused_true, refused_false, lets_bind, lets_end, lets_true, lets_false, keeps_bind, keeps_end, keeps_more, alike_after, IsTest, next_test, Went, Stood, Guards, Any, Same, Example, pieces_are, room_left, word_guards}
+use Rattle.ps_syntax.proofs.Guards.{not_grammar, placed_word, Refused, Lets, Keeps, refused_bind, refused_after, refused_true, refused_false, lets_bind, lets_end, lets_true, lets_false, keeps_bind, keeps_end, keeps_more, alike_after, resumes_more, resumes_word, IsTest, next_test, Went, Stood, Guards, GuardsWhere, guards_where, Any, Same, Example, Resumed, pieces_are, room_left, word_guards}
 
 -- ---- the same function, and the same texts otherwise
 
@@ -35,6 +35,7 @@ guards_same {n' = n'} {most = most} {spell = spell} {okay = okay} {alike = alike
         front = q.front;
         rest = q.rest;
         more = q.more;
+        next = q.next;
         split = q.split;
         place = q.place;
         spelled = q.spelled;
@@ -48,7 +49,7 @@ went_as spell' okay' f spelled fine at y p = record { text = f p.text; fine = fi
 
 stood_as : {C D A : Type 0} {n' : ℕ → ℕ} {read' : ℕ → Read A} {spell : C → List Piece} {okay : C → Type 0} (spell' : D → List Piece) (okay' : D → Type 0) (f : C → D) → ((c : C) → spell c ≡ spell' (f c)) → ((c : C) → okay c → okay' (f c))
     → (at : At) (p : ReadRefusal) → Stood n' read' spell okay at p → Stood n' read' spell' okay' at p
-stood_as spell' okay' f spelled fine at p q = record { text = f q.text; fine = fine q.text q.fine; front = q.front; rest = q.rest; more = q.more; split = q.split; place = q.place; spelled = q.spelled ∙ spelled q.text; same = q.same }
+stood_as spell' okay' f spelled fine at p q = record { text = f q.text; fine = fine q.text q.fine; front = q.front; rest = q.rest; more = q.more; next = q.next; split = q.split; place = q.place; spelled = q.spelled ∙ spelled q.text; same = q.same }
 
 pub guards_as : {C D A : Type 0} {n : ℕ} {n' most : ℕ → ℕ} {read : Read A} {read' : ℕ → Read A} {spell : C → List Piece} {okay : C → Type 0} {alike : A → A → Type 0} {follows : List Piece → Type 0}
     (spell' : D → List Piece) (okay' : D → Type 0) (f : C → D) (g : D → C) → ((d : D) → f (g d) ≡ d) → ((c : C) → spell c ≡ spell' (f c)) → ((c : C) → okay c → okay' (f c)) → ((d : D) → okay' d → okay (g d))
@@ -79,6 +80,7 @@ mapped_guards alike' of liked g = record {
         front = q.front;
         rest = q.rest;
         more = q.more;
+        next = q.next;
         split = q.split;
         place = q.place;
         spelled = q.spelled;
@@ -86,21 +88,23 @@ mapped_guards alike' of liked g = record {
       });
 }
 
--- a refusal at the next word that is no fault of the grammar
-pub refusing_guards : {C A : Type 0} (n : ℕ) (n' most : ℕ → ℕ) (why : At → ReadRefusal) (spell : C → List Piece) (okay : C → Type 0) (alike : A → A → Type 0) (follows : List Piece → Type 0)
-    → ((at : At) → Lets {A = A × At} (Err (why at)) (λ _. ⊥)) → ((at : At) → refusal_place (why at) ≡ Some (place_at at)) → Example spell okay → Guards {A = A} n n' most (λ at. Err (why at)) (λ i at. Err (why at)) spell okay alike follows
-refusing_guards n n' most why spell okay alike follows other place example = record {
+-- a refusal at the next word, which passes a test, that is no fault of the grammar
+pub refusing_guards : {C A : Type 0} (goes : At → Bool) (n : ℕ) (n' most : ℕ → ℕ) (why : At → ReadRefusal) (spell : C → List Piece) (okay : C → Type 0) (alike : A → A → Type 0) (follows : List Piece → Type 0)
+    → ((at : At) → Lets {A = A × At} (Err (why at)) (λ _. ⊥)) → ((at : At) → refusal_place (why at) ≡ Some (place_at at)) → ((at : At) → goes at ≡ true → Resumed spell okay at.words (why at))
+    → GuardsWhere {A = A} goes n n' most (λ at. Err (why at)) (λ i at. Err (why at)) spell okay alike follows
+refusing_guards goes n n' most why spell okay alike follows other place resumed = record {
   never = λ i at c rest fine h stop. lets_other (why at) _ _ (other at);
-  stuck = λ at room. record {
+  stuck = λ at room e. record {
     is = record {
-      text = example.text;
-      fine = example.fine;
+      text = (resumed at e).example.text;
+      fine = (resumed at e).example.fine;
       front = [];
       rest = at.words;
-      more = example.words;
+      more = (resumed at e).example.words;
+      next = (resumed at e).next;
       split = refl;
       place = place at;
-      spelled = example.spelled;
+      spelled = (resumed at e).example.spelled;
       same = λ g i at' more room' s h. absurd (not_grammar (why at) (other at) g);
     };
   };
@@ -148,6 +152,7 @@ both_guards {n = n} {m = m} {n' = n'} {m' = m'} {one' = one'} {two' = two'} {spe
         front = p.front ++ q.front;
         rest = q.rest;
         more = q.more;
+        next = q.next;
         split = p.split ∙ ap (λ (ws : List Word). p.front ++ ws) q.split ∙ sym (append_assoc p.front q.front q.rest);
         place = q.place ∙ ap (λ (o : Place). Some (place_of_next q.rest o)) p.ends;
         spelled = ap pieces (append_assoc p.front q.front q.more) ∙ pieces_are p.front (q.front ++ q.more) (spell p.text) (spell' q.text) p.spelled q.spelled;
@@ -161,6 +166,7 @@ both_guards {n = n} {m = m} {n' = n'} {m' = m'} {one' = one'} {two' = two'} {spe
         front = q.front;
         rest = q.rest;
         more = q.more ++ example.words;
+        next = λ g. resumes_more q.rest q.more example.words (q.next g);
         split = q.split;
         place = q.place;
         spelled = ap pieces (sym (append_assoc q.front q.more example.words)) ∙ pieces_are (q.front ++ q.more) example.words (spell q.text) (spell' example.text) q.spelled example.spelled;
@@ -235,6 +241,7 @@ word_then_guards {n = n} {m = m} {n' = n'} {m' = m'} {most = most} {read' = read
         front = p.front ++ q.front;
         rest = q.rest;
         more = q.more;
+        next = q.next;
         split = p.split ∙ ap (λ (ws : List Word). p.front ++ ws) q.split ∙ sym (append_assoc p.front q.front q.rest);
         place = q.place ∙ ap (λ (o : Place). Some (place_of_next q.rest o)) p.ends;
         spelled = ap pieces (append_assoc p.front q.front q.more) ∙ pieces_are p.front (q.front ++ q.more) (Mark k ∷ []) (spell q.text) piece q.spelled;
@@ -249,6 +256,7 @@ word_then_guards {n = n} {m = m} {n' = n'} {m' = m'} {most = most} {read' = read
         front = q.front;
         rest = q.rest;
         more = q.more ++ example.words;
+        next = λ g. resumes_more q.rest q.more example.words (q.next g);
         split = q.split;
         place = q.place;
         spelled = ap pieces (sym (append_assoc q.front q.more example.words)) ∙ pieces_are (q.front ++ q.more) example.words (Mark k ∷ []) (spell example.text) (q.spelled ∙ ap (λ (r : Piece). r ∷ []) (marked q.text)) example.spelled;
@@ -277,10 +285,11 @@ word_refused_guards {A = A} n n' most k why spell okay alike follows marked othe
           fine = example.fine;
           front = [];
           rest = at.words;
-          more = record { kind = k; text = []; place = record { line = 0; column = 0 } } ∷ example.words;
+          more = p.0.front ++ example.words;
+          next = λ g. resumes_more at.words p.0.front example.words (resumes_word at.words p.0.front w.1.words (Mark k) p.0.split (p.0.spelled ∙ ap (λ (r : Piece). r ∷ []) (marked p.0.text)));
           split = refl;
           place = place w.0 ∙ ap (λ (o : Place). Some o) (sym p.1);
-          spelled = ap (λ (p : Piece). p ∷ pieces example.words) (marked []) ∙ ap (λ (ps : List Piece). Mark k ∷ ps) example.spelled;
+          spelled = pieces_are p.0.front example.words (Mark k ∷ []) (spell example.text) (p.0.spelled ∙ ap (λ (r : Piece). r ∷ []) (marked p.0.text)) example.spelled;
           same = λ g i at' more room' s h. absurd (not_grammar (why w.0) (other w.0) g);
         };
       })
@@ -290,6 +299,7 @@ word_refused_guards {A = A} n n' most k why spell okay alike follows marked othe
         front = q.front;
         rest = q.rest;
         more = q.more ++ example.words;
+        next = λ g. resumes_more q.rest q.more example.words (q.next g);
         split = q.split;
         place = q.place;
         spelled = ap pieces (sym (append_assoc q.front q.more example.words)) ∙ pieces_are (q.front ++ q.more) example.words (Mark k ∷ []) (spell example.text) (q.spelled ∙ ap (λ (r : Piece). r ∷ []) (marked q.text)) example.spelled;
@@ -335,14 +345,15 @@ pub record OfSort {C : Type 0} (begins : List Piece → Bool) (t : Bool) (spell 
 pub alike_two : (ws vs front rest other : List Word) → ws ≡ front ++ rest → vs ≡ front ++ other → BeginAlike rest other → BeginAlike ws vs
 alike_two ws vs front rest other e h s = subst (λ (us : List Word). BeginAlike us vs) (sym e) (subst (λ (us : List Word). BeginAlike (front ++ rest) us) (sym h) (alike_after front rest other s))
 
-pub choice_guards : {C D E A : Type 0} {n : ℕ} {n' most : ℕ → ℕ} {one two : Read A} {one' two' : ℕ → Read A} {spell : C → List Piece} {spell' : D → List Piece} {okay : C → Type 0} {okay' : D → Type 0} {alike : A → A → Type 0} {follows follows' : List Piece → Type 0}
+-- a choice by a test on which the first reading may rest
+pub choosing_guards : {C D E A : Type 0} {n : ℕ} {n' most : ℕ → ℕ} {one two : Read A} {one' two' : ℕ → Read A} {spell : C → List Piece} {spell' : D → List Piece} {okay : C → Type 0} {okay' : D → Type 0} {alike : A → A → Type 0} {follows follows' : List Piece → Type 0}
     (spell'' : E → List Piece) (okay'' : E → Type 0) (follows'' : List Piece → Type 0) (goes : At → Bool) (begins : List Piece → Bool) → IsTest goes → ((k : ℕ) (at : At) (ps : List Piece) → Ahead k at ps → goes at ≡ begins ps)
     → (f : C → E) → ((c : C) → spell c ≡ spell'' (f c)) → ((c : C) → okay c → okay'' (f c)) → (g : D → E) → ((d : D) → spell' d ≡ spell'' (g d)) → ((d : D) → okay' d → okay'' (g d))
     → ((e : E) → okay'' e → OfSort begins true spell okay follows'' (spell'' e) ⊎ OfSort begins false spell' okay' follows'' (spell'' e))
     → ((rest : List Piece) → follows'' rest → follows rest) → ((rest : List Piece) → follows'' rest → follows' rest)
-    → Guards n n' most one one' spell okay alike follows → Guards n n' most two two' spell' okay' alike follows'
+    → GuardsWhere goes n n' most one one' spell okay alike follows → Guards n n' most two two' spell' okay' alike follows'
     → Guards n n' most (λ at. if goes at then one at else two at) (λ i at. if goes at then one' i at else two' i at) spell'' okay'' alike follows''
-choice_guards {n = n} {n' = n'} {most = most} {one = one} {two = two} {one' = one'} {two' = two'} {alike = alike} spell'' okay'' follows'' goes begins test ahead f spelled fine g spelled' fine' sort stops stops' a b = record {
+choosing_guards {n = n} {n' = n'} {most = most} {one = one} {two = two} {one' = one'} {two' = two'} {alike = alike} spell'' okay'' follows'' goes begins test ahead f spelled fine g spelled' fine' sort stops stops' a b = record {
   never = λ i at e rest ok h stop.
       elim (sort e ok) [
         | inl s ↦ lets_true (goes at) (one' i at) (two' i at) (λ y. Ahead (most i) y.1 rest) (ahead (most i) at _ h ∙ s.tells rest stop) (a.never i at s.text rest s.fine (ahead_so (ap (λ (ps : List Piece). ps ++ rest) s.same) h) (stops rest stop))
@@ -354,7 +365,7 @@ choice_guards {n = n} {n' = n'} {most = most} {one = one} {two = two} {one' = on
     by_test : (at : At) → length at.words < n → (t : Bool) → goes at ≡ t
         → Keeps (if t then one at else two at) (Went n' (λ i at'. if goes at' then one' i at' else two' i at') spell'' okay'' alike at) (Stood n' (λ i at'. if goes at' then one' i at' else two' i at') spell'' okay'' at)
     by_test at room true e =
-        keeps_more _ _ _ _ _ (a.stuck at room)
+        keeps_more _ _ _ _ _ (a.stuck at room e)
         (λ y p. record {
           text = f p.text;
           fine = fine p.text p.fine;
@@ -370,6 +381,7 @@ choice_guards {n = n} {n' = n'} {most = most} {one = one} {two = two} {one' = on
           front = p.front;
           rest = p.rest;
           more = p.more;
+          next = p.next;
           split = p.split;
           place = p.place;
           spelled = p.spelled ∙ spelled p.text;
@@ -392,15 +404,27 @@ choice_guards {n = n} {n' = n'} {most = most} {one = one} {two = two} {one' = on
           front = p.front;
           rest = p.rest;
           more = p.more;
+          next = p.next;
           split = p.split;
           place = p.place;
           spelled = p.spelled ∙ spelled' p.text;
           same = λ g i at' other room' s h. refused_false (goes at') _ _ (sym (test.same at at' (alike_two at.words at'.words p.front p.rest other p.split h s)) ∙ e) (p.same g i at' other room' s h);
         })
 
+-- the same where it doesn't
+pub choice_guards : {C D E A : Type 0} {n : ℕ} {n' most : ℕ → ℕ} {one two : Read A} {one' two' : ℕ → Read A} {spell : C → List Piece} {spell' : D → List Piece} {okay : C → Type 0} {okay' : D → Type 0} {alike : A → A → Type 0} {follows follows' : List Piece → Type 0}
+    (spell'' : E → List Piece) (okay'' : E → Type 0) (follows'' : List Piece → Type 0) (goes : At → Bool) (begins : List Piece → Bool) → IsTest goes → ((k : ℕ) (at : At) (ps : List Piece) → Ahead k at ps → goes at ≡ begins ps)
+    → (f : C → E) → ((c : C) → spell c ≡ spell'' (f c)) → ((c : C) → okay c → okay'' (f c)) → (g : D → E) → ((d : D) → spell' d ≡ spell'' (g d)) → ((d : D) → okay' d → okay'' (g d))
+    → ((e : E) → okay'' e → OfSort begins true spell okay follows'' (spell'' e) ⊎ OfSort begins false spell' okay' follows'' (spell'' e))
+    → ((rest : List Piece) → follows'' rest → follows rest) → ((rest : List Piece) → follows'' rest → follows' rest)
+    → Guards n n' most one one' spell okay alike follows → Guards n n' most two two' spell' okay' alike follows'
+    → Guards n n' most (λ at. if goes at then one at else two at) (λ i at. if goes at then one' i at else two' i at) spell'' okay'' alike follows''
+choice_guards spell'' okay'' follows'' goes begins test ahead f spelled fine g spelled' fine' sort stops stops' a b =
+    choosing_guards spell'' okay'' follows'' goes begins test ahead f spelled fine g spelled' fine' sort stops stops' (guards_where goes a) b
+
 -- a last sort: where the next word isn't its own, that is a fault
 pub last_guards : {C A : Type 0} {n : ℕ} {n' most : ℕ → ℕ} {one : Read A} {one' : ℕ → Read A} {spell : C → List Piece} {okay : C → Type 0} {alike : A → A → Type 0} {follows : List Piece → Type 0}
-    (k : TokenKind) → ((c : C) (rest : List Piece) → okay c → begins_piece k (spell c ++ rest) ≡ true) → Example spell okay → Guards n n' most one one' spell okay alike follows
+    (k : TokenKind) → ((c : C) (rest : List Piece) → okay c → begins_piece k (spell c ++ rest) ≡ true) → Example spell okay → GuardsWhere (next_is k) n n' most one one' spell okay alike follows
     → Guards n n' most (λ at. if next_is k at then one at else Err (Grammar (place_at at))) (λ i at. if next_is k at then one' i at else Err (Grammar (place_at at))) spell okay alike follows
 last_guards {n = n} {n' = n'} {one = one} {one' = one'} {spell = spell} {okay = okay} {alike = alike} k starts example a = record {
   never = λ i at c rest fine h stop. lets_true (next_is k at) _ _ _ (next_ahead k h ∙ starts c rest fine) (a.never i at c rest fine h stop);
@@ -410,7 +434,7 @@ last_guards {n = n} {n' = n'} {one = one} {one' = one'} {spell = spell} {okay = 
     by_test : (at : At) → length at.words < n → (t : Bool) → next_is k at ≡ t
         → Keeps (if t then one at else Err (Grammar (place_at at))) (Went n' (λ i at'. if next_is k at' then one' i at' else Err (Grammar (place_at at'))) spell okay alike at) (Stood n' (λ i at'. if next_is k at' then one' i at' else Err (Grammar (place_at at'))) spell okay at)
     by_test at room true e =
-        keeps_more _ _ _ _ _ (a.stuck at room)
+        keeps_more _ _ _ _ _ (a.stuck at room e)
         (λ y p. record {
           text = p.text;
           fine = p.fine;
@@ -426,6 +450,7 @@ last_guards {n = n} {n' = n'} {one = one} {one' = one'} {spell = spell} {okay = 
           front = p.front;
           rest = p.rest;
           more = p.more;
+          next = p.next;
           split = p.split;
           place = p.place;
           spelled = p.spelled;
@@ -438,6 +463,7 @@ last_guards {n = n} {n' = n'} {one = one} {one' = one'} {spell = spell} {okay = 
         front = [];
         rest = at.words;
         more = example.words;
+        next = λ g. absurd g;
         split = refl;
         place = refl;
         spelled = example.spelled;
@@ -467,6 +493,7 @@ placed_guards of g = record {
         front = q.front;
         rest = q.rest;
         more = q.more;
+        next = q.next;
         split = q.split;
         place = q.place;
         spelled = q.spelled;
@@ -496,6 +523,7 @@ mapped_any of of' g = record {
         front = q.front;
         rest = q.rest;
         more = q.more;
+        next = q.next;
         split = q.split;
         place = q.place;
         spelled = q.spelled;

@@ -9,10 +9,10 @@ use Rattle.ps_text.specs.declared.token_kind.TokenKind.{TokenKind}
 use Rattle.ps_syntax.specs.declared.read_refusal.ReadRefusal.{ReadRefusal}
 use Rattle.ps_syntax.specs.declared.read_refusal.ReadRefusal.TheVariants.{Grammar}
 use Rattle.ps_syntax.specs.Words.{Word, At, Read, and_then, ◌>>=◌, is_kind, begins_with, next_is, place_of_next, word_from, word_at}
-use Rattle.ps_syntax.specs.Spelling.{Piece, piece_of_kind, pieces}
-use Rattle.ps_syntax.specs.Reads.{BeginAlike, refusal_place}
-use Rattle.ps_syntax.proofs.Steps.{Finds, found_if, one_kind, kind_of, kind_of_piece, Ahead, Always, Gets, gets_end, gets_true}
-use Rattle.ps_syntax.proofs.Sequences.{word_exact}
+use Rattle.ps_syntax.specs.Spelling.{Piece, Mark, piece_of_kind, pieces}
+use Rattle.ps_syntax.specs.Reads.{BeginAlike, PassesGrammar, refusal_place}
+use Rattle.ps_syntax.proofs.Steps.{Finds, found_if, one_kind, kind_of, kind_of_piece, begins_piece, begins_pieces, Ahead, Always, Gets, gets_end, gets_true}
+use Rattle.ps_syntax.proofs.Sequences.{IsMark, word_exact}
 
 -- ---- faults of the grammar
 
@@ -122,6 +122,40 @@ alike_begins k (w ∷ ws) (v ∷ vs) h = ap (λ (j : TokenKind). is_kind j k) (s
 pub next_test : (k : TokenKind) → IsTest (next_is k)
 next_test k = record { same = λ at at' h. alike_begins k at.words at'.words h }
 
+-- ---- the same first word
+
+abbrev ResumesOf : List Word → List Word → Type 0
+ResumesOf (w ∷ ws) (v ∷ vs) = piece_of_kind w.kind w.text ≡ piece_of_kind v.kind v.text
+ResumesOf ws vs = ⊥
+
+-- Both begin with a word, and those are spelled alike. Other than `BeginAlike` it is kept by more words after the second.
+pub record Resumes (ws vs : List Word) : Type 0 where
+  pub is : ResumesOf ws vs
+
+pub resumes_more : (ws vs more : List Word) → Resumes ws vs → Resumes ws (vs ++ more)
+resumes_more [] vs more h = absurd h.is
+resumes_more (w ∷ ws) [] more h = absurd h.is
+resumes_more (w ∷ ws) (v ∷ vs) more h = record { is = h.is }
+
+pub resumes_alike : (ws vs : List Word) → Resumes ws vs → BeginAlike ws vs
+resumes_alike [] vs h = absurd h.is
+resumes_alike (w ∷ ws) [] h = absurd h.is
+resumes_alike (w ∷ ws) (v ∷ vs) h = h.is
+
+-- a front of one word
+pub resumes_word : (ws front rest : List Word) (p : Piece) → ws ≡ front ++ rest → pieces front ≡ p ∷ [] → Resumes ws front
+resumes_word ws [] rest p e h = absurd cc
+resumes_word ws (w ∷ front) rest p e h = subst (λ (vs : List Word). Resumes vs (w ∷ front)) (sym e) (record { is = refl })
+
+-- both begin with a word of a kind that has one spelling
+resumes_mark : (k : TokenKind) → IsMark k → (ws vs : List Word) → begins_with k ws ≡ true → begins_with k vs ≡ true → Resumes ws vs
+resumes_mark k marked [] vs e h = absurd cc
+resumes_mark k marked (w ∷ ws) [] e h = absurd cc
+resumes_mark k marked (w ∷ ws) (v ∷ vs) e h = record { is = mark_of w e ∙ sym (mark_of v h) }
+  where
+    mark_of : (u : Word) → is_kind u.kind k ≡ true → piece_of_kind u.kind u.text ≡ Mark k
+    mark_of u s = ap (λ (j : TokenKind). piece_of_kind j u.text) (one_kind u.kind k s) ∙ marked u.text
+
 -- ---- the laws
 
 -- What was read is spelled so, and is read alike of other words that begin so and go on alike.
@@ -134,8 +168,8 @@ pub record Went {C A : Type 0} (n' : ℕ → ℕ) (read' : ℕ → Read A) (spel
   pub spelled : pieces front ≡ spell text
   pub same : (i : ℕ) (at' : At) (other : List Word) → length at'.words < n' i → BeginAlike y.1.words other → at'.words ≡ front ++ other → Gets (read' i at') (λ z. alike y.0 z.0 × (z.1.words ≡ other))
 
--- Where a refusal stands, the words before it go on as some text; and a fault of the grammar have others too that begin
--- so and go on alike.
+-- Where a refusal stands, the words before it go on as some text, and with the refused word too where no fault of the
+-- grammar stands there; and a fault of the grammar have others too that begin so and go on alike.
 pub record Stood {C A : Type 0} (n' : ℕ → ℕ) (read' : ℕ → Read A) (spell : C → List Piece) (okay : C → Type 0) (at : At) (refused : ReadRefusal) : Type 0 where
   pub text : C
   pub fine : okay text
@@ -145,6 +179,7 @@ pub record Stood {C A : Type 0} (n' : ℕ → ℕ) (read' : ℕ → Read A) (spe
   pub split : at.words ≡ front ++ rest
   pub place : refusal_place refused ≡ Some (place_of_next rest at.end)
   pub spelled : pieces (front ++ more) ≡ spell text
+  pub next : PassesGrammar refused → Resumes rest more
   pub same : IsGrammar refused → (i : ℕ) (at' : At) (other : List Word) → length at'.words < n' i → BeginAlike rest other → at'.words ≡ front ++ other → Refused (read' i at')
 
 -- The laws of a reading function, and of one that is like it with another bound, where fewer words are left than those
@@ -152,6 +187,15 @@ pub record Stood {C A : Type 0} (n' : ℕ → ℕ) (read' : ℕ → Read A) (spe
 pub record Guards {C A : Type 0} (n : ℕ) (n' most : ℕ → ℕ) (read : Read A) (read' : ℕ → Read A) (spell : C → List Piece) (okay : C → Type 0) (alike : A → A → Type 0) (follows : List Piece → Type 0) : Type 0 where
   pub never : (i : ℕ) (at : At) (c : C) (rest : List Piece) → okay c → Ahead (most i) at (spell c ++ rest) → follows rest → Lets (read' i at) (λ y. Ahead (most i) y.1 rest)
   pub stuck : (at : At) → length at.words < n → Keeps (read at) (Went n' read' spell okay alike at) (Stood n' read' spell okay at)
+
+-- The same where the next word passes a test.
+pub record GuardsWhere {C A : Type 0} (goes : At → Bool) (n : ℕ) (n' most : ℕ → ℕ) (read : Read A) (read' : ℕ → Read A) (spell : C → List Piece) (okay : C → Type 0) (alike : A → A → Type 0) (follows : List Piece → Type 0) : Type 0 where
+  pub never : (i : ℕ) (at : At) (c : C) (rest : List Piece) → okay c → Ahead (most i) at (spell c ++ rest) → follows rest → Lets (read' i at) (λ y. Ahead (most i) y.1 rest)
+  pub stuck : (at : At) → length at.words < n → goes at ≡ true → Keeps (read at) (Went n' read' spell okay alike at) (Stood n' read' spell okay at)
+
+pub guards_where : {C A : Type 0} {n : ℕ} {n' most : ℕ → ℕ} {read : Read A} {read' : ℕ → Read A} {spell : C → List Piece} {okay : C → Type 0} {alike : A → A → Type 0} {follows : List Piece → Type 0}
+    (goes : At → Bool) → Guards n n' most read read' spell okay alike follows → GuardsWhere goes n n' most read read' spell okay alike follows
+guards_where goes g = record { never = g.never; stuck = λ at room e. g.stuck at room }
 
 abbrev pub Any : {A : Type 0} → A → A → Type 0
 Any x y = Unit {0}
@@ -165,6 +209,15 @@ pub record Example {C : Type 0} (spell : C → List Piece) (okay : C → Type 0)
   pub fine : okay text
   pub words : List Word
   pub spelled : pieces words ≡ spell text
+
+-- the same at a refusal: where no fault of the grammar stands there, they begin with the refused word
+pub record Resumed {C : Type 0} (spell : C → List Piece) (okay : C → Type 0) (rest : List Word) (refused : ReadRefusal) : Type 0 where
+  pub example : Example spell okay
+  pub next : PassesGrammar refused → Resumes rest example.words
+
+-- it stands at a word of the kind with which the text begins
+pub resumed_mark : {C : Type 0} {spell : C → List Piece} {okay : C → Type 0} (k : TokenKind) → IsMark k → (rest : List Word) (refused : ReadRefusal) → begins_with k rest ≡ true → (e : Example spell okay) → begins_piece k (spell e.text) ≡ true → Resumed spell okay rest refused
+resumed_mark k marked rest refused h e starts = record { example = e; next = λ g. resumes_mark k marked rest e.words h (begins_pieces k e.words ∙ ap (begins_piece k) e.spelled ∙ starts) }
 
 pub pieces_both : (a b : List Word) → pieces (a ++ b) ≡ pieces a ++ pieces b
 pieces_both a b = map-append (λ (w : Word). piece_of_kind w.kind w.text) a b
@@ -205,6 +258,7 @@ word_stuck n' k [] end = record {
     front = [];
     rest = [];
     more = word_of k ∷ [];
+    next = λ g. absurd g;
     split = refl;
     place = refl;
     spelled = refl;
@@ -234,6 +288,7 @@ word_stuck n' k (w ∷ ws) end = by_test (is_kind w.kind k) refl
         front = [];
         rest = w ∷ ws;
         more = word_of k ∷ [];
+        next = λ g. absurd g;
         split = refl;
         place = refl;
         spelled = refl;

@@ -1,7 +1,8 @@
--- Words are one program at most, have one first fault at most, and not both; and no refusal stands after that.
+-- Words are one program at most, have one first fault at most, and not both; and no refusal stands after that fault, nor
+-- at it but for a second name of a product.
 use Rattle.std.proofs.Common.{◌≡◌, ◌≢◌, ◌⊎◌, inl, inr, List, [], ◌∷◌, ◌++◌, Result, Ok, refl, sym, ap, subst, ◌∙◌, append_assoc}
 use Rattle.std.specs.List.{AllByRecursion}
-use Rattle.std.proofs.lemmas.List.{append-nil, append_cancel_right}
+use Rattle.std.proofs.lemmas.List.{append-nil, append_cancel_left, append_cancel_right}
 use Rattle.std.proofs.lemmas.List.Elements.{All-from_recursion, recursion_from_All}
 use Rattle.ps_text.specs.declared.place.Place.{Place}
 use Rattle.ps_syntax.specs.declared.program.Program.{Program}
@@ -12,7 +13,7 @@ use Rattle.ps_syntax.specs.Words.{Word, place_of_next}
 use Rattle.ps_syntax.specs.Items.{Declared, names_of, nothing_declared}
 use Rattle.ps_syntax.specs.Trees.{with_item}
 use Rattle.ps_syntax.specs.Fits.{RelationFits, ItemFits, ItemsFit}
-use Rattle.ps_syntax.specs.Reads.{IsProgramText, HasInitSigns, IsText, BeginAlike, IsFirstFault, StandsInText}
+use Rattle.ps_syntax.specs.Reads.{IsProgramText, HasInitSigns, IsText, BeginAlike, IsFirstFault, PassesGrammar, StandsInText}
 use Rattle.ps_syntax.proofs.ProgramLaws.{program_of_again}
 use Rattle.ps_syntax.proofs.Guards.{alike_itself}
 
@@ -90,6 +91,12 @@ not_after words end p f before rest others split text =
 -- No other refusal stands after a fault of the grammar.
 pub not_after_fault : (words : List Word) (end p : Place) (f : IsFirstFault words end p) (e : ReadRefusal) (s : StandsInText words end e) → (tail : List Word) × (f.before ≡ s.before ++ tail)
 not_after_fault words end p f e s = not_after words end p f s.before s.rest s.others s.split s.goes_on
+
+-- Nor does one stand at it, but for a second name of a product.
+pub not_at_fault : (words : List Word) (end p : Place) (f : IsFirstFault words end p) (e : ReadRefusal) (s : StandsInText words end e) → PassesGrammar e → f.before ≡ s.before → ⊥
+not_at_fault words end p f e s g same =
+    let left : f.rest ≡ s.rest = append_cancel_left f.before f.rest s.rest (sym f.split ∙ s.split ∙ ap (λ (ws : List Word). ws ++ s.rest) (sym same)) in
+    f.stops s.others (subst (λ (ws : List Word). BeginAlike ws s.others) (sym left) (s.next g)) (subst (λ (ws : List Word). IsText (ws ++ s.others)) (sym same) s.goes_on)
 
 -- ---- a program is a text of the grammar
 

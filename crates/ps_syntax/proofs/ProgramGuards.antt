@@ -17,10 +17,10 @@ use Rattle.ps_syntax.specs.Names.{Names}
 use Rattle.ps_syntax.specs.Blocks.{block_at}
 use Rattle.ps_syntax.specs.Items.{Declared, most_levels, nothing_declared, names_of, item_at, has_item, items_at, program_at, program_of}
 use Rattle.ps_syntax.specs.Spelling.{Piece, Mark, piece_of_kind, pieces, item_pieces, block_pieces, program_pieces}
-use Rattle.ps_syntax.specs.Reads.{HasInitSigns, IsText, BeginAlike, IsFirstFault, refusal_place, StandsInText}
+use Rattle.ps_syntax.specs.Reads.{HasInitSigns, IsText, BeginAlike, IsFirstFault, refusal_place, PassesGrammar, StandsInText}
 use Rattle.ps_syntax.proofs.Steps.{Ahead, ahead_so, Always, Gets, gets_bind}
 use Rattle.ps_syntax.proofs.ProgramLaws.{items_pieces, begins_item, item_ahead, item_begins, few_items, item_some, end_again}
-use Rattle.ps_syntax.proofs.Guards.{IsGrammar, Refused, Lets, Keeps, refused_bind, refused_after, lets_bind, lets_end, lets_true, lets_false, keeps_bind, keeps_end, keeps_more, alike_after, IsTest, next_test, Went, Stood, Guards, Any, Example, pieces_are, room_left}
+use Rattle.ps_syntax.proofs.Guards.{IsGrammar, Refused, Lets, Keeps, refused_bind, refused_after, lets_bind, lets_end, lets_true, lets_false, keeps_bind, keeps_end, keeps_more, alike_after, Resumes, resumes_more, resumes_alike, IsTest, next_test, Went, Stood, Guards, Any, Example, pieces_are, room_left}
 use Rattle.ps_syntax.proofs.GuardSteps.{after_guards, alike_two, example_after}
 use Rattle.ps_syntax.proofs.StmtGuards.{block_guards, block_example}
 use Rattle.ps_syntax.proofs.DeclarationGuards.{beside, free_item, item_guards}
@@ -97,6 +97,7 @@ items_fail m' l' a b at e p q = record {
   front = q.front;
   rest = q.rest;
   more = q.more;
+  next = q.next;
   split = q.split;
   place = q.place;
   spelled = q.spelled ∙ sym (append-nil (item_pieces q.text));
@@ -133,6 +134,7 @@ items_turn m' l' a b at e x p r h =
       front = p.front ++ q.front;
       rest = q.rest;
       more = q.more;
+      next = q.next;
       split = p.split ∙ ap (λ (ws : List Word). p.front ++ ws) q.split ∙ sym (append_assoc p.front q.front q.rest);
       place = q.place ∙ ap (λ (o : Place). Some (place_of_next q.rest o)) p.ends;
       spelled = ap pieces (append_assoc p.front q.front q.more) ∙ pieces_are p.front (q.front ++ q.more) (item_pieces p.text) (items_pieces q.text) p.spelled q.spelled;
@@ -163,7 +165,7 @@ items_stuck n (suc m) l m' l' d a b a' b' at room =
         → ((e : Declared) (mid : At) → length mid.words < l - 1 → Keeps (items_at n e m mid) (ItemsWent (λ i. m' i - 1) (λ i. l' i - 1) mid) (ItemsStood (λ i. m' i - 1) (λ i. l' i - 1) mid))
         → Keeps (if t then (item_at d n at >>= λ x. items_at n x.0 m x.1) else Ok (d, at)) (ItemsWent m' l' at) (ItemsStood m' l' at)
     by_test true e more =
-        keeps_bind _ _ _ _ _ _ ((item_guards n d).stuck at (omega (arith, room, b)))
+        keeps_bind _ _ _ _ _ _ ((item_guards n d).stuck at (omega (arith, room, b)) e)
         (λ x p. items_turn m' l' a' b' at e x p _ (more x.0 x.1 (room_left l (l - 1) at.words p.front x.1.words (item_pieces p.text) room p.split p.spelled (omega (arith, item_some p.text, room)))))
         (λ p q. items_fail m' l' a' b' at e p q)
     by_test false e more = keeps_end _ _ _ (items_none m' l' d at e)
@@ -203,6 +205,7 @@ record Fault (at : At) (refused : ReadRefusal) : Type 0 where
   pub split : at.words ≡ front ++ rest
   pub place : refusal_place refused ≡ Some (place_of_next rest at.end)
   pub goes : IsText (front ++ more)
+  pub next : PassesGrammar refused → Resumes rest more
   pub same : IsGrammar refused → (i : ℕ) (at' : At) (other : List Word) → length at'.words < suc i → BeginAlike rest other → at'.words ≡ front ++ other → Refused (free_program i at')
 
 is_text : (is : List ItemText) (b : BlockText) (words : List Word) → AllByRecursion HasInitSigns is → pieces words ≡ items_pieces is ++ Mark kind.Thread ∷ block_pieces b → IsText words
@@ -226,6 +229,7 @@ program_stuck n at room =
       front = p.front ++ q.front;
       rest = q.rest;
       more = q.more;
+      next = q.next;
       split = p.split ∙ ap (λ (ws : List Word). p.front ++ ws) q.split ∙ sym (append_assoc p.front q.front q.rest);
       place = q.place ∙ ap (λ (o : Place). Some (place_of_next q.rest o)) p.ends;
       goes = is_text p.text q.text _ p.fine (ap pieces (append_assoc p.front q.front q.more) ∙ pieces_are p.front (q.front ++ q.more) (items_pieces p.text) (Mark kind.Thread ∷ block_pieces q.text) p.spelled q.spelled);
@@ -237,6 +241,7 @@ program_stuck n at room =
       front = q.front;
       rest = q.rest;
       more = q.more ++ thread_example.words;
+      next = λ g. resumes_more q.rest q.more thread_example.words (q.next g);
       split = q.split;
       place = q.place;
       goes = is_text q.text thread_example.text _ q.fine (ap pieces (sym (append_assoc q.front q.more thread_example.words)) ∙ pieces_are (q.front ++ q.more) thread_example.words (items_pieces q.text) (Mark kind.Thread ∷ block_pieces thread_example.text) q.spelled thread_example.spelled);
@@ -251,6 +256,7 @@ program_stuck n at room =
         front = p.front ++ q.front;
         rest = w ∷ ws;
         more = [];
+        next = λ g. absurd g;
         split = p.split ∙ ap (λ (vs : List Word). p.front ++ vs) (q.split ∙ ap (λ (vs : List Word). q.front ++ vs) e) ∙ sym (append_assoc p.front q.front (w ∷ ws));
         place = refl;
         goes = is_text p.text q.text _ p.fine (ap pieces (append-nil (p.front ++ q.front)) ∙ pieces_are p.front q.front (items_pieces p.text) (Mark kind.Thread ∷ block_pieces q.text) p.spelled q.spelled);
@@ -299,8 +305,9 @@ fault_of words end e h =
 pub program_of_grammar : (words : List Word) (end place : Place) → program_of words end ≡ Err (Grammar place) → IsFirstFault words end place
 program_of_grammar words end place h = first_fault words end place (fault_of words end (Grammar place) h)
 
--- Before each refusal the words go on as some text of the grammar.
+-- Before each refusal the words go on as some text of the grammar, and with the refused word too where no fault of the
+-- grammar stands there.
 pub program_of_refused : (words : List Word) (end : Place) (e : ReadRefusal) → program_of words end ≡ Err e → StandsInText words end e
 program_of_refused words end e h =
     let f : Fault (record { words = words; end = end }) e = fault_of words end e h in
-    record { before = f.front; rest = f.rest; split = f.split; place_is = f.place; others = f.more; goes_on = f.goes }
+    record { before = f.front; rest = f.rest; split = f.split; place_is = f.place; others = f.more; goes_on = f.goes; next = λ g. resumes_alike f.rest f.more (f.next g) }

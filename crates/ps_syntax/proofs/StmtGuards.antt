@@ -18,7 +18,7 @@ use Rattle.ps_syntax.proofs.Steps.{begins_piece, next_ahead, Not, Always}
 use Rattle.ps_syntax.proofs.Sequences.{IsMark}
 use Rattle.ps_syntax.proofs.StmtLaws.{else_pieces, if_pieces, if_of, if_spelled, if_is, then_spelled}
 use Rattle.ps_syntax.proofs.BlockLaws.{stmts_go_on, block_of, stmts_of, block_back, block_spelled, goes_on}
-use Rattle.ps_syntax.proofs.Guards.{IsTest, next_test, Guards, Any, Example, pieces_are}
+use Rattle.ps_syntax.proofs.Guards.{IsTest, next_test, Guards, GuardsWhere, guards_where, Any, Example, resumed_mark, pieces_are}
 use Rattle.ps_syntax.proofs.GuardSteps.{guards_same, guards_as, mapped_guards, placed_guards, refusing_guards, nothing_guards, both_guards, three_is, pair_up, of_pair, after_guards, word_refused_guards, word_alone, mark_example, closed_guards, example_after, example_closed, OfSort, choice_guards, last_guards}
 use Rattle.ps_syntax.proofs.GuardLoops.{while_guards}
 use Rattle.ps_syntax.proofs.SumGuards.{Two, GuardsIn, all_always, name_example, variable_guards, sum_guards, sum_example}
@@ -82,12 +82,15 @@ while_example = record {
 }
 
 while_stmt_guards : (t : Two) (levels : ℕ) (inside : Bool) (block : Read (List Stmt)) (block' : ℕ → Read (List Stmt)) → BlockGuards t block block'
-    → GuardsIn t (while_stmt_at inside block t.scope t.most levels) (λ i. while_stmt_at inside (block' i) t.scope' (t.most' i) levels) while_pieces Any Always
-unfolding while_stmt_at
-while_stmt_guards t levels true block block' g = refusing_guards t.left t.left' t.most' (λ at. LoopInAtomic (place_at at)) while_pieces Always Any Always (λ at. record { is = tt }) (λ at. refl) while_example
+    → GuardsWhere (next_is kind.While) t.left t.left' t.most' (while_stmt_at inside block t.scope t.most levels) (λ i. while_stmt_at inside (block' i) t.scope' (t.most' i) levels) while_pieces Always Any Always
+unfolding while_stmt_at while_example
+while_stmt_guards t levels true block block' g =
+    refusing_guards (next_is kind.While) t.left t.left' t.most' (λ at. LoopInAtomic (place_at at)) while_pieces Always Any Always (λ at. record { is = tt }) (λ at. refl)
+    (λ at e. resumed_mark kind.While (λ u. refl) at.words (LoopInAtomic (place_at at)) e while_example refl)
 while_stmt_guards t levels false block block' g =
-    guards_as while_pieces Always (λ c. c) (λ c. c) (λ c. refl) (λ c. refl) (λ c h. tt) (λ c h. (tt, tt))
-    (both_guards {m = t.left} {m' = t.left'} Any stmt.While (λ x y z w a b. tt) (after_guards kind.While (λ u. refl) (omega arith) (λ i. omega arith) (parens_guards t levels) test_example) (λ c. omega arith) (λ i c. omega arith) g block_example (λ d rest h. tt))
+    guards_where (next_is kind.While)
+    (guards_as while_pieces Always (λ c. c) (λ c. c) (λ c. refl) (λ c. refl) (λ c h. tt) (λ c h. (tt, tt))
+    (both_guards {m = t.left} {m' = t.left'} Any stmt.While (λ x y z w a b. tt) (after_guards kind.While (λ u. refl) (omega arith) (λ i. omega arith) (parens_guards t levels) test_example) (λ c. omega arith) (λ i c. omega arith) g block_example (λ d rest h. tt)))
 
 else_sort : (o : Option BlockText) → Always o → OfSort (begins_piece kind.Else) true (λ (b : BlockText). Mark kind.Else ∷ block_pieces b) Always (Not kind.Else) (else_pieces o) ⊎ OfSort (begins_piece kind.Else) false (λ (u : Unit {0}). []) Always (Not kind.Else) (else_pieces o)
 else_sort None ok = inr (record { text = tt; fine = tt; same = refl; tells = λ rest h. h })

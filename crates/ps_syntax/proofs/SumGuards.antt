@@ -16,15 +16,15 @@ use Rattle.ps_syntax.specs.Grammar.{ProductText, number, name, number_name, name
 use Rattle.ps_syntax.specs.Words.{Word, At, Read, ◌>>=◌, next_is, place_at, word_at, after_word}
 use Rattle.ps_syntax.specs.Names.{Names, variable_in, variable_at}
 use Rattle.ps_syntax.specs.Sums.{number_value, factor_at, number_product_at, name_product_at, product_at, signed, first_product_at, further_product_at, adds, sum_at, sign_from, sign_at, relation_at}
-use Rattle.ps_syntax.specs.Spelling.{Piece, Mark, piece_of_kind, product_pieces, minus_pieces, sum_pieces, relation_pieces}
-use Rattle.ps_syntax.specs.Reads.{BeginAlike, refusal_place}
+use Rattle.ps_syntax.specs.Spelling.{Piece, NamePiece, Mark, piece_of_kind, product_pieces, minus_pieces, sum_pieces, relation_pieces}
+use Rattle.ps_syntax.specs.Reads.{BeginAlike, PassesGrammar, refusal_place}
 use Rattle.ps_syntax.proofs.Steps.{same_kind, kind_of, kind_of_piece, begins_piece, next_ahead, Not, Always, Gets, gets_bind, gets_end}
 use Rattle.ps_syntax.proofs.Sequences.{IsMark, mapped, both}
 use Rattle.ps_syntax.proofs.SumLaws.{number_piece, further_goes_on, SumEnds, SignedText, first_pieces, further_piece, begins_adding, further_joins, sum_of, parts_of, make_sum, further_is, product_begins}
 use Rattle.ps_syntax.proofs.Scopes.{name_piece}
 use Rattle.ps_syntax.proofs.RelationLaws.{AreSigns, SignIn, sign_piece, sign_mark, sign_exact, sign_ends}
-use Rattle.ps_syntax.proofs.Guards.{IsGrammar, not_grammar, placed_word, Refused, Lets, Keeps, refused_bind, lets_bind, lets_end, lets_gets, keeps_bind, keeps_end, IsTest, next_test, Went, Stood, Guards, Any, Same, Example, pieces_are, word_guards}
-use Rattle.ps_syntax.proofs.GuardSteps.{guards_same, guards_as, mapped_guards, refusing_guards, nothing_guards, both_guards, three_is, pair_up, of_pair, bind_same, bind_bind, bind_end, after_guards, OfSort, choice_guards}
+use Rattle.ps_syntax.proofs.Guards.{IsGrammar, not_grammar, placed_word, Refused, Lets, Keeps, refused_bind, lets_bind, lets_end, lets_gets, keeps_bind, keeps_end, resumes_word, IsTest, next_test, Went, Stood, Guards, Any, Same, Example, pieces_are, word_guards}
+use Rattle.ps_syntax.proofs.GuardSteps.{guards_same, guards_as, mapped_guards, refusing_guards, nothing_guards, both_guards, three_is, pair_up, of_pair, bind_same, bind_bind, bind_end, after_guards, OfSort, choosing_guards, choice_guards}
 use Rattle.ps_syntax.proofs.GuardLoops.{while_guards}
 
 -- what passes in one scope passes in the other
@@ -85,13 +85,14 @@ variable_guards t = record {
             gets_end _ _ (tt, a.1)));
       }))
       (λ e q. record {
-        text = [];
+        text = p.0.text;
         fine = tt;
         front = [];
         rest = at.words;
-        more = record { kind = kind.Name; text = []; place = record { line = 0; column = 0 } } ∷ [];
+        more = p.0.front;
+        next = λ g. resumes_word at.words p.0.front w.1.words (NamePiece p.0.text) p.0.split p.0.spelled;
         split = refl;
-        spelled = refl;
+        spelled = p.0.spelled;
         place = ap refusal_place q ∙ ap (λ (o : Place). Some o) (sym p.1);
         same = λ g i at' other room' s h. absurd (not_grammar {A = Var} (UnknownName w.0.place) (record { is = tt }) (subst IsGrammar q g));
       }))
@@ -101,6 +102,7 @@ variable_guards t = record {
         front = r.front;
         rest = r.rest;
         more = r.more;
+        next = r.next;
         split = r.split;
         place = r.place;
         spelled = r.spelled;
@@ -120,10 +122,10 @@ digits_guards t = mapped_guards Any (λ (w : Word). number_value w.text) (λ x y
 factor_guards : (t : Two) → GuardsIn t factor_at (λ i. factor_at) number_piece Any Always
 unfolding factor_at
 factor_guards t =
-    choice_guards number_piece Always Always (next_is kind.Name) (begins_piece kind.Name) (next_test kind.Name) (λ k at ps h. next_ahead kind.Name h)
+    choosing_guards number_piece Always Always (next_is kind.Name) (begins_piece kind.Name) (next_test kind.Name) (λ k at ps h. next_ahead kind.Name h)
     (λ d. d) (λ d. refl) (λ d h. tt) (λ d. d) (λ d. refl) (λ d h. tt)
     (λ d ok. inr (record { text = d; fine = tt; same = refl; tells = λ rest h. refl })) (λ rest h. tt) (λ rest h. tt)
-    (refusing_guards t.left t.left' t.most' (λ at. NotLinear (place_at at)) number_piece Always Any Always (λ at. record { is = tt }) (λ at. refl) number_example)
+    (refusing_guards (next_is kind.Name) t.left t.left' t.most' (λ at. NotLinear (place_at at)) number_piece Always Any Always (λ at. record { is = tt }) (λ at. refl) (λ at e. record { example = number_example; next = λ g. absurd g }))
     (digits_guards t)
 
 -- ---- a word and more, or nothing
@@ -300,6 +302,7 @@ sign_stuck n' of are less [] end = record {
     front = [];
     rest = [];
     more = record { kind = kind.Less; text = []; place = record { line = 0; column = 0 } } ∷ [];
+    next = λ g. absurd g;
     split = refl;
     place = refl;
     spelled = refl;
@@ -330,6 +333,7 @@ sign_stuck n' of are less (w ∷ ws) end = by_sign (of w.kind) refl
           front = [];
           rest = w ∷ ws;
           more = record { kind = kind.Less; text = []; place = record { line = 0; column = 0 } } ∷ [];
+          next = λ g. absurd (subst PassesGrammar q g);
           split = refl;
           place = ap refusal_place q;
           spelled = refl;

@@ -61,7 +61,15 @@ refusal_place (refusal.LoopInAtomic p) = Some p
 refusal_place (refusal.Limit p what) = Some p
 refusal_place (refusal.Memory e) = None
 
--- The refusal stands at a word, or at the end of the text, before which the words go on as some text of the grammar.
+-- It is neither a fault of the grammar nor a second name of a product, which stands where the grammar wants a number and
+-- goes before that fault.
+abbrev pub PassesGrammar : ReadRefusal → Type 0
+PassesGrammar (refusal.Grammar p) = ⊥
+PassesGrammar (refusal.NotLinear p) = ⊥
+PassesGrammar refused = Unit {0}
+
+-- The refusal stands at a word, or at the end of the text, before which the words go on as some text of the grammar; and
+-- where no fault of the grammar stands there, they go on so with the refused word.
 pub record StandsInText (words : List Word) (end : Place) (refused : ReadRefusal) : Type 0 where
   pub before : List Word
   pub rest : List Word
@@ -69,3 +77,4 @@ pub record StandsInText (words : List Word) (end : Place) (refused : ReadRefusal
   pub place_is : refusal_place refused ≡ Some (place_of_next rest end)
   pub others : List Word
   pub goes_on : IsText (before ++ others)
+  pub next : PassesGrammar refused → BeginAlike rest others

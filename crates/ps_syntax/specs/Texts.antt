@@ -45,7 +45,7 @@ GrammarIsFault bytes (refusal.Grammar place) = IsFaultAt bytes place
 GrammarIsFault bytes e = Unit {0}
 
 -- The text has tokens, and the refusal stands at a word, or at the end, before which the words go on as some text of
--- the grammar.
+-- the grammar; and they do with the refused word, where that is no fault of the grammar.
 pub record IsInText (bytes : List ℕ) (refused : ReadRefusal) : Type 0 where
   pub tokens : List Token
   pub cut : AreTokens bytes tokens

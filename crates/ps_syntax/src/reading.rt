@@ -76,7 +76,8 @@ pub fn read_program(alloc: Global, bytes: &[u8]) -> Result<Program, ReadRefusal>
     ensures token { IfErr result (TokenIsBad bytes.now) }
     // `Grammar` stands at the first word, or the end, with which no text of the grammar goes on.
     ensures grammar { IfErr result (GrammarIsFault bytes.now) }
-    // No refusal of the words stands after that place: before it the words go on as some text of the grammar.
+    // No other refusal of the words stands after that place: before each the words go on as some text of the grammar. And
+    // none but `NotLinear` stands at it: with the refused word they go on so too.
     ensures in_text { IfErr result (RefusalIsInText bytes.now) }
     // A refusal of the words stands at a word with its cause, as the words before tell it. No cause of a refusal that goes
     // before it holds there, and none at a word before.
