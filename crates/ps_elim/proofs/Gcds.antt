@@ -1,7 +1,8 @@
 -- The common divisor of the definitions is the greatest one.
-use Rattle.std.proofs.Common.{◌≡◌, ℕ, zero, suc, ◌*◌, ◌/◌, ◌%◌, ◌<◌, ◌≤◌, List, [], ◌∷◌, map, refl, sym, ap, ap₂, ◌∙◌, arith}
+use Rattle.std.proofs.Common.{◌≡◌, ℕ, zero, suc, ◌*◌, ◌/◌, ◌%◌, ◌<◌, ◌≤◌, List, [], ◌∷◌, All, map, refl, sym, ap, ap₂, ◌∙◌, arith}
 use Rattle.std.specs.Int.{IsGcd, ◌∣◌}
 use Rattle.std.specs.List.{AllByRecursion}
+use Rattle.std.proofs.lemmas.List.Elements.{All-from_recursion, recursion_from_All}
 use Rattle.std.proofs.lemmas.Nat.Gcd.{IsGcd-from_zero, IsGcd-from_mod, IsGcd-swap, same_from_IsGcd, dvd_trans, dvd-zero, dvd_refl, le_of_dvd, mod-eq-zero_of_dvd}
 use Rattle.std.proofs.Math.Nat.{eq-zero_of_zero-dvd}
 use Rattle.ps_elim.specs.Divisors.{common_divisor, divided_down, divisor_of_all, reduced}
@@ -48,6 +49,16 @@ divisor_of_all-divides [] = tt
 divisor_of_all-divides (n ∷ ns) =
     let g = common_divisor-gcd n (divisor_of_all ns) in
     (g.0, weaken_dividing (divisor_of_all ns) (divisor_of_all (n ∷ ns)) ns g.1 (divisor_of_all-divides ns))
+
+pub divisor_of_all-common : (ns : List ℕ) → All (λ n. divisor_of_all ns ∣ n) ns
+divisor_of_all-common ns = All-from_recursion (λ n. divisor_of_all ns ∣ n) ns (divisor_of_all-divides ns)
+
+greatest_of : (ns : List ℕ) (d : ℕ) → AllByRecursion (λ n. d ∣ n) ns → d ∣ divisor_of_all ns
+greatest_of [] d all = dvd-zero d
+greatest_of (n ∷ ns) d all = (common_divisor-gcd n (divisor_of_all ns)).2 d all.0 (greatest_of ns d all.1)
+
+pub divisor_of_all-greatest : (ns : List ℕ) (d : ℕ) → All (λ n. d ∣ n) ns → d ∣ divisor_of_all ns
+divisor_of_all-greatest ns d all = greatest_of ns d (recursion_from_All (λ n. d ∣ n) ns all)
 
 pub divisor_of_all-small : (m : ℕ) (ns : List ℕ) → 0 < m → AllByRecursion (λ n. n < m) ns → divisor_of_all ns < m
 divisor_of_all-small m [] h all = h

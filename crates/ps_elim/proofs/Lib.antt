@@ -5,6 +5,7 @@ pub mod Eliminating
 mod Examples
 pub mod Gcds
 pub mod Kept
+pub mod Least
 pub mod Order
 pub mod Pairing
 pub mod Rows

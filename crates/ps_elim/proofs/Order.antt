@@ -31,7 +31,7 @@ is_less-trans (m ∷ u) (n ∷ v) (k ∷ w) e f =
     joined a b d false false r h g k = grind (arith, nat_tests)
 
 -- vectors of one length with different supports are different
-is_inside_itself : (v : List ℕ) → is_inside v v ≡ true
+pub is_inside_itself : (v : List ℕ) → is_inside v v ≡ true
 is_inside_itself [] = refl
 is_inside_itself (n ∷ v) = first (n == 0) (is_inside v v) (is_inside_itself v)
   where
@@ -39,7 +39,7 @@ is_inside_itself (n ∷ v) = first (n == 0) (is_inside v v) (is_inside_itself v)
     first true r e = e
     first false r e = e
 
-same_unless_less : (u v : List ℕ) → is_less u v ≡ false → is_less v u ≡ false → u ≡ v
+pub same_unless_less : (u v : List ℕ) → is_less u v ≡ false → is_less v u ≡ false → u ≡ v
 same_unless_less [] [] e f = refl
 same_unless_less [] (n ∷ v) e f = cc
 same_unless_less (m ∷ u) [] e f = cc

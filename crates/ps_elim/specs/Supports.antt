@@ -1,5 +1,5 @@
 -- The supports of vectors, which are the places at which they aren't 0, and the vectors that stay for their supports.
-use Rattle.std.specs.Prelude.{ℕ, Bool, true, false, not, ◌&&◌, ◌||◌, ◌==◌, nat_lt, List, [], ◌∷◌, ◌++◌, if◌then◌else◌}
+use Rattle.std.specs.Prelude.{ℕ, Bool, true, false, not, ◌&&◌, ◌||◌, ◌==◌, nat_lt, IsTrue, List, [], ◌∷◌, ◌++◌, Contains, if◌then◌else◌}
 use Rattle.std.specs.List.{list_all}
 
 -- the second vector isn't 0 where the first isn't
@@ -42,3 +42,9 @@ kept_after before (v ∷ after) =
 -- Those whose support strictly contains that of no other one, and of several with one support the least.
 abbrev pub kept : List (List ℕ) → List (List ℕ)
 kept vs = kept_after [] vs
+
+-- one of the vectors, of which none has a support strictly inside its own, and none with the same support is less
+pub record IsLeastIn (vs : List (List ℕ)) (v : List ℕ) : Type 0 where
+  pub is_in : Contains vs v
+  pub minimal : (u : List ℕ) → Contains vs u → ¬ IsTrue (is_strictly_inside u v)
+  pub least : (u : List ℕ) → Contains vs u → IsTrue (has_support_of u v) → ¬ IsTrue (is_less u v)

@@ -7,6 +7,7 @@ mod choose;
 mod elimination;
 mod filter;
 mod first;
+pub mod laws;
 mod next;
 mod pair;
 mod reduce;
