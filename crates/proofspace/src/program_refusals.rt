@@ -236,6 +236,18 @@ fn items(times: u32, further: &str) -> Nested<'_> {
     }
 }
 
+/// The same text of 31 `init`s, but for a value of the global, whose two rows count with theirs.
+fn value_and_items(further: &str) -> Nested<'_> {
+    Nested {
+        head: "global a = 1;",
+        opening: "init a==0;",
+        times: 31,
+        middle: further,
+        closing: "",
+        tail: "",
+    }
+}
+
 /// The text with so many `atomic` blocks in the thread's, the innermost with these statements.
 fn blocks(times: u32, innermost: &str) -> Nested<'_> {
     Nested {
@@ -293,6 +305,7 @@ fn texts_at_their_limits_are_read(rt: HostRuntime) -> Result<(), Fail> {
         levels("(", 63, ")"),
         levels("!", 63, ""),
         seventy_negations,
+        value_and_items("thread { }"),
     ] {
         let text = text_of(alloc, nested)?;
         assert!(rt; answer(alloc, text.as_str())?.is_empty(), "at {text}");
@@ -311,8 +324,9 @@ fn one_above_a_limit_is_refused_at_its_place(rt: HostRuntime) -> Result<(), Fail
         closing: "",
         tail: "",
     };
-    let table: [(Nested<'_>, u32, &str); 19] = [
+    let table: [(Nested<'_>, u32, &str); 20] = [
         (relations, 10, "limit init"),
+        (value_and_items("init a<0;"), 324, "limit init"),
         (items(32, "init a > 0;"), 330, "limit init"),
         (items(32, "global b = 1;"), 330, "limit init"),
         (items(31, "init a>0 && a<9 && a<8;"), 320, "limit init"),
