@@ -1,22 +1,8 @@
 //! proofspace: reads its words and standard input, answers on standard output, and ends with a status.
 #![tactic(auto)]
 
-mod answer;
-mod program;
-#[cfg(test)]
-mod program_printing;
-#[cfg(test)]
-mod program_refusals;
-#[cfg(test)]
-mod program_trees;
-mod refute;
-mod status;
-mod texts;
-mod words;
-
-use crate::program::run;
-use crate::status::Status;
 use ps_io::{HostSink, HostSource, OpenGate};
+use ps_modes::{Status, run};
 use std::alloc::AllocError;
 use std::process::ExitCode;
 use std::rt::Env;
@@ -47,6 +33,3 @@ fn words_of<R: Env + AllocGlobal>(rt: &R) -> Result<Vec<String>, AllocError> {
         Err(_) => Ok(Vec::new(rt.alloc())),
     }
 }
-
-#[cfg(test)]
-mod tests;

@@ -11,8 +11,6 @@ mod predicate;
 mod predicates;
 mod share;
 mod slots;
-#[cfg(test)]
-mod tests;
 mod threads;
 
 pub use atom::Atom;

@@ -14,6 +14,3 @@ pub use op::Op;
 pub use setting::Setting;
 pub use state::State;
 pub use symbolic_form::SymbolicForm;
-
-#[cfg(test)]
-mod tests;

@@ -14,8 +14,6 @@ mod reduce;
 mod sign;
 mod stage;
 mod support;
-#[cfg(test)]
-mod tests;
 mod variables;
 mod weighted;
 mod words;

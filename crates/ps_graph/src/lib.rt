@@ -8,6 +8,3 @@ pub mod worked;
 
 pub use edge::{Edge, Pick};
 pub use graph::Graph;
-
-#[cfg(test)]
-mod tests;

@@ -26,6 +26,3 @@ pub use reading::{ReadEnd, read_all};
 pub use sink::Sink;
 pub use source::Source;
 pub use writing::write_all;
-
-#[cfg(test)]
-mod tests;

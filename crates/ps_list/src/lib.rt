@@ -4,6 +4,3 @@
 mod sequence;
 
 pub use sequence::{Duplicate, Sequence, copies};
-
-#[cfg(test)]
-mod tests;

@@ -8,6 +8,3 @@ mod reading;
 pub use claim::Claim;
 pub use printing::print_rows;
 pub use reading::{MOST_ROWS, read_rows};
-
-#[cfg(test)]
-mod tests;

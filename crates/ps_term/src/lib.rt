@@ -13,8 +13,6 @@ mod stop;
 mod substitution;
 mod sums;
 mod term;
-#[cfg(test)]
-mod tests;
 mod tightening;
 mod var;
 mod whole;

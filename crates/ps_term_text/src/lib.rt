@@ -8,6 +8,3 @@ mod variable;
 
 pub use printing::put_term;
 pub use term::take_term;
-
-#[cfg(test)]
-mod tests;

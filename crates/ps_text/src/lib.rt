@@ -51,6 +51,3 @@ pub use token_end::TokenEnd;
 pub use token_kind::TokenKind;
 pub use tokenizing::{end_place, tokens};
 pub use until::Until;
-
-#[cfg(test)]
-mod tests;

@@ -8,6 +8,3 @@ mod witness;
 pub use step::Step;
 pub use trace::{IndexedTrace, Letter};
 pub use witness::Witness;
-
-#[cfg(test)]
-mod tests;

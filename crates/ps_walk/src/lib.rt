@@ -12,6 +12,3 @@ mod sum;
 
 pub use answer::Walk;
 pub use integer::integer_walk;
-
-#[cfg(test)]
-mod tests;
