@@ -1,5 +1,5 @@
--- An input owes one answer.
-use Rattle.std.proofs.Common.{◌≡◌, ℕ, ◌<◌, ◌≤◌, List, length, Result, Ok, Err, refl, sym, ap, ◌∙◌, subst, arith}
+-- An input that isn't too long owes `refute` one answer.
+use Rattle.std.proofs.Common.{◌≡◌, ℕ, List, Result, Ok, Err, Option, Some, None, IfSome, refl, sym, ap, ◌∙◌, subst, arith}
 use Rattle.ps_text.specs.declared.form_fault.FormFault.{FormFault}
 use Rattle.ps_farkas.specs.Refutes.{AllSumsFit, Refutes}
 use Rattle.ps_rows.specs.declared.claim.Claim.{Claim}
@@ -7,10 +7,14 @@ use Rattle.ps_rows.specs.Reading.{claim_at}
 use Rattle.ps_rows.specs.Spelling.{claim_lines, ClaimFits}
 use Rattle.ps_text.specs.Reading.{start}
 use Rattle.ps_text.specs.Tokens.{text_bytes}
-use Rattle.ps_modes.specs.Refute.{most_bytes, Says, FirstFault, TooLong, NotOfForm, PastRange, Owed, Yes, No, Refused, IsAnswer, Judged, Refuting, NotRefuting, PastSums}
-use Rattle.ps_modes.specs.Texts.{fault_line, too_long_line, past_line, yes_line, no_line}
+use Rattle.ps_modes.specs.Inner.Judged.{Judged, Refuting, NotRefuting, PastSums}
+use Rattle.ps_modes.specs.Owes.{IsAnswer, IsShort, IsVerdict, Owes, OwesStatus, TooLong, Within}
+use Rattle.ps_modes.specs.Refute.{FirstFault, Owed, Yes, No, NotOfForm, PastRange, Says, SaysYes, SaysNo}
+use Rattle.ps_modes.specs.Status.{Exactly}
+use Rattle.ps_modes.specs.Texts.{fault_line}
 use Rattle.ps_modes.specs.declared.status.Status.{Status}
 use Rattle.ps_modes.specs.declared.status.Status.TheVariants.{Holds, Fails, BadInput}
+use Rattle.ps_modes.specs.declared.texts.TheConstants.{NO, PAST, YES}
 
 -- the input says this claim and no other, and isn't faulty
 pub record IsRead (input : List ℕ) (claim : Claim) : Type 0 where
@@ -24,88 +28,71 @@ fits_too a b e h = subst (λ (c : Claim). AllSumsFit c.rows c.multipliers) e h
 refutes_too : (a b : Claim) → a ≡ b → Refutes a.rows a.multipliers → Refutes b.rows b.multipliers
 refutes_too a b e h = subst (λ (c : Claim). Refutes c.rows c.multipliers) e h
 
-not_long : (input : List ℕ) (claim : Claim) → Says input claim → most_bytes < length input → ⊥
-not_long input claim says long = omega (arith, says.short, long)
-
 -- ---- a claim that holds, one that fails, and one that leaves the range
 
 only_yes : (input : List ℕ) (claim : Claim) → IsRead input claim → AllSumsFit claim.rows claim.multipliers
-    → Refutes claim.rows claim.multipliers → (s : Status) (t : List ℕ) → Owed input s t → (s ≡ Holds) × (t ≡ yes_line)
+    → Refutes claim.rows claim.multipliers → (s : Status) (t : List ℕ) → Owed input s t → (s ≡ Holds) × (t ≡ YES.now)
 only_yes input claim read fits holds s t (Yes _ e f) = (e, f)
 only_yes input claim read fits holds s t (No n _ _) =
     absurd (n.fails (refutes_too claim n.claim (sym (read.alone n.claim n.says)) holds))
-only_yes input claim read fits holds s t (Refused (TooLong long _) _) = absurd (not_long input claim read.says long)
-only_yes input claim read fits holds s t (Refused (NotOfForm fault first _) _) = absurd (read.good fault first)
-only_yes input claim read fits holds s t (Refused (PastRange other says past _) _) =
+only_yes input claim read fits holds s t (NotOfForm fault first _ _) = absurd (read.good fault first)
+only_yes input claim read fits holds s t (PastRange other says past _ _) =
     absurd (past (fits_too claim other (sym (read.alone other says)) fits))
 
 only_no : (input : List ℕ) (claim : Claim) → IsRead input claim → AllSumsFit claim.rows claim.multipliers
-    → ¬ Refutes claim.rows claim.multipliers → (s : Status) (t : List ℕ) → Owed input s t → (s ≡ Fails) × (t ≡ no_line)
+    → ¬ Refutes claim.rows claim.multipliers → (s : Status) (t : List ℕ) → Owed input s t → (s ≡ Fails) × (t ≡ NO.now)
 only_no input claim read fits fails s t (Yes y _ _) = absurd (fails (refutes_too y.claim claim (read.alone y.claim y.says) y.holds))
 only_no input claim read fits fails s t (No _ e f) = (e, f)
-only_no input claim read fits fails s t (Refused (TooLong long _) _) = absurd (not_long input claim read.says long)
-only_no input claim read fits fails s t (Refused (NotOfForm fault first _) _) = absurd (read.good fault first)
-only_no input claim read fits fails s t (Refused (PastRange other says past _) _) =
+only_no input claim read fits fails s t (NotOfForm fault first _ _) = absurd (read.good fault first)
+only_no input claim read fits fails s t (PastRange other says past _ _) =
     absurd (past (fits_too claim other (sym (read.alone other says)) fits))
 
 only_past : (input : List ℕ) (claim : Claim) → IsRead input claim → ¬ AllSumsFit claim.rows claim.multipliers
-    → (s : Status) (t : List ℕ) → Owed input s t → (s ≡ BadInput) × (t ≡ past_line)
+    → (s : Status) (t : List ℕ) → Owed input s t → (s ≡ BadInput) × (t ≡ PAST.now)
 only_past input claim read past s t (Yes y _ _) = absurd (past (fits_too y.claim claim (read.alone y.claim y.says) y.fits))
 only_past input claim read past s t (No n _ _) = absurd (past (fits_too n.claim claim (read.alone n.claim n.says) n.fits))
-only_past input claim read past s t (Refused (TooLong long _) _) = absurd (not_long input claim read.says long)
-only_past input claim read past s t (Refused (NotOfForm fault first _) _) = absurd (read.good fault first)
-only_past input claim read past s t (Refused (PastRange _ _ _ f) e) = (e, f)
+only_past input claim read past s t (NotOfForm fault first _ _) = absurd (read.good fault first)
+only_past input claim read past s t (PastRange _ _ _ e f) = (e, f)
 
-along : (input : List ℕ) (status s : Status) (text t : List ℕ) → IsAnswer input s t → status ≡ s → text ≡ t → IsAnswer input status text
+along : (input : List ℕ) (status s : Status) (text t : List ℕ) → IsAnswer (Owed input) s t → status ≡ s → text ≡ t → IsAnswer (Owed input) status text
 along input status s text t answer e f = rw (e, f) answer
 
 -- what a claim alone owes, the input owes that says it
 pub judged_answer : (input : List ℕ) (claim : Claim) → IsRead input claim → (status : Status) (text : List ℕ)
-    → Judged claim status text → IsAnswer input status text
+    → Judged claim status text → IsAnswer (Owed input) status text
 judged_answer input claim read status text (Refuting fits holds e f) =
-    along input status Holds text yes_line (record {
+    along input status Holds text YES.now (record {
       owed = Yes (record { claim = claim; says = read.says; fits = fits; holds = holds }) refl refl;
       only = only_yes input claim read fits holds;
     }) e f
 judged_answer input claim read status text (NotRefuting fits fails e f) =
-    along input status Fails text no_line (record {
+    along input status Fails text NO.now (record {
       owed = No (record { claim = claim; says = read.says; fits = fits; fails = fails }) refl refl;
       only = only_no input claim read fits fails;
     }) e f
 judged_answer input claim read status text (PastSums past e f) =
-    along input status BadInput text past_line (record {
-      owed = Refused (PastRange claim read.says past refl) refl;
+    along input status BadInput text PAST.now (record {
+      owed = PastRange claim read.says past refl refl;
       only = only_past input claim read past;
     }) e f
 
--- ---- an input that isn't of the form, and one that is too long
+-- ---- an input that isn't of the form
 
 only_fault : (input : List ℕ) (fault : FormFault) → FirstFault input fault → ((claim : Claim) → Says input claim → ⊥)
     → (s : Status) (t : List ℕ) → Owed input s t → (s ≡ BadInput) × (t ≡ fault_line fault)
 only_fault input fault first none s t (Yes y _ _) = absurd (none y.claim y.says)
 only_fault input fault first none s t (No n _ _) = absurd (none n.claim n.says)
-only_fault input fault first none s t (Refused (TooLong long _) _) = absurd (omega (arith, first.short, long))
-only_fault input fault first none s t (Refused (NotOfForm other again f) e) =
-    let same : other ≡ fault = cc (again.first, first.first) in
+only_fault input fault first none s t (NotOfForm other again e f) =
+    let same : other ≡ fault = cc in
     (e, f ∙ ap fault_line same)
-only_fault input fault first none s t (Refused (PastRange claim says _ _) _) = absurd (none claim says)
+only_fault input fault first none s t (PastRange claim says _ _ _) = absurd (none claim says)
 
 pub fault_answer : (input : List ℕ) (fault : FormFault) → FirstFault input fault → ((claim : Claim) → Says input claim → ⊥)
-    → IsAnswer input BadInput (fault_line fault)
+    → IsAnswer (Owed input) BadInput (fault_line fault)
 fault_answer input fault first none = record {
-  owed = Refused (NotOfForm fault first refl) refl;
+  owed = NotOfForm fault first refl refl;
   only = only_fault input fault first none;
 }
-
-only_long : (input : List ℕ) → most_bytes < length input → (s : Status) (t : List ℕ) → Owed input s t → (s ≡ BadInput) × (t ≡ too_long_line)
-only_long input long s t (Yes y _ _) = absurd (not_long input y.claim y.says long)
-only_long input long s t (No n _ _) = absurd (not_long input n.claim n.says long)
-only_long input long s t (Refused (TooLong _ f) e) = (e, f)
-only_long input long s t (Refused (NotOfForm fault first _) _) = absurd (omega (arith, first.short, long))
-only_long input long s t (Refused (PastRange claim says _ _) _) = absurd (not_long input claim says long)
-
-pub long_answer : (input : List ℕ) → most_bytes < length input → IsAnswer input BadInput too_long_line
-long_answer input long = record { owed = Refused (TooLong long refl) refl; only = only_long input long }
 
 -- ---- what a reader answered
 
@@ -115,18 +102,54 @@ said claim = Ok claim
 abbrev pub faulty : FormFault → Result Claim FormFault
 faulty fault = Err fault
 
-pub claim_read : (input : List ℕ) (claim : Claim) → length input ≤ most_bytes → ClaimFits claim × (input ≡ text_bytes (claim_lines claim))
+pub claim_read : (input : List ℕ) (claim : Claim) → ClaimFits claim × (input ≡ text_bytes (claim_lines claim))
     → ((other : Claim) → ClaimFits other → input ≡ text_bytes (claim_lines other) → said other ≡ said claim)
     → claim_at (start 1 input) ≡ Ok claim → IsRead input claim
-claim_read input claim short found only exact = record {
-  says = record { short = short; fits = found.0; spelled = found.1 };
+claim_read input claim found only exact = record {
+  says = record { fits = found.0; spelled = found.1 };
   alone = λ other says. let same : said other ≡ said claim = only other says.fits says.spelled in cc;
-  good = λ fault first. let fault_first = first.first in cc;
+  good = λ fault first. cc;
 }
 
-pub fault_read : (input text : List ℕ) (fault : FormFault) → length input ≤ most_bytes
+pub fault_read : (input text : List ℕ) (fault : FormFault)
     → ((other : Claim) → ClaimFits other → input ≡ text_bytes (claim_lines other) → said other ≡ faulty fault)
-    → claim_at (start 1 input) ≡ Err fault → text ≡ fault_line fault → IsAnswer input BadInput text
-fault_read input text fault short only exact e =
-    rw e (fault_answer input fault (record { short = short; first = exact })
+    → claim_at (start 1 input) ≡ Err fault → text ≡ fault_line fault → IsAnswer (Owed input) BadInput text
+fault_read input text fault only exact e =
+    rw e (fault_answer input fault exact
     (λ claim says. let same : said claim ≡ faulty fault = only claim says.fits says.spelled in cc))
+
+-- ---- what the statuses of `refute` mean
+
+yes_said : (input text : List ℕ) → Owes Owed input Holds text → IsShort input × SaysYes input
+yes_said input text (TooLong _ is _) = absurd (cc)
+yes_said input text (Within short (Yes says _ _)) = (short, says)
+yes_said input text (Within short (No _ is _)) = absurd (cc)
+yes_said input text (Within short (NotOfForm _ _ is _)) = absurd (cc)
+yes_said input text (Within short (PastRange _ _ _ is _)) = absurd (cc)
+
+no_said : (input text : List ℕ) → Owes Owed input Fails text → IsShort input × SaysNo input
+no_said input text (TooLong _ is _) = absurd (cc)
+no_said input text (Within short (Yes _ is _)) = absurd (cc)
+no_said input text (Within short (No says _ _)) = (short, says)
+no_said input text (Within short (NotOfForm _ _ is _)) = absurd (cc)
+no_said input text (Within short (PastRange _ _ _ is _)) = absurd (cc)
+
+pub exactly_yes : (left : Option (List ℕ)) (n : ℕ)
+    → IfSome left (λ input. (status : Status) → IsVerdict status → Exactly n status (OwesStatus Owed input status))
+    → IfSome left (λ input. Exactly n Holds (IsShort input × SaysYes input))
+exactly_yes None n each = tt
+exactly_yes (Some input) n each =
+    let at = each Holds (omega arith) in record {
+      only = λ zero. let owes = at.only zero in yes_said input owes.0 owes.1;
+      comes = λ says. at.comes (YES.now, Within says.0 (Yes says.1 refl refl));
+    }
+
+pub exactly_no : (left : Option (List ℕ)) (n : ℕ)
+    → IfSome left (λ input. (status : Status) → IsVerdict status → Exactly n status (OwesStatus Owed input status))
+    → IfSome left (λ input. Exactly n Fails (IsShort input × SaysNo input))
+exactly_no None n each = tt
+exactly_no (Some input) n each =
+    let at = each Fails (omega arith) in record {
+      only = λ one. let owes = at.only one in no_said input owes.0 owes.1;
+      comes = λ says. at.comes (NO.now, Within says.0 (No says.1 refl refl));
+    }
