@@ -9,7 +9,7 @@ use Rattle.ps_modes.specs.declared.status.Status.{Status}
 use Rattle.ps_modes.specs.declared.status.Status.TheVariants.{BadInput}
 use Rattle.ps_modes.specs.declared.texts.TheConstants.{TOO_LONG}
 
-only_long : (Owed : List ℕ → Status → List ℕ → Type 0) (input : List ℕ) → MOST_BYTES < length input
+pub only_long : (Owed : List ℕ → Status → List ℕ → Type 0) (input : List ℕ) → MOST_BYTES < length input
     → (s : Status) (t : List ℕ) → Owes Owed input s t → (s ≡ BadInput) × (t ≡ TOO_LONG.now)
 only_long Owed input long s t (TooLong _ e f) = (e, f)
 only_long Owed input long s t (Within short _) = absurd (omega (arith, long, short))
@@ -44,3 +44,12 @@ pub IfOk-made : {A E D : Type 0} (r : Result A E) (s : Result A D) (Made : E →
 IfOk-made (Ok x) s Made P Q R both is p q = rw is (both x p q)
 IfOk-made (Err e) (Ok y) Made P Q R both is p q = absurd is
 IfOk-made (Err e) (Err d) Made P Q R both is p q = tt
+
+-- where a mode owes one answer at most to an input, so does the program
+pub one_owes : (Owed : List ℕ → Status → List ℕ → Type 0) (input : List ℕ)
+    → ((s t : Status) (x y : List ℕ) → Owed input s x → Owed input t y → (s ≡ t) × (x ≡ y))
+    → (s t : Status) (x y : List ℕ) → Owes Owed input s x → Owes Owed input t y → (s ≡ t) × (x ≡ y)
+one_owes Owed input one s t x y (TooLong long e f) other =
+    let same = only_long Owed input long t y other in (e ∙ sym same.0, f ∙ sym same.1)
+one_owes Owed input one s t x y (Within short owed) (TooLong long _ _) = absurd (omega (arith, long, short))
+one_owes Owed input one s t x y (Within short owed) (Within _ other) = one s t x y owed other

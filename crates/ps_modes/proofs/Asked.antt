@@ -11,7 +11,7 @@ use Rattle.ps_modes.specs.declared.mode.Mode.TheVariants.{Refute}
 one_name : (a b : Mode) → mode_name a ≡ mode_name b → a ≡ b
 one_name Refute Refute e = refl
 
-one_mode : (words : List (String Global)) (a b : Mode) → AskFor words a → AskFor words b → a ≡ b
+pub one_mode : (words : List (String Global)) (a b : Mode) → AskFor words a → AskFor words b → a ≡ b
 one_mode [] a b p q = absurd p
 one_mode (name ∷ []) a b p q = absurd p
 one_mode (name ∷ (word ∷ [])) a b p q = one_name a b (sym p ∙ q)

@@ -1,12 +1,14 @@
 -- An input that isn't too long owes `refute` one answer.
-use Rattle.std.proofs.Common.{◌≡◌, ℕ, List, Result, Ok, Err, Option, Some, None, IfSome, refl, sym, ap, ◌∙◌, subst, arith}
+use Rattle.std.proofs.Common.{◌≡◌, ℕ, List, [], ◌∷◌, Contains, Result, Ok, Err, Option, Some, None, IfSome, refl, sym, ap, ◌∙◌, subst, lit<, arith}
 use Rattle.ps_text.specs.declared.form_fault.FormFault.{FormFault}
 use Rattle.ps_farkas.specs.Refutes.{AllSumsFit, Refutes}
 use Rattle.ps_rows.specs.declared.claim.Claim.{Claim}
 use Rattle.ps_rows.specs.Reading.{claim_at}
 use Rattle.ps_rows.specs.Spelling.{claim_lines, ClaimFits}
 use Rattle.ps_text.specs.Reading.{start}
-use Rattle.ps_text.specs.Tokens.{text_bytes}
+use Rattle.ps_text.specs.Tokens.{text_bytes, tokens}
+use Rattle.ps_text.proofs.Bytes.{text_read}
+use Rattle.ps_rows.proofs.Laws.{claim_is_format}
 use Rattle.ps_modes.specs.Inner.Judged.{Judged, Refuting, NotRefuting, PastSums}
 use Rattle.ps_modes.specs.Owes.{IsAnswer, IsShort, IsVerdict, Owes, OwesStatus, TooLong, Within}
 use Rattle.ps_modes.specs.Refute.{FirstFault, Owed, Yes, No, NotOfForm, PastRange, Says, SaysYes, SaysNo}
@@ -118,16 +120,46 @@ fault_read input text fault only exact e =
     rw e (fault_answer input fault exact
     (λ claim says. let same : said claim ≡ faulty fault = only claim says.fits says.spelled in cc))
 
+-- ---- an input owes one answer
+
+-- what an input says is what reading it gives
+says_reads : (input : List ℕ) (claim : Claim) → Says input claim → claim_at (start 1 input) ≡ Ok claim
+says_reads input claim says =
+    let g = claim_is_format.again (start 1 input) claim says.fits
+    (ap tokens says.spelled ∙ text_read (claim_lines claim) (claim_is_format.clean claim says.fits)) in
+    g.ok ∙ ap (λ (c : Claim). Ok c) g.is
+
+is_read : (input : List ℕ) (claim : Claim) → Says input claim → IsRead input claim
+is_read input claim says = record {
+  says = says;
+  alone = λ other too. let a = says_reads input claim says in let b = says_reads input other too in cc;
+  good = λ fault first. let a = says_reads input claim says in cc;
+}
+
+pub one_owed : (input : List ℕ) (s t : Status) (x y : List ℕ) → Owed input s x → Owed input t y → (s ≡ t) × (x ≡ y)
+one_owed input s t x y (Yes says e f) other =
+    let same = only_yes input says.claim (is_read input says.claim says.says) says.fits says.holds t y other in
+    (e ∙ sym same.0, f ∙ sym same.1)
+one_owed input s t x y (No says e f) other =
+    let same = only_no input says.claim (is_read input says.claim says.says) says.fits says.fails t y other in
+    (e ∙ sym same.0, f ∙ sym same.1)
+one_owed input s t x y (NotOfForm fault first e f) other =
+    let same = only_fault input fault first (λ claim says. (is_read input claim says).good fault first) t y other in
+    (e ∙ sym same.0, f ∙ sym same.1)
+one_owed input s t x y (PastRange claim says past e f) other =
+    let same = only_past input claim (is_read input claim says) past t y other in
+    (e ∙ sym same.0, f ∙ sym same.1)
+
 -- ---- what the statuses of `refute` mean
 
-yes_said : (input text : List ℕ) → Owes Owed input Holds text → IsShort input × SaysYes input
+pub yes_said : (input text : List ℕ) → Owes Owed input Holds text → IsShort input × SaysYes input
 yes_said input text (TooLong _ is _) = absurd (cc)
 yes_said input text (Within short (Yes says _ _)) = (short, says)
 yes_said input text (Within short (No _ is _)) = absurd (cc)
 yes_said input text (Within short (NotOfForm _ _ is _)) = absurd (cc)
 yes_said input text (Within short (PastRange _ _ _ is _)) = absurd (cc)
 
-no_said : (input text : List ℕ) → Owes Owed input Fails text → IsShort input × SaysNo input
+pub no_said : (input text : List ℕ) → Owes Owed input Fails text → IsShort input × SaysNo input
 no_said input text (TooLong _ is _) = absurd (cc)
 no_said input text (Within short (Yes _ is _)) = absurd (cc)
 no_said input text (Within short (No says _ _)) = (short, says)
@@ -153,3 +185,26 @@ exactly_no (Some input) n each =
       only = λ one. let owes = at.only one in no_said input owes.0 owes.1;
       comes = λ says. at.comes (NO.now, Within says.0 (No says.1 refl refl));
     }
+
+-- the text of a status
+pub yes_text : (input : List ℕ) (status : Status) (text : List ℕ) → Owes Owed input status text → status ≡ Holds → text ≡ YES.now
+yes_text input status text (TooLong _ is _) holds = absurd (cc)
+yes_text input status text (Within short (Yes _ _ e)) holds = e
+yes_text input status text (Within short (No _ is _)) holds = absurd (cc)
+yes_text input status text (Within short (NotOfForm _ _ is _)) holds = absurd (cc)
+yes_text input status text (Within short (PastRange _ _ _ is _)) holds = absurd (cc)
+
+pub no_text : (input : List ℕ) (status : Status) (text : List ℕ) → Owes Owed input status text → status ≡ Fails → text ≡ NO.now
+no_text input status text (TooLong _ is _) fails = absurd (cc)
+no_text input status text (Within short (Yes _ is _)) fails = absurd (cc)
+no_text input status text (Within short (No _ _ e)) fails = e
+no_text input status text (Within short (NotOfForm _ _ is _)) fails = absurd (cc)
+no_text input status text (Within short (PastRange _ _ _ is _)) fails = absurd (cc)
+
+pub statuses_owed : (input : List ℕ) (status : Status) (text : List ℕ) → Owes Owed input status text
+    → Contains (Holds ∷ Fails ∷ BadInput ∷ []) status
+statuses_owed input status text (TooLong _ is _) = rw is (2, lit< tt, refl)
+statuses_owed input status text (Within short (Yes _ is _)) = rw is (0, lit< tt, refl)
+statuses_owed input status text (Within short (No _ is _)) = rw is (1, lit< tt, refl)
+statuses_owed input status text (Within short (NotOfForm _ _ is _)) = rw is (2, lit< tt, refl)
+statuses_owed input status text (Within short (PastRange _ _ _ is _)) = rw is (2, lit< tt, refl)

@@ -5,6 +5,7 @@ mod answer;
 mod frame;
 mod input;
 mod judge;
+pub mod laws;
 mod mode;
 mod program;
 mod refute;
