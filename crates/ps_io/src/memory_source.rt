@@ -1,5 +1,5 @@
 //! A source over bytes in memory, in pieces, which fails at chosen calls.
-ghost use Rattle.std.specs.Prelude.{◌≡◌, ℕ, ◌+◌, ◌-◌, ◌^◌, ◌<◌, ◌≤◌, ◌↔◌, min, length, Some, IsErr, IfOk};
+ghost use Rattle.std.specs.Prelude.{◌≡◌, ℕ, ◌+◌, ◌-◌, ◌^◌, ◌<◌, ◌≤◌, ◌↔◌, false, min, length, Some, IsTrue, IsErr, IfOk};
 ghost use Rattle.std.specs.Io.{ReadsAtMost};
 ghost use Rattle.std.specs.Io.KnownBytes.{ReadConsumes};
 ghost use Rattle.ps_io.specs.Causes.{HasCause};
@@ -18,6 +18,7 @@ pub struct MemorySource {
     failing: Vec<u64>,
     calls: u64,
     faults: u64,
+    failed: bool,
 }
 
 impl Model for MemorySource {
@@ -32,6 +33,7 @@ impl Model for MemorySource {
       failing = s.failing.items;
       calls = s.calls;
       faults = s.faults;
+      failed = s.failed;
     } };
 
     ghost invariant = { λ s. (s.given ≤ length s.bytes.items) × (0 < s.piece) × (s.faults ≤ s.calls) };
@@ -45,7 +47,7 @@ impl MemorySource {
         ensures left { result.left ≡ bytes.items }
         ensures piece { result.piece ≡ piece }
         ensures failing { result.failing ≡ failing.items }
-        ensures fresh { (result.calls ≡ 0) × (result.faults ≡ 0) }
+        ensures fresh { (result.calls ≡ 0) × (result.faults ≡ 0) × (result.failed ≡ false) }
     {
         MemorySource {
             bytes,
@@ -54,6 +56,7 @@ impl MemorySource {
             failing,
             calls: 0,
             faults: 0,
+            failed: false,
         }
     }
 
@@ -70,10 +73,13 @@ impl Source for MemorySource {
 
     ghost faults = { λ s. s.faults };
 
+    ghost failed = { λ s. s.failed };
+
     fn take(&mut self, into: &mut [u8]) -> Result<usize, Fault>
         ensures bound { ReadsAtMost result into.new }
         ensures bytes { ReadConsumes (Some self.old.left) (Some self.new.left) result into.new }
         ensures cause { HasCause self.old.faults self.new.faults result }
+        ensures last { IsTrue self.new.failed ↔ IsErr result }
 
         ensures fails { IsErr result ↔ IsListed self.old.failing self.old.calls }
         ensures gives { IfOk result (λ n. n ≡ min (min (length self.old.left) self.old.piece) (length into.old)) }
@@ -83,6 +89,7 @@ impl Source for MemorySource {
     {
         let fails = is_listed(self.failing.as_slice(), self.calls);
         self.calls = self.calls.saturating_add(1);
+        self.failed = fails;
         if fails {
             self.faults += 1;
             return Err(Fault);

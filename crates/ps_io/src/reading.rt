@@ -1,5 +1,5 @@
 //! Reads a source to its end, up to a limit.
-ghost use Rattle.std.specs.Prelude.{◌≡◌, ℕ, ◌≤◌, length, IfOk, IfSome, OnOk, IsErrOf, vec_len};
+ghost use Rattle.std.specs.Prelude.{◌≡◌, ℕ, ◌≤◌, length, IfOk, IfSome, IsTrue, OnOk, IsErrOf, vec_len};
 ghost use Rattle.std.specs.Io.KnownBytes.{IsAtEnd};
 ghost use Rattle.ps_io.specs.Bytes.{GaveAtMost, GaveMore};
 ghost use Rattle.ps_io.specs.Causes.{Rose};
@@ -36,6 +36,7 @@ pub fn read_all<S: Source>(alloc: Global, source: &mut S, most: usize) -> Result
     ensures failed_within { IsErrOf result ReadEnd.Failed → GaveAtMost most (S.left source.old) (S.left source.new) }
 
     ensures failed { IsErrOf result ReadEnd.Failed → Rose (S.faults source.old) (S.faults source.new) }
+    ensures failed_last { IsErrOf result ReadEnd.Failed → IsTrue (S.failed source.new) }
     ensures stayed { ¬ IsErrOf result ReadEnd.Failed → S.faults source.new ≡ S.faults source.old }
     ensures later { S.faults source.old ≤ S.faults source.new }
 {

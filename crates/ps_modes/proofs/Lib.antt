@@ -1,2 +1,3 @@
+pub mod Answering
+pub mod Asked
 pub mod Owing
-pub mod Settled

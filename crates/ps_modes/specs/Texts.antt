@@ -18,18 +18,3 @@ fault_name Limit = codes "limit"
 -- the line that names the first fault and its place
 abbrev pub fault_line : FormFault → List ℕ
 fault_line fault = codes "input: line " ++ (decimal fault.line ++ (codes " field " ++ (decimal fault.field ++ (codes ": " ++ (fault_name fault.what ++ codes "\n")))))
-
-abbrev pub too_long_line : List ℕ
-too_long_line = codes "input: too long\n"
-
-abbrev pub past_line : List ℕ
-past_line = codes "input: past 128 bits\n"
-
-abbrev pub usage_line : List ℕ
-usage_line = codes "usage: proofspace MODE [options]\n"
-
-abbrev pub yes_line : List ℕ
-yes_line = codes "yes\n"
-
-abbrev pub no_line : List ℕ
-no_line = codes "no\n"

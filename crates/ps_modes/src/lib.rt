@@ -2,12 +2,19 @@
 #![tactic(auto)]
 
 mod answer;
+mod frame;
+mod input;
+mod judge;
+pub mod laws;
+mod mode;
 mod program;
 mod refute;
 mod status;
 mod texts;
 mod words;
 
+pub use input::MOST_BYTES;
+pub use mode::Mode;
 pub use program::run;
 pub use refute::refute_run;
 pub use status::Status;

@@ -1,15 +1,16 @@
 //! The words of the command line, read by hand.
-ghost use Rattle.std.specs.Prelude.{◌≡◌, ◌↔◌, IsTrue};
-ghost use Rattle.ps_modes.specs.Words.{AskFor};
+ghost use Rattle.std.specs.Prelude.{MatchOption};
+ghost use Rattle.ps_modes.specs.Words.{AskFor, AskForNone};
 
+use crate::mode::Mode;
 use std::string::String;
 
-/// Whether the words are the program's name and this mode.
-pub fn ask_for(words: &[String], mode: &str) -> bool
-    ensures { IsTrue result ↔ AskFor words.now mode.now }
+/// The mode that the words ask for, which are the program's name and the name of a mode that is built.
+pub(crate) fn mode_asked(words: &[String]) -> Option<Mode>
+    ensures { MatchOption result (AskForNone words.now) (λ mode. AskFor words.now mode) }
 {
     match words {
-        [_, word] => word.as_str() == mode,
-        _ => false,
+        [_, word] => Mode::named(word.as_str()),
+        _ => None,
     }
 }

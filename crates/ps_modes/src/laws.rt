@@ -1,0 +1,41 @@
+//! Facts about what words ask for and what inputs are owed, which readers and callers cite: each function does no
+//! work, and its clause is the fact.
+ghost use Rattle.std.specs.Prelude.{◌≡◌, ◌↔◌, ℕ, ◌<◌, List, [], ◌∷◌, length, Contains, String};
+ghost use Rattle.std.specs.Global.{Global};
+ghost use Rattle.ps_modes.specs.Modes.{owed_by};
+ghost use Rattle.ps_modes.specs.Owes.{IsShort, Owes};
+ghost use Rattle.ps_modes.specs.Refute.{SaysYes, SaysNo};
+ghost use Rattle.ps_modes.specs.Words.{AskFor};
+ghost use Rattle.ps_modes.specs.declared.input.TheConstants.{MOST_BYTES};
+ghost use Rattle.ps_modes.specs.declared.mode.Mode.{Mode};
+ghost use Rattle.ps_modes.specs.declared.mode.Mode.TheVariants.{Refute};
+ghost use Rattle.ps_modes.specs.declared.status.Status.{Status};
+ghost use Rattle.ps_modes.specs.declared.status.Status.TheVariants.{Holds, Fails, BadInput};
+ghost use Rattle.ps_modes.specs.declared.texts.TheConstants.{NO, TOO_LONG, YES};
+
+/// Words ask for one mode at most.
+pub fn one_mode_is_asked_for()
+    ensures { (words : List (String Global)) (a b : Mode) → AskFor words a → AskFor words b → a ≡ b }
+{}
+
+/// An input is owed one status and one text at most, whatever the mode.
+pub fn one_answer_is_owed()
+    ensures { (mode : Mode) (input : List ℕ) (s t : Status) (x y : List ℕ)
+        → Owes (owed_by mode) input s x → Owes (owed_by mode) input t y → (s ≡ t) × (x ≡ y) }
+{}
+
+/// An input that is too long is owed one line, whatever the mode.
+pub fn a_long_input_is_owed_one_line()
+    ensures { (mode : Mode) (input : List ℕ) (status : Status) (text : List ℕ) → MOST_BYTES < length input
+        → (Owes (owed_by mode) input status text ↔ ((status ≡ BadInput) × (text ≡ TOO_LONG.now))) }
+{}
+
+/// `refute` owes `yes` exactly where the input says so, `no` likewise, and beside them a refusal alone.
+pub fn refute_owes()
+    ensures yes { (input text : List ℕ)
+        → (Owes (owed_by Refute) input Holds text ↔ ((IsShort input × SaysYes input) × (text ≡ YES.now))) }
+    ensures no { (input text : List ℕ)
+        → (Owes (owed_by Refute) input Fails text ↔ ((IsShort input × SaysNo input) × (text ≡ NO.now))) }
+    ensures statuses { (input : List ℕ) (status : Status) (text : List ℕ)
+        → Owes (owed_by Refute) input status text → Contains (Holds ∷ Fails ∷ BadInput ∷ []) status }
+{}

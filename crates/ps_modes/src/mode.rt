@@ -1,0 +1,35 @@
+//! The modes of the program and their names.
+ghost use Rattle.std.specs.Prelude.{◌≡◌, ◌≢◌, MatchOption};
+ghost use Rattle.ps_modes.specs.Modes.{mode_name};
+ghost use Rattle.ps_modes.specs.declared.mode.Mode.{Mode};
+
+/// The word for `refute`.
+pub const REFUTE: &str = "refute";
+
+/// A mode that is built.
+#[derive(Clone, Copy, Debug, PartialEq, Eq)]
+pub enum Mode {
+    /// Whether multipliers refute rows.
+    Refute,
+}
+
+impl Mode {
+    /// The word that names the mode.
+    pub fn name(self) -> &'static str
+        ensures { result.now ≡ mode_name self }
+    {
+        match self {
+            Mode::Refute => REFUTE,
+        }
+    }
+
+    /// The mode that has this name. It takes one comparison a mode.
+    pub fn named(name: &str) -> Option<Mode>
+        ensures { MatchOption result ((mode : Mode) → mode_name mode ≢ name.now) (λ mode. mode_name mode ≡ name.now) }
+    {
+        if name == Mode::Refute.name() {
+            return Some(Mode::Refute);
+        }
+        None
+    }
+}
