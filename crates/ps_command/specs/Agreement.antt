@@ -1,5 +1,5 @@
 -- What it is that a run in a state and a symbolic form agree.
-use Rattle.std.specs.Prelude.{◌≡◌, ◌≢◌, ℕ, ℤ, List, length, slice_get, IsTrue}
+use Rattle.std.specs.Prelude.{◌≡◌, ◌≢◌, ℕ, ℤ, List, [], length, slice_index_or, IsTrue}
 use Rattle.std.specs.List.{list_all}
 use Rattle.ps_command.specs.Run.{holds}
 use Rattle.ps_command.specs.Values.{value_in}
@@ -19,5 +19,5 @@ pub record RanAs (thread : ℕ) (form : SymbolicForm) (values : Var → ℤ) (be
   pub rows : IsTrue (list_all (holds values) form.rows)
   pub seen : AreSeenBy thread after (values_after values form.after)
   pub threads : length after.locals ≡ length before.locals
-  pub others : (k : ℕ) → k ≢ thread → slice_get after.locals k ≡ slice_get before.locals k
+  pub others : (k : ℕ) → k ≢ thread → slice_index_or after.locals k [] ≡ slice_index_or before.locals k []
   pub unnamed : (k n : ℕ) → k ≢ 0 → values_after values form.after (Local k n) ≡ values (Local k n)
