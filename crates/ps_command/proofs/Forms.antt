@@ -4,7 +4,7 @@ use Rattle.std.specs.Prelude.{slice_index_or, Option, Some, None}
 use Rattle.std.specs.List.{list_all}
 use Rattle.std.proofs.lemmas.Bool.{false≢true}
 use Rattle.std.proofs.lemmas.Int.{ints}
-use Rattle.std.proofs.lemmas.List.{get_or-drop}
+use Rattle.std.proofs.lemmas.List.{drop-drop, get_or-drop}
 use Rattle.std.proofs.lemmas.List.Folds.{list_all-append}
 use Rattle.ps_term.proofs.ExactTerms.{put_worth}
 use Rattle.ps_term.proofs.Ring.{one-mul}
@@ -83,8 +83,7 @@ if_if true false x = refl
 if_if false b x = refl
 
 drop_next : {X : Type 0} (n : ℕ) (xs : List X) → drop 1 (drop n xs) ≡ drop (suc n) xs
-drop_next n [] = grind arith
-drop_next n (x ∷ xs) = grind arith
+drop_next n xs = let e : n + 1 ≡ suc n = omega arith in drop-drop 1 n xs ∙ ap (λ (m : ℕ). drop m xs) e
 
 module _ (w : Var → ℤ) (hs : List ℤ) (chosen : (i : ℕ) → w (Havoc i) ≡ slice_index_or hs i (pos 0)) where
   abbrev Outcome : SymbolicForm → Option (Var → ℤ)
@@ -111,8 +110,9 @@ module _ (w : Var → ℤ) (hs : List ℤ) (chosen : (i : ℕ) → w (Havoc i) �
       ∙ runs_on ops (with_op form (Assign x t))
   runs_on (HavocOp x ∷ ops) form =
       let put : Term = variable_term (Havoc form.havocs) in
+      let no_more : form.havocs + 0 ≡ form.havocs = omega arith in
       let first : slice_index_or (drop form.havocs hs) 0 (pos 0) ≡ value w put =
-          get_or-drop form.havocs hs 0 (pos 0) ∙ (sym (chosen form.havocs) ∙ sym (variable_value w (Havoc form.havocs))) in
+          get_or-drop form.havocs hs 0 (pos 0) ∙ (ap (λ (n : ℕ). slice_index_or hs n (pos 0)) no_more ∙ (sym (chosen form.havocs) ∙ sym (variable_value w (Havoc form.havocs)))) in
       let same : ◌≡◌ {A = Var → ℤ} (set_at (values_after w form.after) x (slice_index_or (drop form.havocs hs) 0 (pos 0))) (values_after w (with_term x put form.after)) =
           ap (λ (z : ℤ). set_at (values_after w form.after) x z) first ∙ set_after w x put form.after in
       ap (λ (g : Var → ℤ). Rest form ops g (drop 1 (drop form.havocs hs))) same

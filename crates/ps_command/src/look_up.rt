@@ -58,7 +58,7 @@ pub(crate) fn set_term(after: &mut Vec<(Var, Term)>, variable: Var, term: Term) 
 {
     let place = place_of(after.as_slice(), variable);
     if stands_at(after.as_slice(), place, variable) {
-        after[place].1 = term;
+        after[place] = (variable, term);
         return Ok(());
     }
     after.insert(place, (variable, term)).map_err(|_| AllocError)?;
