@@ -1,6 +1,12 @@
+pub mod Agreement
 pub mod Assignments
-pub mod Named
+pub mod Commands
+pub mod Fitting
+pub mod Form
 pub mod Initial
+pub mod inner
+pub mod Named
 pub mod Run
+pub mod RunFits
 pub mod Symbolic
 pub mod Values

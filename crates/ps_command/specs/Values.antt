@@ -1,4 +1,5 @@
--- The values that one thread sees: those of the globals and of its own locals. They have no bound.
+-- The values of variables in a state: those that one thread sees, of the globals and of its own locals, and those of
+-- the whole state. They have no bound.
 use Rattle.std.specs.Prelude.{ℕ, ℤ, pos, List, [], slice_index_or, slice_set}
 use Rattle.ps_command.specs.declared.state.State.{State}
 use Rattle.ps_term.specs.declared.var.Var.{Var}
@@ -28,3 +29,9 @@ values_of k s = record { globals = s.globals; locals = slice_index_or s.locals k
 -- the state in which a thread sees these values, and the others their own locals as before
 abbrev pub with_values : ℕ → State → Values → State
 with_values k s v = record { globals = v.globals; locals = slice_set s.locals k v.locals }
+
+-- the value of a variable in a whole state, a local being one of its own thread; what isn't there is worth 0
+abbrev pub value_in : State → Var → ℤ
+value_in s (Global n) = slice_index_or s.globals n (pos 0)
+value_in s (Local t n) = slice_index_or (slice_index_or s.locals t []) n (pos 0)
+value_in s (Havoc _) = pos 0

@@ -3,14 +3,27 @@
 
 mod assignments;
 mod command;
+mod fitting;
+mod form_builder;
+pub mod laws;
+mod look_up;
 mod op;
+mod put;
+mod running;
+mod run_end;
 mod setting;
 mod state;
+mod forming;
 mod symbolic_form;
+mod view;
 
 pub use assignments::Assignments;
 pub use command::Command;
+pub use fitting::{can_run, is_sized};
 pub use op::Op;
+pub use running::run;
+pub use run_end::RunEnd;
 pub use setting::Setting;
 pub use state::State;
+pub use forming::symbolic;
 pub use symbolic_form::SymbolicForm;

@@ -1,8 +1,9 @@
 //! Settings: what the commands of a graph run in.
 ghost use Rattle.std.specs.Prelude.{◌≡◌, IfOk, IsTrue};
 ghost use Rattle.std.specs.List.{list_all};
+ghost use Rattle.ps_command.specs.Commands.{forms_of};
 ghost use Rattle.ps_command.specs.Named.{is_declared_command, is_declared_row, names_local};
-ghost use Rattle.ps_command.specs.Symbolic.{AreForms};
+
 
 use crate::command::Command;
 use crate::symbolic_form::SymbolicForm;
@@ -27,7 +28,7 @@ pub struct Setting {
     pub ghost each_declared: { IsTrue (list_all (is_declared_row globals locals) init_each) },
     pub ghost each_local: { IsTrue (list_all names_local init_each) },
     pub ghost commands_declared: { IsTrue (list_all (is_declared_command globals locals) commands) },
-    pub ghost formed: { ∥ AreForms commands symbols ∥₁ },
+    pub ghost formed: { symbols ≡ forms_of commands },
 }
 
 impl Setting {

@@ -1,6 +1,7 @@
 pub mod Canonical
 pub mod Ceilings
 pub mod Divisions
+pub mod ExactTerms
 mod Examples
 pub mod Lookups
 pub mod Merging

@@ -1,4 +1,6 @@
 pub mod Bound
+pub mod Evaluation
+pub mod Exact
 pub mod Factors
 pub mod Front
 pub mod Lookup

@@ -2,6 +2,7 @@
 #![tactic(auto)]
 
 mod bound;
+pub mod exact;
 mod front;
 pub mod laws;
 mod lookup;

@@ -1,0 +1,40 @@
+-- A view, op by op.
+use Rattle.std.specs.Prelude.{◌≡◌, ℤ, pos, Bool, true, false, List, drop, Option, Some, None}
+use Rattle.ps_command.specs.Run.{holds}
+use Rattle.ps_command.specs.Values.{Values, value_at, with_value}
+use Rattle.ps_command.specs.declared.op.Op.{Op}
+use Rattle.ps_command.specs.declared.op.Op.TheVariants.{Assume, Assign, Havoc}
+use Rattle.ps_command.specs.declared.view.View.{View}
+use Rattle.ps_term.specs.Evaluation.{EvaluationFits}
+use Rattle.ps_term.specs.Term.{value}
+
+-- the values that a view has
+abbrev pub seen : View → Values
+seen v = record { globals = v.globals.items; locals = v.locals.items }
+
+-- the op's term is evaluated within 128 bits
+abbrev pub OpRunFits : Values → Op → Type 0
+OpRunFits v (Assume r) = EvaluationFits (value_at v) r.term
+OpRunFits v (Assign x t) = EvaluationFits (value_at v) t
+OpRunFits v (Havoc x) = Unit {0}
+
+-- the op isn't an assume that fails
+abbrev pub goes_on : Values → Op → Bool
+goes_on v (Assume r) = holds (value_at v) r
+goes_on v _ = true
+
+-- the values after the op, with this havoc value
+abbrev pub after_op : Values → Op → ℤ → Values
+after_op v (Assume r) h = v
+after_op v (Assign x t) h = with_value v x (value (value_at v) t)
+after_op v (Havoc x) h = with_value v x h
+
+-- the havoc values that the op leaves
+abbrev pub havocs_left : Op → List ℤ → List ℤ
+havocs_left (Havoc x) hs = drop 1 hs
+havocs_left _ hs = hs
+
+-- the run ends in these values, or fails where it doesn't go on
+abbrev pub IsRunTo : Bool → Option Values → Values → Type 0
+IsRunTo true ran v = ran ≡ Some v
+IsRunTo false ran v = ran ≡ None
