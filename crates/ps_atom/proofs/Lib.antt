@@ -10,6 +10,7 @@ pub mod Orders
 pub mod Own
 pub mod Parts
 pub mod Placing
+pub mod Ranges
 pub mod RenamedAtoms
 pub mod Renamings
 pub mod Sayings

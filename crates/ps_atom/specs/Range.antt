@@ -14,3 +14,9 @@ IsDeclared globals locals arity (Havoc _) = ⊥
 abbrev pub IsInRange : ℕ → ℕ → Predicate → Type 0
 IsInRange globals locals predicate =
     (predicate.arity ≤ 4) × All (λ pair. IsDeclared globals locals predicate.arity pair.0) predicate.row.term.pairs
+
+-- the variable is a declared global, or a declared local of any thread
+abbrev pub IsKnown : ℕ → ℕ → Var → Type 0
+IsKnown globals locals (Global n) = n < globals
+IsKnown globals locals (Local _ n) = n < locals
+IsKnown globals locals (Havoc _) = ⊥

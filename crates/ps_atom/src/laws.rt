@@ -1,6 +1,6 @@
 //! Facts about canonical predicates that callers cite: each function does no work, and its clause is
 //! the fact.
-ghost use Rattle.std.specs.Prelude.{◌≡◌, ◌≢◌, ◌↔◌, ◌++◌, ◌∷◌, [], ℕ, ℤ, All, AllPairs, List, length};
+ghost use Rattle.std.specs.Prelude.{◌≡◌, ◌≢◌, ◌↔◌, ◌++◌, ◌∷◌, ◌≤◌, [], ℕ, ℤ, All, AllPairs, List, length};
 ghost use Rattle.ps_term.specs.declared.row.Row.{Row};
 ghost use Rattle.ps_term.specs.declared.var.Var.{Var};
 ghost use Rattle.ps_atom.specs.declared.predicate.Predicate.{Predicate};
@@ -8,6 +8,7 @@ ghost use Rattle.ps_atom.specs.declared.place.Place128.TheVariants.{Known, New};
 ghost use Rattle.ps_atom.specs.Atoms.{HoldsAt, IsInjectiveOn, IsOfSlots, renamed, renamed_variable};
 ghost use Rattle.ps_atom.specs.Canonical.{IsCanonicalOf, IsCanonicalPredicate};
 ghost use Rattle.ps_atom.specs.Places.{IsPlaceOf};
+ghost use Rattle.ps_atom.specs.Range.{IsInRange, IsKnown};
 ghost use Rattle.ps_atom.specs.Renaming.{IsMultiple, IsRenaming};
 ghost use Rattle.ps_atom.specs.Says.{SaysAs};
 
@@ -47,6 +48,13 @@ pub fn renamings_are_one(row: &Row, renaming: &Row, one: &Predicate, other: &Pre
 /// A canonical predicate is the canonical one of its own row, with its slots in order.
 pub fn is_its_own(row: &Row, predicate: &Predicate)
     ensures { (threads : List ℕ) → IsCanonicalOf row.now predicate.now threads → IsCanonicalPredicate predicate.now }
+{}
+
+/// The canonical predicate of a row whose variables are all declared is in range, where at most four threads occur.
+pub fn canonical_is_in_range(row: &Row, predicate: &Predicate)
+    ensures { (globals locals : ℕ) (threads : List ℕ) → IsCanonicalOf row.now predicate.now threads
+        → length threads ≤ 4 → All (λ pair. IsKnown globals locals pair.0) row.now.term.pairs
+        → IsInRange globals locals predicate.now }
 {}
 
 /// What was new and is pushed is known by the number that the push gives.

@@ -79,7 +79,7 @@ impl Predicates {
     }
 
     /// Appends a predicate and gives its number. It is `Full` where the table has 128. After an error
-    /// the table is as before. In time and memory of the predicate's pairs.
+    /// the table is as before. In time of the predicate's pairs, and memory of them where it is new.
     pub fn push(&mut self, alloc: Global, predicate: Predicate) -> Result<u32, PushEnd>
         ensures number { IfOk result (λ number. number ≡ length self.old) }
         ensures appended { OnOk result (self.new ≡ self.old ++ predicate ∷ []) }
@@ -93,8 +93,8 @@ impl Predicates {
             return Err(PushEnd::Full);
         }
         self.list.reserve(1).map_err(PushEnd::Memory)?;
-        match note(alloc, &mut self.index, &predicate, number as u32) {
-            Ok(()) => {
+        match note(alloc, &mut self.index, predicate, number as u32) {
+            Ok(predicate) => {
                 self.list.push_reserved(predicate);
                 Ok(number as u32)
             }
@@ -165,25 +165,41 @@ fn index_of(alloc: Global, list: &[Predicate]) -> Result<IndexMap<Key, u32>, All
     let mut index = IndexMap::new(alloc);
     let mut number = 0;
     for predicate in list {
-        note(alloc, &mut index, predicate, number)?;
+        let key = Key {
+            predicate: predicate.copy(alloc)?,
+        };
+        enter(&mut index, key, number)?;
         number += 1;
     }
     Ok(index)
 }
 
-// Enters the number of the predicate, unless it has one.
+// Enters the number of the predicate, unless it has one, and hands the predicate back. It is copied
+// only where it is new.
 fn note(
     alloc: Global,
     index: &mut IndexMap<Key, u32>,
-    predicate: &Predicate,
+    predicate: Predicate,
     number: u32,
-) -> Result<(), AllocError>
-    ensures noted { OnOk result (IsNoted index.old (key_of predicate.now) number index.new) }
+) -> Result<Predicate, AllocError>
+    ensures noted { OnOk result (IsNoted index.old (key_of predicate) number index.new) }
+    ensures same { IfOk result (λ back. back ≡ predicate) }
     ensures unchanged { OnErr result (IsSameIndex index.old index.new) }
 {
-    let key = Key {
-        predicate: predicate.copy(alloc)?,
-    };
+    let key = Key { predicate };
+    if number_in(index, &key).is_some() {
+        let Key { predicate } = key;
+        return Ok(predicate);
+    }
+    let predicate = key.predicate.copy(alloc)?;
+    index.insert(key, number)?;
+    Ok(predicate)
+}
+
+// Enters the number of the key, unless it has one.
+fn enter(index: &mut IndexMap<Key, u32>, key: Key, number: u32) -> Result<(), AllocError>
+    ensures { OnOk result (IsNoted index.old key number index.new) }
+{
     if number_in(index, &key).is_some() {
         return Ok(());
     }

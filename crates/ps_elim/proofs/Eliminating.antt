@@ -4,19 +4,20 @@ use Rattle.std.proofs.lemmas.List.{append_assoc, length_push}
 use Rattle.std.proofs.lemmas.List.Elements.{All-head, All-tail, All-nil, All-push}
 use Rattle.ps_elim.specs.Combining.{AllFit, eliminated, width}
 use Rattle.ps_elim.specs.Elimination.{Ends, IsTooWide, LeavesRange, last_set}
-use Rattle.ps_elim.specs.Stages.{AllPass, AreStages, Passes, StopsAt, first_set, most_vectors, set_after, variables}
+use Rattle.ps_elim.specs.Stages.{AllPass, AreStages, Passes, StopsAt, first_set, set_after, variables}
 use Rattle.ps_elim.specs.Vectors.{AreSums}
 use Rattle.ps_elim.specs.Weighing.{IsWeighted, vectors_of}
+use Rattle.ps_elim.specs.declared.limits.TheConstants.{MOST_VECTORS}
 use Rattle.ps_elim.specs.declared.stage.Stage.{Stage}
 use Rattle.ps_elim.specs.declared.weighted.Weighted.{Weighted}
 use Rattle.ps_term.specs.declared.row.Row.{Row}
 use Rattle.ps_term.specs.declared.var.Var.{Var}
 
 abbrev pub WideAt : List Row → ℕ → List (List ℕ) → Var → Type 0
-WideAt rows count vs x = (most_vectors < width rows x vs) × (count ≡ width rows x vs)
+WideAt rows count vs x = (MOST_VECTORS < width rows x vs) × (count ≡ width rows x vs)
 
 abbrev pub PastAt : List Row → List (List ℕ) → Var → Type 0
-PastAt rows vs x = (width rows x vs ≤ most_vectors) × ¬ AllFit rows x vs
+PastAt rows vs x = (width rows x vs ≤ MOST_VECTORS) × ¬ AllFit rows x vs
 
 abbrev pub HaveSums : List Row → List Stage → Type 0
 HaveSums rows stages = All (λ stage. AreSums rows stage.vectors stage.rows) stages
@@ -50,7 +51,7 @@ sums_of : (rows : List Row) (ws : List Weighted) → All (IsWeighted rows) ws �
 sums_of rows [] h = tt
 sums_of rows (w ∷ ws) h = ((All-head (IsWeighted rows) w ws h).sum, sums_of rows ws (All-tail (IsWeighted rows) w ws h))
 
-pub Eliminating-step : (rows : List Row) (set next : List Weighted) (stages : List Stage) (x : Var) (rest : List Var) (stage : Stage) → Eliminating rows set stages (x ∷ rest) → Passes rows (vectors_of set) x → All (IsWeighted rows) next → vectors_of next ≡ eliminated rows x (vectors_of set) → length next ≤ most_vectors → stage.variable ≡ x → stage.vectors ≡ vectors_of set → stage.rows ≡ map (λ w. w.row) set → Eliminating rows next (stages ++ stage ∷ []) rest
+pub Eliminating-step : (rows : List Row) (set next : List Weighted) (stages : List Stage) (x : Var) (rest : List Var) (stage : Stage) → Eliminating rows set stages (x ∷ rest) → Passes rows (vectors_of set) x → All (IsWeighted rows) next → vectors_of next ≡ eliminated rows x (vectors_of set) → length next ≤ MOST_VECTORS → stage.variable ≡ x → stage.vectors ≡ vectors_of set → stage.rows ≡ map (λ w. w.row) set → Eliminating rows next (stages ++ stage ∷ []) rest
 Eliminating-step rows set next stages x rest stage e p all same few is vs rs =
     let sums_here : AreSums rows stage.vectors stage.rows = subst (λ (us : List (List ℕ)). AreSums rows us stage.rows) (sym vs) (subst (λ (ss : List Row). AreSums rows (vectors_of set) ss) (sym rs) (sums_of rows set e.weighted)) in
     record {

@@ -1,6 +1,8 @@
+pub mod Ascent
 pub mod Bits
 pub mod Choosing
 pub mod Counting
+pub mod Determined
 pub mod Eliminating
 mod Examples
 pub mod Gcds
@@ -13,4 +15,5 @@ pub mod Splitting
 pub mod Sums
 pub mod Units
 pub mod Vanishing
+pub mod Widths
 pub mod Zipping

@@ -22,7 +22,7 @@ get_or-units (suc n) zero d h = refl
 get_or-units (suc n) (suc i) d h =
     get_or-map (λ v. 0 ∷ v) (units n) i d d (omega (arith, length-units n)) ∙ ap (λ (v : List ℕ). 0 ∷ v) (get_or-units n i d (omega arith))
 
-weighted-zeros : (part : Term → ℤ) (rows : List Row) (n : ℕ) → weighted part rows (replicate n 0) ≡ pos 0
+pub weighted-zeros : (part : Term → ℤ) (rows : List Row) (n : ℕ) → weighted part rows (replicate n 0) ≡ pos 0
 weighted-zeros part [] n = refl
 weighted-zeros part (r ∷ rs) zero = refl
 weighted-zeros part (r ∷ rs) (suc n) = omega (arith, ints, zero-mul (part r.term), weighted-zeros part rs n)

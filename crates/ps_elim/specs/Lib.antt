@@ -11,3 +11,5 @@ pub mod Weighing
 pub mod Weights
 pub mod Marking
 pub mod Choosing
+pub mod Width
+pub mod Ascending

@@ -2,6 +2,7 @@
 use Rattle.std.specs.Prelude.{◌≡◌, ◌≤◌, ℕ, zero, suc, ℤ, List, [], ◌∷◌, length, if◌then◌else◌}
 use Rattle.ps_elim.specs.Combining.{AllFit, eliminated, width}
 use Rattle.ps_elim.specs.Vectors.{AreSums, units}
+use Rattle.ps_elim.specs.declared.limits.TheConstants.{MOST_VECTORS}
 use Rattle.ps_elim.specs.declared.stage.Stage.{Stage}
 use Rattle.ps_term.specs.Var.{var_eq, var_lt}
 use Rattle.ps_term.specs.declared.row.Row.{Row}
@@ -31,13 +32,9 @@ abbrev pub set_after : List Row → List (List ℕ) → List Var → List (List 
 set_after rows vs [] = vs
 set_after rows vs (x ∷ xs) = set_after rows (eliminated rows x vs) xs
 
--- how many vectors a set may be made of
-abbrev pub most_vectors : ℕ
-most_vectors = 2048
-
 -- the next set is made of few enough vectors, and all numbers of its making stay within 128 bits
 pub record Passes (rows : List Row) (vs : List (List ℕ)) (x : Var) : Type 0 where
-  pub few : width rows x vs ≤ most_vectors
+  pub few : width rows x vs ≤ MOST_VECTORS
   pub fits : AllFit rows x vs
 
 -- at each of these variables

@@ -3,8 +3,9 @@ use Rattle.std.specs.Prelude.{◌≡◌, ◌≤◌, ◌<◌, ℕ, ℤ, pos, Bool
 use Rattle.std.specs.Ordering.{int_eq}
 use Rattle.ps_elim.specs.Combining.{AllFit, PairFits, eliminated, width}
 use Rattle.ps_elim.specs.Places.{support_of}
-use Rattle.ps_elim.specs.Stages.{Passes, most_vectors}
+use Rattle.ps_elim.specs.Stages.{Passes}
 use Rattle.ps_elim.specs.Vectors.{IsSum}
+use Rattle.ps_elim.specs.declared.limits.TheConstants.{MOST_VECTORS}
 use Rattle.ps_elim.specs.declared.next.Next.{Next}
 use Rattle.ps_elim.specs.declared.next.Next.TheVariants.{Set, Past128, TooWide}
 use Rattle.ps_elim.specs.declared.sign.Sign.{Sign}
@@ -54,6 +55,6 @@ AllPairsFit rows x ps qs = All (λ p. All (PairFits rows x p) qs) ps
 -- what comes after a set of vectors by the elimination of a variable
 abbrev pub IsNext : List Row → Var → List (List ℕ) → Next → Type 0
 IsNext rows x vs (Set ws) =
-    Passes rows vs x × All (IsWeighted rows) ws.items × (vectors_of ws.items ≡ eliminated rows x vs) × (length ws.items ≤ most_vectors)
-IsNext rows x vs (TooWide count) = (most_vectors < width rows x vs) × (count ≡ width rows x vs)
-IsNext rows x vs Past128 = (width rows x vs ≤ most_vectors) × ¬ AllFit rows x vs
+    Passes rows vs x × All (IsWeighted rows) ws.items × (vectors_of ws.items ≡ eliminated rows x vs) × (length ws.items ≤ MOST_VECTORS)
+IsNext rows x vs (TooWide count) = (MOST_VECTORS < width rows x vs) × (count ≡ width rows x vs)
+IsNext rows x vs Past128 = (width rows x vs ≤ MOST_VECTORS) × ¬ AllFit rows x vs

@@ -12,10 +12,12 @@ ghost use Rattle.ps_term.specs.Row.{Holds};
 use crate::answer::Elim;
 use crate::choose::least_refutation;
 use crate::first::first_set;
+use crate::limits::MOST_VECTORS;
 use crate::next::{Next, next_set};
 use crate::stage::Stage;
 use crate::variables::variables;
 use crate::weighted::Weighted;
+use crate::width::first_width;
 use ps_list::Sequence;
 use ps_term::{Row, Var};
 use std::alloc::{AllocError, Global};
@@ -32,7 +34,8 @@ use std::alloc::{AllocError, Global};
 /// making lies outside `i128`.
 ///
 /// The memory is that of all sets. A set of `n` vectors takes time of its entries, and of `n * n`
-/// comparisons of supports, 64 places at a time.
+/// comparisons of supports, 64 places at a time. Where the first set after the unit vectors would be too
+/// wide, that is told by the coefficients alone, and no vector is made.
 pub fn eliminate(alloc: Global, rows: &[Row]) -> Result<Elim, AllocError>
     requires few_rows { length rows.now < 2 ^ 32 }
     requires few_variables { length (variables rows.now) < 2 ^ 32 }
@@ -44,6 +47,13 @@ pub fn eliminate(alloc: Global, rows: &[Row]) -> Result<Elim, AllocError>
         (λ stages. All (λ stage. AreSums rows.now stage.vectors stage.rows) stages)) }
 {
     let variables = variables(alloc, rows)?;
+    let width = first_width(rows, &variables);
+    if width > MOST_VECTORS {
+        return Ok(Elim::TooWide {
+            stage: 0,
+            count: width,
+        });
+    }
     let mut stages = Vec::with_capacity(alloc, variables.len())?;
     let mut set = first_set(alloc, rows)?;
     for (number, variable) in variables.iter().enumerate() {

@@ -8,6 +8,7 @@ mod elimination;
 mod filter;
 mod first;
 pub mod laws;
+mod limits;
 mod next;
 mod pair;
 mod reduce;
@@ -16,6 +17,7 @@ mod stage;
 mod support;
 mod variables;
 mod weighted;
+mod width;
 mod words;
 
 pub use answer::Elim;

@@ -6,14 +6,12 @@ ghost use Rattle.ps_elim.specs.declared.sign.Sign.TheVariants.{Positive, Negativ
 ghost use Rattle.ps_term.specs.declared.row.Row.{Row};
 
 use crate::filter::kept;
+use crate::limits::MOST_VECTORS;
 use crate::pair::combined;
 use crate::sign::{Sign, with_sign};
 use crate::weighted::Weighted;
 use ps_term::{Row, TermEnd, Var};
 use std::alloc::{AllocError, Global};
-
-// Of how many vectors a set is made at most.
-const MOST_VECTORS: u64 = 2048;
 
 // What comes after a set of vectors.
 #[derive(Debug, Drop)]

@@ -35,7 +35,8 @@ pub(crate) fn with_sign(
     Ok(list)
 }
 
-fn has_sign(sign: Sign, coefficient: i128) -> bool
+// Whether the coefficient has the sign.
+pub(crate) fn has_sign(sign: Sign, coefficient: i128) -> bool
     ensures { result ≡ is_of sign coefficient }
 {
     match sign {

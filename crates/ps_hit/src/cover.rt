@@ -104,31 +104,52 @@ fn has_own(number: u32, covers: &[Cover]) -> bool
     covers.iter().any(|cover| is_once(*cover, number))
 }
 
-/// The shortest of the sets that are unmet, by its place.
-pub fn shortest_unmet(sets: &[Vec<u32>], covers: &[Cover]) -> Option<usize>
-    requires { length covers.now ≡ length sets.now }
-    ensures within { IfSome result (λ at. at < length sets.now) }
+/// How many numbers each set has.
+pub fn sizes(alloc: Global, sets: &[Vec<u32>]) -> Result<Vec<usize>, AllocError> {
+    let mut sizes = Vec::with_capacity(alloc, sets.len())?;
+    for set in sets {
+        sizes.push(set.len())?;
+    }
+    Ok(sizes)
+}
+
+/// Counts one number less as free in each set that has this one, which is barred from now on.
+pub fn bar(sets: &[Vec<u32>], number: u32, free: &mut [usize]) {
+    for (at, set) in sets.iter().enumerate() {
+        if has(set.as_slice(), number) {
+            lower(free, at);
+        }
+    }
+}
+
+fn lower(counts: &mut [usize], at: usize) {
+    if let Some(count) = counts.get_mut(at) {
+        *count = count.saturating_sub(1);
+    }
+}
+
+/// Of the sets that are unmet the first with the fewest free numbers, by its place.
+pub fn narrowest_unmet(covers: &[Cover], free: &[usize]) -> Option<usize>
+    ensures within { IfSome result (λ at. at < length covers.now) }
     ensures unmet { IfSome result (λ at. HoldsAt (λ cover. cover ≡ Cover.Unmet) covers.now at) }
     ensures none { IfNone result (All (λ cover. cover ≢ Cover.Unmet) covers.now) }
 {
     let mut best = None;
     for (at, cover) in covers.iter().enumerate() {
         if is_unmet(*cover) {
-            best = Some(shorter(sets, best, at));
+            best = Some(narrower(free, best, at));
         }
     }
     best
 }
 
-/// The place of the shorter set: the one so far, or this one.
-fn shorter(sets: &[Vec<u32>], best: Option<usize>, at: usize) -> usize
-    requires so_far { IfSome best (λ place. place < length sets.now) }
-    requires within { at < length sets.now }
+/// The place of the set with fewer free numbers: the one so far, or this one.
+fn narrower(free: &[usize], best: Option<usize>, at: usize) -> usize
     ensures { (result ≡ at) ⊎ (best ≡ Some result) }
 {
     match best {
         Some(place) => {
-            if sets[place].len() <= sets[at].len() {
+            if free_at(free, place) <= free_at(free, at) {
                 place
             } else {
                 at
@@ -136,4 +157,8 @@ fn shorter(sets: &[Vec<u32>], best: Option<usize>, at: usize) -> usize
         }
         None => at,
     }
+}
+
+fn free_at(free: &[usize], at: usize) -> usize {
+    free.get(at).copied().unwrap_or(0)
 }

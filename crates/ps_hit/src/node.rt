@@ -3,15 +3,18 @@ ghost use Rattle.std.specs.Prelude.{◌≡◌, [], IfOk, OnOk};
 ghost use Rattle.ps_hit.specs.Hitting.{numbers_of};
 ghost use Rattle.ps_hit.specs.Searching.{IsNode, AddsChild};
 
-use crate::cover::{Cover, all_have_own, chosen_too, none_chosen};
+use crate::cover::{Cover, all_have_own, chosen_too, none_chosen, sizes};
 use std::alloc::{AllocError, Global};
 
-/// What is chosen, what may be chosen no more, and how the chosen numbers meet the sets.
+/// What is chosen, what may be chosen no more, how the chosen numbers meet the sets, and how many
+/// numbers of each set are free, which means that they may still be chosen. The last decides only
+/// which set is taken next, so no clause speaks of it.
 #[derive(Debug, Drop)]
 pub struct Node {
     pub chosen: Vec<u32>,
     pub barred: Vec<u32>,
     pub covers: Vec<Cover>,
+    pub free: Vec<usize>,
 }
 
 /// The node at which nothing is chosen and nothing is barred.
@@ -24,6 +27,7 @@ pub fn root(alloc: Global, sets: &[Vec<u32>]) -> Result<Node, AllocError>
         chosen: Vec::new(alloc),
         barred: Vec::new(alloc),
         covers: none_chosen(alloc, sets)?,
+        free: sizes(alloc, sets)?,
     })
 }
 
@@ -35,6 +39,7 @@ pub fn add_child(
     node: &Node,
     number: u32,
     barred: &[u32],
+    free: &[usize],
     waiting: &mut Vec<Node>,
 ) -> Result<(), AllocError>
     requires { IsNode (numbers_of sets.now) node.now }
@@ -51,6 +56,7 @@ pub fn add_child(
         chosen,
         barred: Vec::from_slice(alloc, barred)?,
         covers,
+        free: Vec::from_slice(alloc, free)?,
     })?;
     Ok(())
 }

@@ -6,7 +6,7 @@ ghost use Rattle.ps_hit.specs.Answer.{IfAll, OnTooMany, IsLexicographic, HasMore
 ghost use Rattle.ps_hit.specs.Hitting.{numbers_of, IsListed};
 ghost use Rattle.ps_hit.specs.Searching.{IsNode, Branches};
 
-use crate::cover::{Cover, shortest_unmet};
+use crate::cover::{Cover, bar, narrowest_unmet};
 use crate::hits::Hits;
 use crate::node::{Node, add_child, root};
 use ps_list::Sequence;
@@ -17,9 +17,12 @@ use std::collections::BTreeSet;
 /// order; or that there are more than `most`. Of no set at all the empty set is the only one, and an
 /// empty set has none. The sets may stand in any order, and may repeat a number.
 ///
-/// A search in depth takes at each node a shortest set that is unmet, and one of its numbers where
-/// each number chosen so far is still the only one that meets some set. Each number that is tried
-/// takes one pass over the sets. The search ends once more than `most` sets were found.
+/// A search in depth takes at each node a set that is unmet, one with the fewest numbers that weren't
+/// tried at a sibling, and one of these numbers where each number chosen so far is still the only one
+/// that meets some set. So a set that no number can meet any more ends its branch at once. Each number
+/// that is tried takes two passes over the sets, and each node that waits the memory of its numbers and
+/// of two small values a set. The search ends once more than `most` sets were found; how many nodes it
+/// tries until then isn't bounded by the number of hitting sets.
 pub fn minimal_hits(alloc: Global, sets: &[Vec<u32>], most: u32) -> Result<Hits, AllocError>
     ensures minimal { IfOk result (λ hits. IfAll hits (All (IsListed (numbers_of sets.now)))) }
     ensures every { IfOk result (λ hits. IfAll hits (λ all.
@@ -32,11 +35,12 @@ pub fn minimal_hits(alloc: Global, sets: &[Vec<u32>], most: u32) -> Result<Hits,
     let mut waiting = Vec::new(alloc);
     waiting.push(root(alloc, sets)?)?;
     while let Some(node) = waiting.pop() {
-        if let Some(place) = shortest_unmet(sets, node.covers.as_slice()) {
+        if let Some(place) = narrowest_unmet(node.covers.as_slice(), node.free.as_slice()) {
             branch(alloc, sets, &node, place, &mut waiting)?;
             continue;
         }
-        found.insert(ascending(alloc, node.chosen.as_slice())?)?;
+        let chosen = node.chosen.as_slice();
+        found.insert(ascending(alloc, chosen)?)?;
         if found.len() > most as usize {
             return Ok(Hits::TooMany);
         }
@@ -61,12 +65,22 @@ fn branch(
 {
     let set = sets[place].as_slice();
     let mut barred = Vec::from_slice(alloc, node.barred.as_slice())?;
+    let mut free = Vec::from_slice(alloc, node.free.as_slice())?;
     for number in set {
         if barred.contains(number) {
             continue;
         }
-        add_child(alloc, sets, node, *number, barred.as_slice(), waiting)?;
+        add_child(
+            alloc,
+            sets,
+            node,
+            *number,
+            barred.as_slice(),
+            free.as_slice(),
+            waiting,
+        )?;
         barred.push(*number)?;
+        bar(sets, *number, free.as_mut_slice());
     }
     Ok(())
 }

@@ -1,9 +1,9 @@
 use Rattle.std.proofs.Common.{◌≡◌, ◌+◌, ◌*◌, ◌^◌, ◌<◌, ◌≤◌, ◌++◌, ℕ, List, All, Bor, Err, length, sym, ap, ap₂, ◌∙◌, subst, subst₂, arith}
 use Rattle.std.proofs.lemmas.List.{length-map}
 use Rattle.ps_elim.specs.Combining.{all_combined, width}
-use Rattle.ps_elim.specs.Stages.{most_vectors}
 use Rattle.ps_elim.specs.Supports.{kept}
 use Rattle.ps_elim.specs.Weighing.{AllPairsFit, ArePairable, IsWeighted, pointed_to, vectors_of}
+use Rattle.ps_elim.specs.declared.limits.TheConstants.{MOST_VECTORS}
 use Rattle.ps_elim.specs.declared.sign.Sign.TheVariants.{Zero, Positive, Negative}
 use Rattle.ps_elim.specs.declared.weighted.Weighted.{Weighted}
 use Rattle.ps_elim.proofs.Splitting.{all_fits, fits_all, is_split, made_is, made_length, pairable_weighted, product_small, split_length, split_pairable, split_width}
@@ -38,7 +38,7 @@ returns-then-width-gt-MOST_VECTORS g c =
     let first : c.len-2.result ≡ length ps = omega (arith, c.len-2.ensures, c.in_ok-positives.positives.ok.0) in
     let second : c.len-3.result ≡ length qs = omega (arith, c.len-3.ensures, c.in_ok-negatives.negatives.ok.0) in
     let is : c.len.result + (c.len-2.result * c.len-3.result) ≡ width g.rows x (vectors_of ws) = ap₂ (λ (k m : ℕ). k + m) none (ap₂ (λ (k m : ℕ). k * m) first second) ∙ split_width g.rows x ws ns ps qs split in
-    (subst (λ (k : ℕ). most_vectors < k) is c.if-width-gt-MOST_VECTORS.true, is)
+    (subst (λ (k : ℕ). MOST_VECTORS < k) is c.if-width-gt-MOST_VECTORS.true, is)
 
 pub with_pairs-requires : goal.with_pairs-requires
 with_pairs-requires g c =
@@ -60,7 +60,7 @@ returns-in-Ok g c =
     let first : c.len-2.result ≡ length ps = omega (arith, c.len-2.ensures, c.in_ok-positives.positives.ok.0) in
     let second : c.len-3.result ≡ length qs = omega (arith, c.len-3.ensures, c.in_ok-negatives.negatives.ok.0) in
     let is : c.len.result + (c.len-2.result * c.len-3.result) ≡ width g.rows x (vectors_of ws) = ap₂ (λ (k m : ℕ). k + m) none (ap₂ (λ (k m : ℕ). k * m) first second) ∙ split_width g.rows x ws ns ps qs split in
-    let narrow : width g.rows x (vectors_of ws) ≤ most_vectors = subst (λ (k : ℕ). k ≤ most_vectors) is c.if-width-gt-MOST_VECTORS.false in
+    let narrow : width g.rows x (vectors_of ws) ≤ MOST_VECTORS = subst (λ (k : ℕ). k ≤ MOST_VECTORS) is c.if-width-gt-MOST_VECTORS.false in
     let pairs = subst₂ (λ (rs ss : List (Bor Weighted)). AllPairsFit g.rows x (vectors_of (pointed_to rs)) (vectors_of (pointed_to ss))) c.as_slice-2.ensures.value c.as_slice-3.ensures.value c.in-Ok.ensures.fits in
     let copied = c.in_ok-made.ensures ∙ ap (λ (rs : List (Bor Weighted)). pointed_to rs) c.as_slice.ensures.value in
     let all = subst₂ (λ (rs ss : List (Bor Weighted)). vectors_of c.in-Ok.made.items ≡ vectors_of c.in_ok-made.made.items ++ all_combined g.rows x (vectors_of (pointed_to rs)) (vectors_of (pointed_to ss))) c.as_slice-2.ensures.value c.as_slice-3.ensures.value c.in-Ok.ensures.vectors in
@@ -80,4 +80,4 @@ returns-in-Err-Past128 g c =
     let first : c.len-2.result ≡ length ps = omega (arith, c.len-2.ensures, c.in_ok-positives.positives.ok.0) in
     let second : c.len-3.result ≡ length qs = omega (arith, c.len-3.ensures, c.in_ok-negatives.negatives.ok.0) in
     let is : c.len.result + (c.len-2.result * c.len-3.result) ≡ width g.rows x (vectors_of ws) = ap₂ (λ (k m : ℕ). k + m) none (ap₂ (λ (k m : ℕ). k * m) first second) ∙ split_width g.rows x ws ns ps qs split in
-    (subst (λ (k : ℕ). k ≤ most_vectors) is c.if-width-gt-MOST_VECTORS.false, λ fits. c.in-Err-Past128.ensures.past (ap (λ e. Err e) c.in-Err-Past128.field-0-is) (subst₂ (λ (rs ss : List (Bor Weighted)). AllPairsFit g.rows x (vectors_of (pointed_to rs)) (vectors_of (pointed_to ss))) (sym c.as_slice-2.ensures.value) (sym c.as_slice-3.ensures.value) (all_fits g.rows x ws ns ps qs split fits)))
+    (subst (λ (k : ℕ). k ≤ MOST_VECTORS) is c.if-width-gt-MOST_VECTORS.false, λ fits. c.in-Err-Past128.ensures.past (ap (λ e. Err e) c.in-Err-Past128.field-0-is) (subst₂ (λ (rs ss : List (Bor Weighted)). AllPairsFit g.rows x (vectors_of (pointed_to rs)) (vectors_of (pointed_to ss))) (sym c.as_slice-2.ensures.value) (sym c.as_slice-3.ensures.value) (all_fits g.rows x ws ns ps qs split fits)))

@@ -20,7 +20,7 @@ pub returns : goal.returns
 returns c =
     let own : All (HasOwn c.in_ok-covers.covers.items) c.push.new.self.items = rw (← c.as_slice-4.ensures.value, ← c.as_slice-3.ensures.value) (c.all_have_own.ensures.0 c.if-not-all_have_own.false) in
     adds_one (numbers_of c.args.sets.now) c.args.node.now c.args.number c.args.barred.now c.args.waiting.now.items c.push-2.new.self.items
-    (record { chosen = c.push.new.self; barred = c.in_ok-from_slice.field-0; covers = c.in_ok-covers.covers })
+    (record { chosen = c.push.new.self; barred = c.in_ok-from_slice.field-0; covers = c.in_ok-covers.covers; free = c.in_ok-from_slice-2.field-0 })
     (c.in_ok-covers.ensures ∙ ap (covers_with c.args.number (numbers_of c.args.sets.now)) c.as_slice.ensures.value)
     (c.in_ok-push.ensures.items ∙ ap (λ (xs : List ℕ). xs ++ c.args.number ∷ []) (c.in_ok-chosen.ensures.items ∙ c.as_slice-2.ensures.value))
     c.in_ok-from_slice.ensures.items own c.in_ok-push-2.ensures.items

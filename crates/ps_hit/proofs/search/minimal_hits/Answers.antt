@@ -1,4 +1,4 @@
-use Rattle.std.proofs.Common.{◌≡◌, ◌∙◌, ◌++◌, ◌∷◌, [], ◌-◌, ℕ, List, ap, subst, refl, take, length, arith, rules}
+use Rattle.std.proofs.Common.{◌≡◌, ◌<◌, ◌∙◌, ◌++◌, ◌∷◌, [], ◌-◌, ℕ, List, ap, subst, refl, take, length, arith, rules}
 use Rattle.ps_hit.specs.declared.cover.Cover.TheVariants.{Unmet}
 use Rattle.ps_hit.specs.declared.node.Node.{Node}
 use Rattle.ps_hit.specs.Hitting.{numbers_of}
@@ -18,39 +18,45 @@ loop-node-init c = record {
   few = rw c.new-found.ensures.empty (search rules);
 }
 
-pub shortest_unmet-requires : goal.shortest_unmet-requires
-shortest_unmet-requires c =
+-- there are as many covers as sets
+pub branch-alloc-requires-clause-within : goal.branch-alloc-requires-clause-within
+branch-alloc-requires-clause-within c =
     let is : IsNode (numbers_of c.args.sets.now) c.in-Some.node = last_node (numbers_of c.args.sets.now) (numbers_of c.loop-node.found.keys) c.loop-node.waiting.items c.pop.new.self.items c.in-Some.node c.in-Some.ensures.items c.loop-node.invariant.searching in
-    rw c.as_slice.ensures.value (covers_length c.in-Some.node.chosen.items c.args.sets.now c.in-Some.node.covers.items is.covers)
+    rw (← (covers_length c.in-Some.node.chosen.items c.args.sets.now c.in-Some.node.covers.items is.covers), ← c.as_slice.ensures.value) c.in-Some-narrowest_unmet.ensures.within
 
 pub branch-alloc-requires-clause-node : goal.branch-alloc-requires-clause-node
 branch-alloc-requires-clause-node c =
     last_node (numbers_of c.args.sets.now) (numbers_of c.loop-node.found.keys) c.loop-node.waiting.items c.pop.new.self.items c.in-Some.node c.in-Some.ensures.items c.loop-node.invariant.searching
 
 -- the children of a node have less work than it
-pub loop-node-smaller-in-Some-shortest_unmet : goal.loop-node-smaller-in-Some-shortest_unmet
-loop-node-smaller-in-Some-shortest_unmet c =
+pub loop-node-smaller-in-Some-narrowest_unmet : goal.loop-node-smaller-in-Some-narrowest_unmet
+loop-node-smaller-in-Some-narrowest_unmet c =
     let is : IsNode (numbers_of c.args.sets.now) c.in-Some.node = last_node (numbers_of c.args.sets.now) (numbers_of c.loop-node.found.keys) c.loop-node.waiting.items c.pop.new.self.items c.in-Some.node c.in-Some.ensures.items c.loop-node.invariant.searching in
     let as_long : length c.in-Some.node.covers.items ≡ length c.args.sets.now = covers_length c.in-Some.node.chosen.items c.args.sets.now c.in-Some.node.covers.items is.covers in
-    branch_less (numbers_of c.args.sets.now) c.loop-node.waiting.items c.pop.new.self.items c.branch-alloc.new.waiting.items c.in-Some.node c.in-Some-shortest_unmet.place Unmet c.in-Some.ensures.items
-    (rw length-numbers_of c.in-Some-shortest_unmet.ensures.within) (rw as_long c.in-Some-shortest_unmet.ensures.within)
-    (rw (← c.as_slice.ensures.value) (c.in-Some-shortest_unmet.ensures.unmet Unmet)) c.in_ok-branch.ensures
+    let within : c.in-Some-narrowest_unmet.place < length c.in-Some.node.covers.items = rw (← c.as_slice.ensures.value) c.in-Some-narrowest_unmet.ensures.within in
+    branch_less (numbers_of c.args.sets.now) c.loop-node.waiting.items c.pop.new.self.items c.branch-alloc.new.waiting.items c.in-Some.node c.in-Some-narrowest_unmet.place Unmet c.in-Some.ensures.items
+    (rw (length-numbers_of, ← as_long) within) within
+    (rw (← c.as_slice.ensures.value) (c.in-Some-narrowest_unmet.ensures.unmet Unmet)) c.in_ok-branch.ensures
 
 -- the node went, and its children wait
-pub loop-node-preserved-in-Some-shortest_unmet : goal.loop-node-preserved-in-Some-shortest_unmet
-loop-node-preserved-in-Some-shortest_unmet c = record {
-  searching = searching_branch (numbers_of c.args.sets.now) (numbers_of c.loop-node.found.keys) c.loop-node.waiting.items c.pop.new.self.items c.branch-alloc.new.waiting.items c.in-Some.node c.in-Some-shortest_unmet.place
-      c.loop-node.invariant.searching c.in-Some.ensures.items (rw length-numbers_of c.in-Some-shortest_unmet.ensures.within) c.in_ok-branch.ensures;
-  few = c.loop-node.invariant.few;
-}
+pub loop-node-preserved-in-Some-narrowest_unmet : goal.loop-node-preserved-in-Some-narrowest_unmet
+loop-node-preserved-in-Some-narrowest_unmet c =
+    let is : IsNode (numbers_of c.args.sets.now) c.in-Some.node = last_node (numbers_of c.args.sets.now) (numbers_of c.loop-node.found.keys) c.loop-node.waiting.items c.pop.new.self.items c.in-Some.node c.in-Some.ensures.items c.loop-node.invariant.searching in
+    let as_long : length c.in-Some.node.covers.items ≡ length c.args.sets.now = covers_length c.in-Some.node.chosen.items c.args.sets.now c.in-Some.node.covers.items is.covers in
+    let within : c.in-Some-narrowest_unmet.place < length c.in-Some.node.covers.items = rw (← c.as_slice.ensures.value) c.in-Some-narrowest_unmet.ensures.within in
+    record {
+      searching = searching_branch (numbers_of c.args.sets.now) (numbers_of c.loop-node.found.keys) c.loop-node.waiting.items c.pop.new.self.items c.branch-alloc.new.waiting.items c.in-Some.node c.in-Some-narrowest_unmet.place
+          c.loop-node.invariant.searching c.in-Some.ensures.items (rw (length-numbers_of, ← as_long) within) c.in_ok-branch.ensures;
+      few = c.loop-node.invariant.few;
+    }
 
 -- one more was found, and they are too many
 pub returns-then-len-most-clause-too_many : goal.returns-then-len-most-clause-too_many
 returns-then-len-most-clause-too_many c =
     let after : Searching (numbers_of c.args.sets.now) (numbers_of c.insert.new.self.keys) c.pop.new.self.items =
     searching_leaf (numbers_of c.args.sets.now) (numbers_of c.loop-node.found.keys) (numbers_of c.insert.new.self.keys) c.loop-node.waiting.items c.pop.new.self.items c.in-Some.node c.in_ok-ascending.field-0.items
-    c.loop-node.invariant.searching c.in-Some.ensures.items (rw (← c.as_slice.ensures.value) c.in_default-shortest_unmet.ensures.none) c.in_ok-ascending.ensures.ascends
-    (rw (← c.as_slice-in-Some.ensures.value) c.in_ok-ascending.ensures.same)
+    c.loop-node.invariant.searching c.in-Some.ensures.items (rw (← c.as_slice.ensures.value) c.in_default-narrowest_unmet.ensures.none) c.in_ok-ascending.ensures.ascends
+    (rw (← c.as_slice-chosen.ensures.value) c.in_ok-ascending.ensures.same)
     (rw c.in_ok-insert.ensures.keys (numbers_put c.loop-node.found.keys c.in_ok-ascending.field-0)) (numbers_ordered c.insert.new.self.keys c.len.ensures.ordered) in
     record {
       hits = numbers_of c.insert.new.self.keys;
@@ -67,8 +73,8 @@ loop-node-smaller c = leaf_less (numbers_of c.args.sets.now) c.loop-node.waiting
 pub loop-node-preserved : goal.loop-node-preserved
 loop-node-preserved c = record {
   searching = searching_leaf (numbers_of c.args.sets.now) (numbers_of c.loop-node.found.keys) (numbers_of c.insert.new.self.keys) c.loop-node.waiting.items c.pop.new.self.items c.in-Some.node c.in_ok-ascending.field-0.items
-      c.loop-node.invariant.searching c.in-Some.ensures.items (rw (← c.as_slice.ensures.value) c.in_default-shortest_unmet.ensures.none) c.in_ok-ascending.ensures.ascends
-      (rw (← c.as_slice-in-Some.ensures.value) c.in_ok-ascending.ensures.same)
+      c.loop-node.invariant.searching c.in-Some.ensures.items (rw (← c.as_slice.ensures.value) c.in_default-narrowest_unmet.ensures.none) c.in_ok-ascending.ensures.ascends
+      (rw (← c.as_slice-chosen.ensures.value) c.in_ok-ascending.ensures.same)
       (rw c.in_ok-insert.ensures.keys (numbers_put c.loop-node.found.keys c.in_ok-ascending.field-0)) (numbers_ordered c.insert.new.self.keys c.len.ensures.ordered);
   few = omega (arith, c.len.ensures.len, c.if-len-most.false);
 }

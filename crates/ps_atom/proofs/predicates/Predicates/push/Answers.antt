@@ -7,7 +7,7 @@ use Rattle.ps_atom.proofs.predicates.Predicates.push.Goals as goal
 pub invariant_of-self-in-Ok : goal.invariant_of-self-in-Ok
 invariant_of-self-in-Ok c =
     let list = c.self.inside.list.items in
-    let pushed : c.push_reserved.new.self.items ≡ list ++ c.args.predicate ∷ [] = c.push_reserved.ensures.items ∙ ap (λ (xs : List Predicate). xs ++ c.args.predicate ∷ []) c.reserve.ensures.items in
+    let pushed : c.push_reserved.new.self.items ≡ list ++ c.args.predicate ∷ [] = c.push_reserved.ensures.items ∙ (ap (λ (xs : List Predicate). xs ++ c.in-Ok.predicate ∷ []) c.reserve.ensures.items ∙ ap (λ (p : Predicate). list ++ p ∷ []) c.in-Ok.ensures.same) in
     let long : c.len-number.result ≡ length list = omega (arith, c.len-number.ensures, c.self.inside.list.ok.0) in
     record {
       table = table-push list c.push_reserved.new.self.items c.args.predicate c.self.invariant.table (omega (arith, c.if-number.false, long)) pushed;
@@ -18,4 +18,4 @@ pub returns-in-Ok-clause-table : goal.returns-in-Ok-clause-table
 returns-in-Ok-clause-table c =
     let list = c.self.inside.list.items in
     let long : c.len-number.result ≡ length list = omega (arith, c.len-number.ensures, c.self.inside.list.ok.0) in
-    table-push list c.push_reserved.new.self.items c.args.predicate c.self.invariant.table (omega (arith, c.if-number.false, long)) (c.push_reserved.ensures.items ∙ ap (λ (xs : List Predicate). xs ++ c.args.predicate ∷ []) c.reserve.ensures.items)
+    table-push list c.push_reserved.new.self.items c.args.predicate c.self.invariant.table (omega (arith, c.if-number.false, long)) (c.push_reserved.ensures.items ∙ (ap (λ (xs : List Predicate). xs ++ c.in-Ok.predicate ∷ []) c.reserve.ensures.items ∙ ap (λ (p : Predicate). list ++ p ∷ []) c.in-Ok.ensures.same))

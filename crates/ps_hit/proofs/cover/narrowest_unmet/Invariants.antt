@@ -2,7 +2,7 @@ use Rattle.std.proofs.Common.{◌≡◌, ◌≢◌, ◌<◌, ℕ, All, take, IfS
 use Rattle.std.specs.List.{HoldsAt}
 use Rattle.ps_hit.specs.declared.cover.Cover.{Cover}
 use Rattle.ps_hit.specs.declared.cover.Cover.TheVariants.{Unmet}
-use Rattle.ps_hit.proofs.cover.shortest_unmet.Given as goal
+use Rattle.ps_hit.proofs.cover.narrowest_unmet.Given as goal
 
 abbrev pub invariant-loop-at : goal.invariant-loop-at
 invariant-loop-at l = record {

@@ -1,0 +1,4 @@
+// Limits of an elimination, which code and clauses share.
+
+// Of how many vectors a set is made at most.
+pub(crate) const MOST_VECTORS: u64 = 2048;
