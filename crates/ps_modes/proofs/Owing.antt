@@ -1,12 +1,12 @@
 -- An input owes one answer.
 use Rattle.std.proofs.Common.{◌≡◌, ℕ, ◌<◌, ◌≤◌, List, length, Result, Ok, Err, refl, sym, ap, ◌∙◌, subst, arith}
-use Rattle.ps_text.specs.declared.form_fault.FormFault.{FormFault}
+use Rattle.ps_lines.specs.declared.form_fault.FormFault.{FormFault}
 use Rattle.ps_farkas.specs.Refutes.{AllSumsFit, Refutes}
 use Rattle.ps_rows.specs.declared.claim.Claim.{Claim}
 use Rattle.ps_rows.specs.Reading.{claim_at}
 use Rattle.ps_rows.specs.Spelling.{claim_lines, ClaimFits}
-use Rattle.ps_text.specs.Reading.{start}
-use Rattle.ps_text.specs.Tokens.{text_bytes}
+use Rattle.ps_lines.specs.Reading.{start}
+use Rattle.ps_lines.specs.Tokens.{text_bytes}
 use Rattle.ps_modes.specs.Refute.{most_bytes, Says, FirstFault, TooLong, NotOfForm, PastRange, Owed, Yes, No, Refused, IsAnswer, Judged, Refuting, NotRefuting, PastSums}
 use Rattle.ps_modes.specs.Texts.{fault_line, too_long_line, past_line, yes_line, no_line}
 use Rattle.ps_modes.specs.declared.status.Status.{Status}
