@@ -9,12 +9,12 @@ use Rattle.ps_graph.specs.Alternatives.{Bound, bound_holds, all_hold, any_hold, 
 use Rattle.ps_graph.specs.Paths.{Act, Needs, Sets, Takes, Chooses, Breaks, gives, is_failing, needs, ways, followed, paths, paths_all}
 use Rattle.ps_graph.specs.Picks.{choice_of}
 use Rattle.ps_graph.specs.Step.{Outcome, Goes, Fails, Stops, decided, then_do, branch, within, within_all}
-use Rattle.ps_syntax.specs.Cond.{truth}
-use Rattle.ps_syntax.specs.Sum.{sum_value}
-use Rattle.ps_syntax.specs.declared.cond.Cond.{Cond}
-use Rattle.ps_syntax.specs.declared.cond.Test.{Test}
-use Rattle.ps_syntax.specs.declared.cond.Test.TheVariants.{Star, Cond as Where}
-use Rattle.ps_syntax.specs.declared.stmt.StmtKind.{StmtKind, Assign, Havoc, Assume, Assert, Skip, Atomic', If', While', Row_of-Stmt, end_of-Stmt, more_of-Stmt}
+use Rattle.ps_tree.specs.Cond.{truth}
+use Rattle.ps_tree.specs.Sum.{sum_value}
+use Rattle.ps_tree.specs.declared.cond.Cond.{Cond}
+use Rattle.ps_tree.specs.declared.cond.Test.{Test}
+use Rattle.ps_tree.specs.declared.cond.Test.TheVariants.{Star, Cond as Where}
+use Rattle.ps_tree.specs.declared.stmt.StmtKind.{StmtKind, Assign, Havoc, Assume, Assert, Skip, Atomic', If', While', Row_of-Stmt, end_of-Stmt, more_of-Stmt}
 
 -- each path stops or gives the outcome
 abbrev pub Sound : List (List Act) → Values → List ℤ → Outcome → Type 0

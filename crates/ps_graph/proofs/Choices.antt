@@ -16,7 +16,7 @@ use Rattle.ps_graph.specs.Picks.{choice_of, fit, if_all_used, run_with}
 use Rattle.ps_graph.specs.Step.{Outcome, Goes, Fails, Stops}
 use Rattle.ps_graph.specs.declared.edge.Edge.{Edge}
 use Rattle.ps_graph.specs.declared.edge.Pick.{Pick}
-use Rattle.ps_syntax.specs.Sum.{sum_value}
+use Rattle.ps_tree.specs.Sum.{sum_value}
 
 -- the values after the ops, with the choices that are left
 abbrev run_left : List Op → Values → List ℤ × List ℤ → Option (Values × List ℤ)

@@ -13,9 +13,9 @@ use Rattle.ps_graph.specs.Follows.{Draws, Drawn, going_to, leaving, Stands, Bloc
 use Rattle.ps_graph.specs.Paths.{Act, gives, is_failing, ways, paths}
 use Rattle.ps_graph.specs.Step.{Outcome, Goes, Fails, Stops, decided, within, Thread, Runs, Failed, settled, chosen, step, step_of}
 use Rattle.ps_graph.specs.declared.edge.Edge.{Edge}
-use Rattle.ps_syntax.specs.declared.cond.Test.{Test}
-use Rattle.ps_syntax.specs.declared.stmt.Stmt.{Stmt}
-use Rattle.ps_syntax.specs.declared.stmt.StmtKind.{StmtKind, Assign, Havoc, Assume, Assert, Skip, Atomic', If', While', Row_of-Stmt, end_of-Stmt, more_of-Stmt, items-the_row-Stmt}
+use Rattle.ps_tree.specs.declared.cond.Test.{Test}
+use Rattle.ps_tree.specs.declared.stmt.Stmt.{Stmt}
+use Rattle.ps_tree.specs.declared.stmt.StmtKind.{StmtKind, Assign, Havoc, Assume, Assert, Skip, Atomic', If', While', Row_of-Stmt, end_of-Stmt, more_of-Stmt, items-the_row-Stmt}
 
 abbrev at_target : ℕ → Option Values → Option (Values × ℕ)
 at_target b o = option_map (λ (w : Values). (w, b)) o

@@ -5,12 +5,12 @@ use Rattle.std.specs.Ordering.{int_eq}
 use Rattle.std.proofs.lemmas.Int.{ints}
 use Rattle.ps_graph.proofs.Bools.{and_true, or_false, or_assoc, and_assoc, and_or, or_and, not_and, not_or, not_not, same_test}
 use Rattle.ps_graph.specs.Alternatives.{Bound, bound_holds, all_hold, any_hold, opposite, of_relation, product, alternatives, one_of_each, one_of_any}
-use Rattle.ps_syntax.specs.Cond.{compares, truth, all_true, some_true}
-use Rattle.ps_syntax.specs.Sum.{sum_value}
-use Rattle.ps_syntax.specs.declared.cond.Cond.{Cond, Rel, Not', And', Or', Row_of-Cond, end_of-Cond, more_of-Cond}
-use Rattle.ps_syntax.specs.declared.relation.Sign.{Sign}
-use Rattle.ps_syntax.specs.declared.relation.Sign.TheVariants.{Less, LessEq, Greater, GreaterEq, Equal, NotEqual}
-use Rattle.ps_syntax.specs.declared.sum.Sum.{Sum}
+use Rattle.ps_tree.specs.Cond.{compares, truth, all_true, some_true}
+use Rattle.ps_tree.specs.Sum.{sum_value}
+use Rattle.ps_tree.specs.declared.cond.Cond.{Cond, Rel, Not', And', Or', Row_of-Cond, end_of-Cond, more_of-Cond}
+use Rattle.ps_tree.specs.declared.relation.Sign.{Sign}
+use Rattle.ps_tree.specs.declared.relation.Sign.TheVariants.{Less, LessEq, Greater, GreaterEq, Equal, NotEqual}
+use Rattle.ps_tree.specs.declared.sum.Sum.{Sum}
 use Rattle.ps_term.specs.declared.var.Var.{Var}
 
 le_yes : (a b : ℤ) → int_le a b ≡ true → a ≤ℤ b

@@ -1,11 +1,11 @@
 -- The alternatives of a condition: lists of bounds, of which all hold in one list exactly where the condition is true.
 use Rattle.std.specs.Prelude.{ℤ, pos, ◌+ℤ◌, ◌-ℤ◌, Bool, true, false, not, List, [], ◌∷◌, ◌++◌, map, int_le}
 use Rattle.std.specs.List.{list_all, list_any}
-use Rattle.ps_syntax.specs.Sum.{sum_value}
-use Rattle.ps_syntax.specs.declared.cond.Cond.{Cond, Rel, Not', And', Or', Row_of-Cond, end_of-Cond, more_of-Cond}
-use Rattle.ps_syntax.specs.declared.relation.Sign.{Sign}
-use Rattle.ps_syntax.specs.declared.relation.Sign.TheVariants.{Less, LessEq, Greater, GreaterEq, Equal, NotEqual}
-use Rattle.ps_syntax.specs.declared.sum.Sum.{Sum}
+use Rattle.ps_tree.specs.Sum.{sum_value}
+use Rattle.ps_tree.specs.declared.cond.Cond.{Cond, Rel, Not', And', Or', Row_of-Cond, end_of-Cond, more_of-Cond}
+use Rattle.ps_tree.specs.declared.relation.Sign.{Sign}
+use Rattle.ps_tree.specs.declared.relation.Sign.TheVariants.{Less, LessEq, Greater, GreaterEq, Equal, NotEqual}
+use Rattle.ps_tree.specs.declared.sum.Sum.{Sum}
 use Rattle.ps_term.specs.declared.var.Var.{Var}
 
 -- a bound on two sums of the text: left - right + plus <= 0

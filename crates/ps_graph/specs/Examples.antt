@@ -6,16 +6,16 @@ use Rattle.ps_graph.specs.Execution.{executed, reaches}
 use Rattle.ps_graph.specs.Initial.{is_initial}
 use Rattle.ps_graph.specs.Step.{Thread, Runs, Failed, step}
 use Rattle.ps_graph.specs.Threads.{Seat}
-use Rattle.ps_syntax.specs.declared.cond.Cond.{Cond}
-use Rattle.ps_syntax.specs.declared.cond.Cond.TheVariants.{Rel}
-use Rattle.ps_syntax.specs.declared.cond.Test.TheVariants.{Star, Cond as Where}
-use Rattle.ps_syntax.specs.declared.program.Program.{Program}
-use Rattle.ps_syntax.specs.declared.relation.Sign.{Sign}
-use Rattle.ps_syntax.specs.declared.relation.Sign.TheVariants.{Less, GreaterEq, Equal, NotEqual}
-use Rattle.ps_syntax.specs.declared.stmt.Stmt.{Stmt}
-use Rattle.ps_syntax.specs.declared.stmt.StmtKind.{StmtKind}
-use Rattle.ps_syntax.specs.declared.stmt.StmtKind.TheVariants.{Assign, Havoc, Assume, Assert, Atomic, If, While}
-use Rattle.ps_syntax.specs.declared.sum.Sum.{Sum}
+use Rattle.ps_tree.specs.declared.cond.Cond.{Cond}
+use Rattle.ps_tree.specs.declared.cond.Cond.TheVariants.{Rel}
+use Rattle.ps_tree.specs.declared.cond.Test.TheVariants.{Star, Cond as Where}
+use Rattle.ps_tree.specs.declared.program.Program.{Program}
+use Rattle.ps_tree.specs.declared.relation.Sign.{Sign}
+use Rattle.ps_tree.specs.declared.relation.Sign.TheVariants.{Less, GreaterEq, Equal, NotEqual}
+use Rattle.ps_tree.specs.declared.stmt.Stmt.{Stmt}
+use Rattle.ps_tree.specs.declared.stmt.StmtKind.{StmtKind}
+use Rattle.ps_tree.specs.declared.stmt.StmtKind.TheVariants.{Assign, Havoc, Assume, Assert, Atomic, If, While}
+use Rattle.ps_tree.specs.declared.sum.Sum.{Sum}
 use Rattle.ps_term.specs.declared.var.Var.{Var}
 use Rattle.ps_term.specs.declared.var.Var.TheVariants.{Global, Local}
 

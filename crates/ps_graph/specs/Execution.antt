@@ -5,7 +5,7 @@ use Rattle.ps_command.specs.declared.state.State.{State}
 use Rattle.ps_graph.specs.Initial.{is_initial}
 use Rattle.ps_graph.specs.Step.{Thread, Runs, Failed, step}
 use Rattle.ps_graph.specs.Threads.{Seat, World, moved, all_moved}
-use Rattle.ps_syntax.specs.declared.program.Program.{Program}
+use Rattle.ps_tree.specs.declared.program.Program.{Program}
 
 -- the threads of a state, each with the body as its rest
 abbrev pub started : Program → State → World Thread

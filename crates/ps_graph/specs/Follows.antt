@@ -9,9 +9,9 @@ use Rattle.ps_graph.specs.Facts.{IsIn, ops_of, after_edge}
 use Rattle.ps_graph.specs.Paths.{Act, Needs, Sets, Takes, Chooses, Breaks, is_failing, picks_of, paths, ways}
 use Rattle.ps_graph.specs.Step.{Thread, Runs, Failed, step}
 use Rattle.ps_graph.specs.declared.edge.Edge.{Edge}
-use Rattle.ps_syntax.specs.Sum.{sum_value}
-use Rattle.ps_syntax.specs.declared.stmt.Stmt.{Stmt}
-use Rattle.ps_syntax.specs.declared.stmt.StmtKind.{StmtKind, If', While', Row_of-Stmt, end_of-Stmt, more_of-Stmt}
+use Rattle.ps_tree.specs.Sum.{sum_value}
+use Rattle.ps_tree.specs.declared.stmt.Stmt.{Stmt}
+use Rattle.ps_tree.specs.declared.stmt.StmtKind.{StmtKind, If', While', Row_of-Stmt, end_of-Stmt, more_of-Stmt}
 use Rattle.ps_term.specs.declared.var.Var.{Var}
 use Rattle.ps_term.specs.Term.{value}
 

@@ -4,10 +4,10 @@ use Rattle.std.specs.List.{list_all}
 use Rattle.std.specs.Ordering.{int_eq}
 use Rattle.ps_command.specs.Values.{value_at}
 use Rattle.ps_command.specs.declared.state.State.{State}
-use Rattle.ps_syntax.specs.Cond.{is_true}
-use Rattle.ps_syntax.specs.declared.global_decl.GlobalDecl.{GlobalDecl}
-use Rattle.ps_syntax.specs.declared.program.Program.{Program}
-use Rattle.ps_syntax.specs.declared.relation.Relation.{Relation}
+use Rattle.ps_tree.specs.Cond.{is_true}
+use Rattle.ps_tree.specs.declared.global_decl.GlobalDecl.{GlobalDecl}
+use Rattle.ps_tree.specs.declared.program.Program.{Program}
+use Rattle.ps_tree.specs.declared.relation.Relation.{Relation}
 
 -- the value is the declared one, where one is declared
 abbrev pub is_declared_value : Option ℤ → ℤ → Bool

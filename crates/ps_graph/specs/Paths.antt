@@ -7,11 +7,11 @@ use Rattle.ps_graph.specs.Picks.{choice_of}
 use Rattle.ps_graph.specs.Step.{Outcome, Goes, Fails, Stops}
 use Rattle.ps_graph.specs.declared.edge.Pick.{Pick}
 use Rattle.ps_graph.specs.declared.edge.Pick.TheVariants.{Star as StarPick, Value}
-use Rattle.ps_syntax.specs.Sum.{sum_value}
-use Rattle.ps_syntax.specs.declared.cond.Test.{Test}
-use Rattle.ps_syntax.specs.declared.cond.Test.TheVariants.{Star, Cond}
-use Rattle.ps_syntax.specs.declared.stmt.StmtKind.{StmtKind, Assign, Havoc, Assume, Assert, Skip, Atomic', If', While', Row_of-Stmt, end_of-Stmt, more_of-Stmt}
-use Rattle.ps_syntax.specs.declared.sum.Sum.{Sum}
+use Rattle.ps_tree.specs.Sum.{sum_value}
+use Rattle.ps_tree.specs.declared.cond.Test.{Test}
+use Rattle.ps_tree.specs.declared.cond.Test.TheVariants.{Star, Cond}
+use Rattle.ps_tree.specs.declared.stmt.StmtKind.{StmtKind, Assign, Havoc, Assume, Assert, Skip, Atomic', If', While', Row_of-Stmt, end_of-Stmt, more_of-Stmt}
+use Rattle.ps_tree.specs.declared.sum.Sum.{Sum}
 use Rattle.ps_term.specs.declared.var.Var.{Var}
 
 -- One act of a path: it goes on only where a bound holds, sets a variable to what a sum is worth, sets it to the next

@@ -2,12 +2,12 @@
 use Rattle.std.specs.Prelude.{ℤ, pos, Bool, true, false, List, [], ◌∷◌, ◌++◌, Option, Some, None, if◌then◌else◌}
 use Rattle.std.specs.Ordering.{int_eq}
 use Rattle.ps_command.specs.Values.{Values, value_at, with_value}
-use Rattle.ps_syntax.specs.Cond.{truth}
-use Rattle.ps_syntax.specs.Sum.{sum_value}
-use Rattle.ps_syntax.specs.declared.cond.Test.{Test}
-use Rattle.ps_syntax.specs.declared.cond.Test.TheVariants.{Star, Cond}
-use Rattle.ps_syntax.specs.declared.stmt.Stmt.{Stmt}
-use Rattle.ps_syntax.specs.declared.stmt.StmtKind.{StmtKind, Assign, Havoc, Assume, Assert, Skip, Atomic', If', While', Row_of-Stmt, end_of-Stmt, more_of-Stmt, items-the_row-Stmt}
+use Rattle.ps_tree.specs.Cond.{truth}
+use Rattle.ps_tree.specs.Sum.{sum_value}
+use Rattle.ps_tree.specs.declared.cond.Test.{Test}
+use Rattle.ps_tree.specs.declared.cond.Test.TheVariants.{Star, Cond}
+use Rattle.ps_tree.specs.declared.stmt.Stmt.{Stmt}
+use Rattle.ps_tree.specs.declared.stmt.StmtKind.{StmtKind, Assign, Havoc, Assume, Assert, Skip, Atomic', If', While', Row_of-Stmt, end_of-Stmt, more_of-Stmt, items-the_row-Stmt}
 
 -- What comes of statements that are run in one go: they end with values and the choices that are left, an assertion
 -- fails at values with the choices that are left, or there is no such run.

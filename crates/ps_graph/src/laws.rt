@@ -10,8 +10,8 @@ ghost use Rattle.ps_graph.specs.Letters.{Located};
 ghost use Rattle.ps_graph.specs.Strides.{WalksAreLetters};
 ghost use Rattle.ps_graph.specs.Walks.{ExecutionsAreWalks};
 ghost use Rattle.ps_graph.specs.declared.edge.Edge.{Edge};
-ghost use Rattle.ps_syntax.specs.Cond.{truth};
-ghost use Rattle.ps_syntax.specs.declared.cond.Cond.{Cond};
+ghost use Rattle.ps_tree.specs.Cond.{truth};
+ghost use Rattle.ps_tree.specs.declared.cond.Cond.{Cond};
 ghost use Rattle.ps_term.specs.declared.var.Var.{Var};
 
 /// The alternatives of a condition hold where it is true, and those of its negation where it isn't.

@@ -1,13 +1,13 @@
 -- An input that isn't too long owes `refute` one answer.
 use Rattle.std.proofs.Common.{◌≡◌, ℕ, List, [], ◌∷◌, Contains, Result, Ok, Err, Option, Some, None, IfSome, refl, sym, ap, ◌∙◌, subst, lit<, arith}
-use Rattle.ps_text.specs.declared.form_fault.FormFault.{FormFault}
+use Rattle.ps_lines.specs.declared.form_fault.FormFault.{FormFault}
 use Rattle.ps_farkas.specs.Refutes.{AllSumsFit, Refutes}
 use Rattle.ps_rows.specs.declared.claim.Claim.{Claim}
 use Rattle.ps_rows.specs.Reading.{claim_at}
 use Rattle.ps_rows.specs.Spelling.{claim_lines, ClaimFits}
-use Rattle.ps_text.specs.Reading.{start}
-use Rattle.ps_text.specs.Tokens.{text_bytes, tokens}
-use Rattle.ps_text.proofs.Bytes.{text_read}
+use Rattle.ps_lines.specs.Reading.{start}
+use Rattle.ps_lines.specs.Tokens.{text_bytes, tokens}
+use Rattle.ps_lines.proofs.Bytes.{text_read}
 use Rattle.ps_rows.proofs.Laws.{claim_is_format}
 use Rattle.ps_modes.specs.Inner.Judged.{Judged, Refuting, NotRefuting, PastSums}
 use Rattle.ps_modes.specs.Owes.{IsAnswer, IsShort, IsVerdict, Owes, OwesStatus, TooLong, Within}

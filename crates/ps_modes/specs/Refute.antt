@@ -1,8 +1,8 @@
 -- What `refute` owes to its input.
 use Rattle.std.specs.Prelude.{◌≡◌, ℕ, List, Err}
-use Rattle.ps_text.specs.declared.form_fault.FormFault.{FormFault}
-use Rattle.ps_text.specs.Reading.{start}
-use Rattle.ps_text.specs.Tokens.{text_bytes}
+use Rattle.ps_lines.specs.declared.form_fault.FormFault.{FormFault}
+use Rattle.ps_lines.specs.Reading.{start}
+use Rattle.ps_lines.specs.Tokens.{text_bytes}
 use Rattle.ps_farkas.specs.Refutes.{AllSumsFit, Refutes}
 use Rattle.ps_rows.specs.declared.claim.Claim.{Claim}
 use Rattle.ps_rows.specs.Reading.{claim_at}

@@ -1,9 +1,9 @@
 -- The lines that are written where there is no other answer.
 use Rattle.std.specs.Prelude.{ℕ, List, ◌++◌, codes}
 use Rattle.std.specs.Fmt.{decimal}
-use Rattle.ps_text.specs.declared.form_fault.FormFault.{FormFault}
-use Rattle.ps_text.specs.declared.form_name.FormName.{FormName}
-use Rattle.ps_text.specs.declared.form_name.FormName.TheVariants.{Cut, Word, Field, Number, Order, Count, Limit}
+use Rattle.ps_lines.specs.declared.form_fault.FormFault.{FormFault}
+use Rattle.ps_lines.specs.declared.form_name.FormName.{FormName}
+use Rattle.ps_lines.specs.declared.form_name.FormName.TheVariants.{Cut, Word, Field, Number, Order, Count, Limit}
 
 -- the name of a fault
 abbrev pub fault_name : FormName → List ℕ

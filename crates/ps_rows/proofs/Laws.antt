@@ -4,12 +4,12 @@ use Rattle.std.specs.Prelude.{decimal, codes}
 use Rattle.std.specs.List.{flat_map, AllByRecursion}
 use Rattle.std.proofs.lemmas.List.{append-nil}
 use Rattle.ps_term.specs.declared.row.Row.{Row}
-use Rattle.ps_text.specs.Tokens.{Token, Field, Newline, after_blank, line_bytes, text_bytes, line_tokens, text_tokens}
-use Rattle.ps_text.specs.Reading.{At, leaf_at, natural, times_at}
-use Rattle.ps_text.proofs.Bytes.{IsPlain, IsClean, AreClean, IsClean-append, plain_word, spread_mapped, flat_map-map}
-use Rattle.ps_text.proofs.Decimals.{natural_is_leaf}
-use Rattle.ps_text.proofs.Exact.{Finds, Gets, found_bind, found_end, gets_bind, gets_end, Exact, Always, leaf_exact, line_exact, end_exact, ended-append}
-use Rattle.ps_text.proofs.Forms.{only_exact, header_tokens, header_exact, times_exact, done_found, done_again, IsFormat}
+use Rattle.ps_lines.specs.Tokens.{Token, Field, Newline, after_blank, line_bytes, text_bytes, line_tokens, text_tokens}
+use Rattle.ps_lines.specs.Reading.{At, leaf_at, natural, times_at}
+use Rattle.ps_lines.proofs.Bytes.{IsPlain, IsClean, AreClean, IsClean-append, plain_word, spread_mapped, flat_map-map}
+use Rattle.ps_lines.proofs.Decimals.{natural_is_leaf}
+use Rattle.ps_lines.proofs.Exact.{Finds, Gets, found_bind, found_end, gets_bind, gets_end, Exact, Always, leaf_exact, line_exact, end_exact, ended-append}
+use Rattle.ps_lines.proofs.Forms.{only_exact, header_tokens, header_exact, times_exact, done_found, done_again, IsFormat}
 use Rattle.ps_term_text.proofs.Exact.{term_tokens, term_exact}
 use Rattle.ps_rows.specs.declared.claim.Claim.{Claim}
 use Rattle.ps_rows.specs.Spelling.{row_line, multipliers_line, claim_lines, RowFits, ClaimFits}

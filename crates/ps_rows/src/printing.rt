@@ -2,7 +2,7 @@
 
 ghost use Rattle.std.specs.Prelude.{◌≡◌, ◌++◌, ◌<◌, ◌^◌, length, IfOk, OnOk, decimal};
 ghost use Rattle.std.specs.List.{flat_map};
-ghost use Rattle.ps_text.specs.Tokens.{after_blank, line_bytes, text_bytes};
+ghost use Rattle.ps_lines.specs.Tokens.{after_blank, line_bytes, text_bytes};
 ghost use Rattle.ps_rows.specs.Spelling.{claim_lines, row_line, multipliers_line};
 
 use crate::claim::Claim;

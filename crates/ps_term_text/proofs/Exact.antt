@@ -12,23 +12,23 @@ use Rattle.ps_term.specs.declared.var.Var.{Var}
 use Rattle.ps_term.specs.declared.var.Var.TheVariants.{Global, Local, Havoc}
 use Rattle.ps_term.specs.declared.term.Term.{Term}
 use Rattle.ps_term.specs.Pairs.{IsCanonical, IsBelow}
-use Rattle.ps_text.specs.declared.form_name.FormName.{FormName}
-use Rattle.ps_text.specs.declared.form_name.FormName.TheVariants as name
-use Rattle.ps_text.specs.declared.form_fault.FormFault.{FormFault}
-use Rattle.ps_text.specs.declared.form_end.FormEnd.{FormEnd}
-use Rattle.ps_text.specs.declared.form_end.FormEnd.TheVariants.{Fault, Memory}
-use Rattle.ps_text.proofs.Loop.{read_of, read_is}
-use Rattle.ps_text.specs.Tokens.{Token, Field, after_blank}
+use Rattle.ps_lines.specs.declared.form_name.FormName.{FormName}
+use Rattle.ps_lines.specs.declared.form_name.FormName.TheVariants as name
+use Rattle.ps_lines.specs.declared.form_fault.FormFault.{FormFault}
+use Rattle.ps_lines.specs.declared.form_end.FormEnd.{FormEnd}
+use Rattle.ps_lines.specs.declared.form_end.FormEnd.TheVariants.{Fault, Memory}
+use Rattle.ps_lines.proofs.Loop.{read_of, read_is}
+use Rattle.ps_lines.specs.Tokens.{Token, Field, after_blank}
 use Rattle.std.proofs.lemmas.List.{append-nil}
-use Rattle.ps_text.specs.Decimal.{counts_as_decimal, u32_of, i128_of}
-use Rattle.ps_text.specs.Parts.{cut_at}
-use Rattle.ps_text.specs.Reading.{At, Gives, Tells, leaf_at, list_at, integer}
-use Rattle.ps_text.proofs.Bytes.{IsPlain, IsClean}
-use Rattle.ps_text.proofs.Cutting.{cut_found, cut_again, decimal_free, signed_decimal_free, free_has_none, has_middle}
-use Rattle.ps_text.proofs.Digits.{u32_is, u32_from, i128_is, i128_from}
-use Rattle.ps_text.proofs.Decimals.{decimal-of, decimal-is, signed_decimal-of, signed_decimal-is, decimal_plain, signed_decimal_plain, decimal_counts, signed_counts, integer_is_leaf}
-use Rattle.ps_text.proofs.Exact.{Finds, Gets, found_bind, found_end, gets_bind, gets_end, Exact, Always, leaf_exact}
-use Rattle.ps_text.proofs.Forms.{IsMember, Chain, Stops, member_tokens, list_exact}
+use Rattle.ps_lines.specs.Decimal.{counts_as_decimal, u32_of, i128_of}
+use Rattle.ps_lines.specs.Parts.{cut_at}
+use Rattle.ps_lines.specs.Reading.{At, Gives, Tells, leaf_at, list_at, integer}
+use Rattle.ps_lines.proofs.Bytes.{IsPlain, IsClean}
+use Rattle.ps_lines.proofs.Cutting.{cut_found, cut_again, decimal_free, signed_decimal_free, free_has_none, has_middle}
+use Rattle.ps_lines.proofs.Digits.{u32_is, u32_from, i128_is, i128_from}
+use Rattle.ps_lines.proofs.Decimals.{decimal-of, decimal-is, signed_decimal-of, signed_decimal-is, decimal_plain, signed_decimal_plain, decimal_counts, signed_counts, integer_is_leaf}
+use Rattle.ps_lines.proofs.Exact.{Finds, Gets, found_bind, found_end, gets_bind, gets_end, Exact, Always, leaf_exact}
+use Rattle.ps_lines.proofs.Forms.{IsMember, Chain, Stops, member_tokens, list_exact}
 use Rattle.ps_term_text.specs.Spelling.{variable_text, VariableFits, pair_text, PairFits, term_fields, TermFits}
 use Rattle.ps_term_text.specs.Reading.{looks_local, looks_variable, at_most_65535, number_of, local_of, variable_of, pair_of, ascends, ordered, pair_from, pair_after, has_star, term_at}
 

@@ -6,11 +6,11 @@ use Rattle.ps_term.specs.declared.var.Var.{Var}
 use Rattle.ps_term.specs.declared.var.Var.TheVariants.{Global, Local}
 use Rattle.ps_term.specs.declared.term.Term.{Term}
 use Rattle.ps_term.specs.Var.{var_lt}
-use Rattle.ps_text.specs.declared.form_name.FormName.{FormName}
-use Rattle.ps_text.specs.declared.form_name.FormName.TheVariants.{Field, Number, Order}
-use Rattle.ps_text.specs.Decimal.{counts_as_decimal, u32_of, i128_of}
-use Rattle.ps_text.specs.Parts.{cut_at}
-use Rattle.ps_text.specs.Reading.{Read, ◌>>=◌, leaf_at, list_at, integer}
+use Rattle.ps_lines.specs.declared.form_name.FormName.{FormName}
+use Rattle.ps_lines.specs.declared.form_name.FormName.TheVariants.{Field, Number, Order}
+use Rattle.ps_lines.specs.Decimal.{counts_as_decimal, u32_of, i128_of}
+use Rattle.ps_lines.specs.Parts.{cut_at}
+use Rattle.ps_lines.specs.Reading.{Read, ◌>>=◌, leaf_at, list_at, integer}
 
 -- ---- variables
 

@@ -2,7 +2,7 @@
 
 ghost use Rattle.std.specs.Prelude.{◌≡◌, ◌∷◌, ◌++◌, OnOk};
 ghost use Rattle.std.specs.List.{flat_map};
-ghost use Rattle.ps_text.specs.Tokens.{after_blank};
+ghost use Rattle.ps_lines.specs.Tokens.{after_blank};
 ghost use Rattle.ps_term_text.specs.Spelling.{variable_text, pair_text, term_fields};
 
 use ps_term::{Term, Var};

@@ -2,8 +2,8 @@
 
 ghost use Rattle.std.specs.Prelude.{◌≡◌, ◌++◌, List, map, IfOk, Ok};
 ghost use Rattle.ps_term.specs.declared.term.Term.{Term};
-ghost use Rattle.ps_text.specs.Tokens.{Token, Field};
-ghost use Rattle.ps_text.specs.Reading.{Gives, Tells};
+ghost use Rattle.ps_lines.specs.Tokens.{Token, Field};
+ghost use Rattle.ps_lines.specs.Reading.{Gives, Tells};
 ghost use Rattle.ps_term_text.specs.Reading.{term_at};
 ghost use Rattle.ps_term_text.specs.Spelling.{term_fields, TermFits};
 
@@ -12,7 +12,7 @@ use ps_term::{Pairs, Term};
 use ps_text::{FormEnd, Reader, Until, list};
 use std::alloc::Global;
 
-#[tactic(auto, unfolding(crate::specs::Reading::term_at, ps_text::specs::Reading::and_then))]
+#[tactic(auto, unfolding(crate::specs::Reading::term_at, ps_lines::specs::Reading::and_then))]
 fn fields_of_term<'a>(alloc: Global, reader: &mut Reader<'a>) -> Result<Term, FormEnd>
     ensures { Gives (λ x. x) result reader.new (term_at reader.old) }
 {

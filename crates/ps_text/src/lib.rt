@@ -1,53 +1,12 @@
-//! Texts as bytes: decimals, lines of fields, a reader and printers for forms that are lists of lines, and tokens of program texts.
+//! Texts as bytes: those of lines, and the tokens of program texts.
 #![tactic(auto)]
 
-mod decimal;
-mod form;
-mod form_end;
-mod form_fault;
-mod form_name;
-mod integer_form;
-pub mod laws;
-mod leaf;
-mod line;
-mod natural32_form;
-mod natural_form;
-mod parts;
-mod place;
-mod printing;
-mod reader;
-mod scanning;
-mod span;
-mod spans;
-mod splitting;
-mod token;
-mod token_end;
-mod token_kind;
-mod tokenizing;
-mod until;
-
-pub use decimal::{counts_as_decimal, number_value, read_i128, read_u32, read_u128};
-pub use form::{Form, times, while_lines};
-pub use form_end::FormEnd;
-pub use form_fault::FormFault;
-pub use form_name::FormName;
-pub use integer_form::Integer;
-pub use leaf::{Leaf, list, take_leaf};
-pub use line::Line;
-pub use natural_form::Natural;
-pub use natural32_form::Natural32;
-pub use parts::cut;
-pub use place::Place;
-pub use printing::{
-    put_digits, put_end, put_field, put_header, put_integer, put_natural, put_only,
-    put_signed_digits, put_word,
+pub use ps_lines::{
+    Form, FormEnd, FormFault, FormName, Integer, Leaf, Line, Natural, Natural32, Reader, Span,
+    Spans, Until, counts_as_decimal, cut, lines, list, put_digits, put_end, put_field, put_header,
+    put_integer, put_natural, put_only, put_signed_digits, put_word, read_i128, read_u32,
+    read_u128, take_leaf, times, while_lines,
 };
-pub use reader::Reader;
-pub use span::Span;
-pub use spans::Spans;
-pub use splitting::lines;
-pub use token::{Token, text_of};
-pub use token_end::TokenEnd;
-pub use token_kind::TokenKind;
-pub use tokenizing::{end_place, tokens};
-pub use until::Until;
+pub use ps_token::{
+    Place, Token, TokenEnd, TokenKind, end_place, laws, number_value, text_of, tokens,
+};

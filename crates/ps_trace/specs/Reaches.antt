@@ -2,7 +2,7 @@
 use Rattle.std.specs.Prelude.{ℕ, ℤ, List, map, IsTrue}
 use Rattle.ps_command.specs.declared.state.State.{State}
 use Rattle.ps_graph.specs.Execution.{reaches}
-use Rattle.ps_syntax.specs.declared.program.Program.{Program}
+use Rattle.ps_tree.specs.declared.program.Program.{Program}
 use Rattle.ps_trace.specs.declared.step.Step.{Step}
 use Rattle.ps_trace.specs.declared.witness.Witness.{Witness}
 

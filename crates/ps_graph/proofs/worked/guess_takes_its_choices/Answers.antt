@@ -1,6 +1,6 @@
 use denote.Hole.Carrier.{hidden}
 use Rattle.std.proofs.Common.{refl}
-use Rattle.ps_syntax.specs.declared.stmt.StmtKind.TheBlock.{hidden-the_row-Stmt-0}
+use Rattle.ps_tree.specs.declared.stmt.StmtKind.TheBlock.{hidden-the_row-Stmt-0}
 use Rattle.ps_graph.proofs.worked.guess_takes_its_choices.Goals as goal
 
 pub returns-clause-fails : goal.returns-clause-fails

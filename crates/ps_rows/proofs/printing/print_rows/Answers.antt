@@ -2,7 +2,7 @@ use Rattle.std.proofs.Common.{◌++◌, ◌∷◌, [], List, ℕ, ap, ◌∙◌,
 use Rattle.std.specs.Prelude.{codes, decimal}
 use Rattle.std.specs.List.{flat_map}
 use Rattle.ps_term.specs.declared.row.Row.{Row}
-use Rattle.ps_text.specs.Tokens.{line_bytes}
+use Rattle.ps_lines.specs.Tokens.{line_bytes}
 use Rattle.ps_rows.specs.Spelling.{multipliers_line, row_line}
 use Rattle.ps_rows.proofs.Laws.{printed_text}
 use Rattle.ps_rows.proofs.printing.print_rows.Goals as goal

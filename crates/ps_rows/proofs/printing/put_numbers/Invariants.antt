@@ -1,7 +1,7 @@
 use Rattle.std.proofs.Common.{◌≡◌, ◌++◌, drop}
 use Rattle.std.specs.Prelude.{decimal}
 use Rattle.std.specs.List.{flat_map}
-use Rattle.ps_text.specs.Tokens.{after_blank}
+use Rattle.ps_lines.specs.Tokens.{after_blank}
 use Rattle.ps_rows.proofs.printing.put_numbers.Given as goal
 
 abbrev pub invariant-loop-n : goal.invariant-loop-n

@@ -1,6 +1,6 @@
 use Rattle.std.proofs.Common.{◌≡◌, ◌++◌, drop}
 use Rattle.std.specs.List.{flat_map}
-use Rattle.ps_text.specs.Tokens.{line_bytes}
+use Rattle.ps_lines.specs.Tokens.{line_bytes}
 use Rattle.ps_rows.specs.Spelling.{row_line}
 use Rattle.ps_rows.proofs.printing.put_rows.Given as goal
 

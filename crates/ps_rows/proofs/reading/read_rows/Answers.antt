@@ -1,4 +1,4 @@
-use Rattle.ps_text.proofs.Forms.{is_spelled, is_read}
+use Rattle.ps_lines.proofs.Forms.{is_spelled, is_read}
 use Rattle.ps_rows.specs.Reading.{claim_at}
 use Rattle.ps_rows.specs.Spelling.{claim_lines, ClaimFits}
 use Rattle.ps_rows.proofs.Laws.{claim_is_format}

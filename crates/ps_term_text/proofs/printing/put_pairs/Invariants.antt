@@ -1,6 +1,6 @@
 use Rattle.std.proofs.Common.{◌≡◌, ◌++◌, drop}
 use Rattle.std.specs.List.{flat_map}
-use Rattle.ps_text.specs.Tokens.{after_blank}
+use Rattle.ps_lines.specs.Tokens.{after_blank}
 use Rattle.ps_term_text.specs.Spelling.{pair_text}
 use Rattle.ps_term_text.proofs.printing.put_pairs.Given as goal
 

@@ -1,0 +1,9 @@
+pub mod Words
+pub mod Grammar
+pub mod Spelling
+pub mod Names
+pub mod Numbers
+pub mod Declarations
+pub mod Trees
+pub mod Fits
+pub mod Programs

@@ -1,0 +1,10 @@
+pub mod Digits
+pub mod Ahead
+pub mod Loop
+pub mod Cutting
+pub mod Bytes
+pub mod Exact
+pub mod Decimals
+pub mod Forms
+pub mod LineList
+pub mod Examples

@@ -1,0 +1,6 @@
+pub mod Decimal
+pub mod Tokens
+pub mod Lines
+pub mod Parts
+pub mod Until
+pub mod Reading

@@ -1,0 +1,44 @@
+-- The lines of a text, as the texts of their fields.
+use Rattle.std.specs.Prelude.{◌≡◌, ℕ, ◌+◌, ◌-◌, ◌≤◌, ◌<◌, List, [], ◌∷◌, map, length, take, drop, Option, Some, None, All}
+use Rattle.ps_lines.specs.declared.span.Span.{Span}
+use Rattle.ps_lines.specs.declared.line.Line.{Line}
+use Rattle.ps_lines.specs.Tokens.{Token, Field, Newline, tokens}
+
+-- A field before what it stands before: it is of the first line, or of none where no line ends ahead.
+abbrev pub onto_line : List ℕ → List (List (List ℕ)) → List (List (List ℕ))
+onto_line field [] = []
+onto_line field (line ∷ lines) = (field ∷ line) ∷ lines
+
+-- The ended lines of a text, each as its fields.
+abbrev pub lines_of : List Token → List (List (List ℕ))
+lines_of [] = []
+lines_of (Newline ∷ ts) = [] ∷ lines_of ts
+lines_of (Field f ∷ ts) = onto_line f (lines_of ts)
+
+-- Lines with their numbers, which count from `first`.
+abbrev pub numbered : ℕ → List (List (List ℕ)) → List (ℕ × List (List ℕ))
+numbered first [] = []
+numbered first (line ∷ lines) = (first, line) ∷ numbered (first + 1) lines
+
+-- What stands at a span.
+abbrev pub span_text : List ℕ → Span → List ℕ
+span_text bytes span = take (span.end - span.start) (drop span.start bytes)
+
+-- A line's number, and the texts of its fields.
+abbrev pub numbered_fields : List ℕ → Line → ℕ × List (List ℕ)
+numbered_fields bytes line = (line.number, map (span_text bytes) line.fields)
+
+-- A span is inside a text of this length.
+pub record IsWithin (len : ℕ) (span : Span) : Type 0 where
+  pub ordered : span.start ≤ span.end
+  pub inside : span.end ≤ len
+
+-- The spans of a line are.
+abbrev pub IsLineWithin : ℕ → Line → Type 0
+IsLineWithin len line = All (IsWithin len) line.fields
+
+-- The line that begins at a place: its spans and the place after it, or none where no line ends ahead.
+abbrev pub IsLineAhead : List ℕ → ℕ → Option (List Span × ℕ) → Type 0
+IsLineAhead bytes start None = lines_of (tokens (drop start bytes)) ≡ []
+IsLineAhead bytes start (Some p) =
+    (lines_of (tokens (drop start bytes)) ≡ map (span_text bytes) p.0 ∷ lines_of (tokens (drop p.1 bytes))) × All (IsWithin (length bytes)) p.0 × (start < p.1) × (p.1 ≤ length bytes)

@@ -1,0 +1,206 @@
+-- Reading a text from left to right, with the first fault that is met.
+use Rattle.std.specs.Prelude.{◌≡◌, ℕ, zero, suc, ◌+◌, Bool, false, ◌&&◌, List, [], ◌∷◌, Option, Some, None, ok_or, Result, Ok, Err, nat_le, if◌then◌else◌, ℤ}
+use Rattle.std.specs.Str.{bytes_eq}
+use Rattle.ps_lines.specs.declared.form_name.FormName.{FormName}
+use Rattle.ps_lines.specs.declared.form_name.FormName.TheVariants as name
+use Rattle.ps_lines.specs.declared.form_fault.FormFault.{FormFault}
+use Rattle.ps_lines.specs.declared.form_end.FormEnd.{FormEnd}
+use Rattle.ps_lines.specs.declared.form_end.FormEnd.TheVariants.{Fault, Memory}
+use Rattle.ps_lines.specs.Tokens.{Token, Field, Newline, tokens, has_newline, next_field}
+use Rattle.ps_lines.specs.Decimal.{counts_as_decimal, u32_of, u128_of, i128_of}
+
+-- A place in a text: the line's number, the next field's number, and the tokens that are left.
+pub record At : Type 0 where
+  pub line : ℕ
+  pub field : ℕ
+  pub tokens : List Token
+
+-- The start of a text whose lines count from `first`.
+abbrev pub start : ℕ → List ℕ → At
+start first bytes = record { line = first; field = 1; tokens = tokens bytes }
+
+-- A reading function gives what it read and the place after it, or the first fault.
+abbrev pub Read : Type 0 → Type 0
+Read A = At → Result (A × At) FormFault
+
+-- One step, and then another from its value.
+infixl 10 ◌>>=◌
+unfoldable pub and_then : {A B : Type 0} → Result A FormFault → (A → Result B FormFault) → Result B FormFault
+and_then (Ok x) f = f x
+and_then (Err e) f = Err e
+
+-- The same, between the lines of a `do`.
+abbrev pub ◌>>=◌ : {A B : Type 0} → Result A FormFault → (A → Result B FormFault) → Result B FormFault
+r >>= f = and_then r f
+
+-- A fault at the next field.
+abbrev pub fault_at : At → FormName → FormFault
+fault_at at what = record { line = at.line; field = at.field; what = what }
+
+-- A fault of the line as a whole.
+abbrev pub line_fault : At → FormName → FormFault
+line_fault at what = record { line = at.line; field = 0; what = what }
+
+-- ---- steps
+
+-- The next field, from a line's number, the field's, and the tokens ahead.
+abbrev pub field_from : ℕ → ℕ → List Token → Result (List ℕ × At) FormFault
+field_from line field (Field f ∷ ts) = Ok (f, record { line = line; field = field + 1; tokens = ts })
+field_from line field ts = Err (record { line = line; field = field; what = name.Count })
+
+-- The next field of the line: `count` there where the line has none.
+abbrev pub field_at : Read (List ℕ)
+field_at at = field_from at.line at.field at.tokens
+
+-- What a field is read as, or the fault at its place.
+abbrev pub placed : {A : Type 0} → ℕ → ℕ → Result A FormName → Result A FormFault
+placed line field (Ok x) = Ok x
+placed line field (Err what) = Err (record { line = line; field = field; what = what })
+
+-- The next field, as a value.
+unfoldable pub leaf_at : {A : Type 0} → (List ℕ → Result A FormName) → Read A
+leaf_at leaf at = do
+  f ← field_at at
+  x ← placed at.line at.field (leaf f.0)
+  Ok (x, f.1)
+
+-- A field that is this word.
+abbrev pub word_leaf : List ℕ → List ℕ → Result (Unit {0}) FormName
+word_leaf word field = if bytes_eq field word then Ok tt else Err name.Word
+
+-- The next field is this word.
+abbrev pub word_at : List ℕ → Read (Unit {0})
+word_at word = leaf_at (word_leaf word)
+
+-- A line begins, and its first field is this word. A line that isn't ended, or isn't there, is `cut`.
+unfoldable pub line_at : List ℕ → Read (Unit {0})
+line_at word at = if has_newline at.tokens then word_at word at else Err (line_fault at name.Cut)
+
+-- The end of a line, from the line's number, the next field's, and the tokens ahead.
+abbrev pub end_from : ℕ → ℕ → List Token → Result (Unit {0} × At) FormFault
+end_from line field (Newline ∷ ts) = Ok (tt, record { line = line + 1; field = 1; tokens = ts })
+end_from line field ts = Err (record { line = line; field = field; what = name.Count })
+
+-- The line ends: `count` at the next field where there is one.
+abbrev pub end_at : Read (Unit {0})
+end_at at = end_from at.line at.field at.tokens
+
+-- A line that is this word alone.
+unfoldable pub only_at : List ℕ → Read (Unit {0})
+only_at word at = do
+  w ← line_at word at
+  end_at w.1
+
+-- The end of the text, from the line's number and the tokens ahead.
+abbrev pub done_from : ℕ → List Token → Result (Unit {0}) FormFault
+done_from line [] = Ok tt
+done_from line (t ∷ ts) = Err (record { line = line; field = 0; what = name.Word })
+
+-- The text ends: `word` at the line that follows where one does, ended or not.
+abbrev pub done_at : At → Result (Unit {0}) FormFault
+done_at at = done_from at.line at.tokens
+
+-- ---- decimals
+
+-- A field that counts as a decimal, and is one of a type.
+abbrev pub decimal_leaf : {A : Type 0} → (List ℕ → Option A) → List ℕ → Result A FormName
+decimal_leaf of field = if counts_as_decimal field then ok_or (of field) name.Number else Err name.Field
+
+-- A decimal of 32 bits.
+abbrev pub natural32 : List ℕ → Result ℕ FormName
+natural32 = decimal_leaf u32_of
+
+-- A decimal of 128 bits.
+abbrev pub natural : List ℕ → Result ℕ FormName
+natural = decimal_leaf u128_of
+
+-- A signed decimal of 128 bits.
+abbrev pub integer : List ℕ → Result ℤ FormName
+integer = decimal_leaf i128_of
+
+-- A number that is within its limit.
+abbrev pub within : ℕ → Result ℕ FormName → Result ℕ FormName
+within limit (Ok n) = if nat_le n limit then Ok n else Err name.Limit
+within limit (Err what) = Err what
+
+-- A stated count: a decimal of 32 bits, at most its limit.
+abbrev pub count : ℕ → List ℕ → Result ℕ FormName
+count limit field = within limit (natural32 field)
+
+-- A line of a word and a stated count.
+unfoldable pub header_at : List ℕ → ℕ → Read ℕ
+header_at word limit at = do
+  w ← line_at word at
+  n ← leaf_at (count limit) w.1
+  e ← end_at n.1
+  Ok (n.0, e.1)
+
+-- ---- repetitions
+
+-- One after the other, this many.
+unfoldable pub times_at : {A : Type 0} → Read A → ℕ → Read (List A)
+times_at read zero at = Ok ([], at)
+times_at read (suc n) at = do
+  x ← read at
+  xs ← times_at read n x.1
+  Ok (x.0 ∷ xs.0, xs.1)
+
+-- The fields of a line as long as `goes` passes them, each read in the state that the ones before it left.
+unfoldable pub list_from : {A S : Type 0} → (List ℕ → Bool) → (S → List ℕ → Result A FormName) → (S → A → S) → S → ℕ → ℕ → List Token → Result (List A × At) FormFault
+list_from goes leaf step state line field [] = Ok ([], record { line = line; field = field; tokens = [] })
+list_from goes leaf step state line field (Newline ∷ ts) = Ok ([], record { line = line; field = field; tokens = Newline ∷ ts })
+list_from goes leaf step state line field (Field f ∷ ts) =
+    if goes f then (placed line field (leaf state f) >>= λ x. list_from goes leaf step (step state x) line (field + 1) ts >>= λ xs. Ok (x ∷ xs.0, xs.1))
+    else Ok ([], record { line = line; field = field; tokens = Field f ∷ ts })
+
+-- The same, from a place.
+abbrev pub list_at : {A S : Type 0} → (List ℕ → Bool) → (S → List ℕ → Result A FormName) → (S → A → S) → S → Read (List A)
+list_at goes leaf step state at = list_from goes leaf step state at.line at.field at.tokens
+
+-- Whether a list goes on with what stands next.
+abbrev pub goes_on : (List ℕ → Bool) → Option (List ℕ) → Bool
+goes_on goes None = false
+goes_on goes (Some f) = goes f
+
+-- The next member of a list, or none where the list ends.
+abbrev pub member_at : {A : Type 0} → (List ℕ → Bool) → (List ℕ → Result A FormName) → Read (Option A)
+member_at goes leaf at = if goes_on goes (next_field at.tokens) then (leaf_at leaf at >>= λ x. Ok (Some x.0, x.1)) else Ok (None, at)
+
+-- Whether the tokens begin with this word, in a line that is ended.
+abbrev pub begins_from : List ℕ → List Token → Bool
+begins_from word (Field f ∷ ts) = bytes_eq f word && has_newline ts
+begins_from word ts = false
+
+-- Whether an ended line begins at a place with this word.
+abbrev pub begins_at : List ℕ → At → Bool
+begins_at word at = begins_from word at.tokens
+
+-- As many lines as begin with the word, and at most `limit`: `limit` at the first one that is too much.
+unfoldable pub while_at : {A : Type 0} → List ℕ → Read A → ℕ → Read (List A)
+while_at word read zero at = if begins_at word at then Err (line_fault at name.Limit) else Ok ([], at)
+while_at word read (suc n) at =
+    if begins_at word at then (read at >>= λ x. while_at word read n x.1 >>= λ xs. Ok (x.0 ∷ xs.0, xs.1)) else Ok ([], at)
+
+-- ---- what calls promise
+
+-- A call that takes no memory answers what a reading function gives. After a fault nothing is said of the place.
+abbrev pub Reads : {X A : Type 0} → (X → A) → Result X FormFault → At → Result (A × At) FormFault → Type 0
+Reads view (Ok x) now read = read ≡ Ok (view x, now)
+Reads view (Err fault) now read = read ≡ Err fault
+
+-- The same of a call that takes memory: where memory runs out nothing is said.
+abbrev pub Gives : {X A : Type 0} → (X → A) → Result X FormEnd → At → Result (A × At) FormFault → Type 0
+Gives view (Ok x) now read = read ≡ Ok (view x, now)
+Gives view (Err (Fault fault)) now read = read ≡ Err fault
+Gives view (Err (Memory e)) now read = Unit {0}
+
+-- The same of a call that reads a whole text: its answer is this one, unless memory runs out.
+abbrev pub Tells : {X A : Type 0} → (X → A) → Result X FormEnd → Result A FormFault → Type 0
+Tells view (Ok x) answer = answer ≡ Ok (view x)
+Tells view (Err (Fault fault)) answer = answer ≡ Err fault
+Tells view (Err (Memory e)) answer = Unit {0}
+
+-- The value of a whole text, without the place.
+abbrev pub value_of : {A : Type 0} → Result (A × At) FormFault → Result A FormFault
+value_of (Ok x) = Ok x.0
+value_of (Err fault) = Err fault

@@ -1,0 +1,311 @@
+-- The laws of causes of refusals, in steps: where a reading function stands in the whole text, what it is to pass a word
+-- there that has no cause of a refusal, and what a refusal there promises of its cause.
+use Rattle.std.proofs.Common.{◌≡◌, ℕ, ◌+◌, ◌<◌, ◌≤◌, Bool, true, false, ◌&&◌, ◌||◌, List, [], ◌∷◌, ◌++◌, length, Some, None, Result, inl, inr, refl, sym, ap, subst, ◌∙◌, arith}
+use Rattle.std.specs.Prelude.{Contains, if◌then◌else◌}
+use Rattle.std.proofs.lemmas.Bool.{cond-false, or_parts, true≢false}
+use Rattle.ps_token.specs.declared.place.Place.{Place}
+use Rattle.ps_token.specs.declared.token_kind.TokenKind.{TokenKind}
+use Rattle.ps_token.specs.declared.token_kind.TokenKind.TheVariants as kind
+use Rattle.ps_term.specs.declared.var.Var.{Var}
+use Rattle.ps_tree.specs.declared.limit_name.LimitName.TheVariants as limit
+use Rattle.ps_parse.specs.declared.read_refusal.ReadRefusal.{ReadRefusal}
+use Rattle.ps_parse.specs.declared.read_refusal.ReadRefusal.TheVariants as refusal
+use Rattle.ps_parse.specs.Causes.{words_at, is_declaration, declared_in, is_after_factor, count_of, rows_in, Level, atomic_block, levels_with, levels, opens_level, GivesRows, IsCauseAt, IsCause, HasCause, IsClean, rank, IsFirstCause}
+use Rattle.ps_grammar.specs.Declarations.{most_globals, most_levels, most_locals, most_rows}
+use Rattle.ps_grammar.specs.Names.{Names, variable_of}
+use Rattle.ps_parse.specs.Reads.{refusal_place}
+use Rattle.ps_grammar.specs.Spelling.{Piece, Mark, pieces}
+use Rattle.ps_grammar.specs.Words.{Word}
+use Rattle.ps_parse.specs.Reading.{At, Read, ◌>>=◌, is_kind, begins_with, place_of_next, word_from, word_at, after_word}
+use Rattle.ps_parse.proofs.Steps.{one_kind, same_kind, Takes, takes_pieces, begins_piece, begins_pieces}
+use Rattle.ps_parse.proofs.Guards.{Keeps, keeps_bind, keeps_more}
+
+-- all the words of a text, and its end
+pub record Whole : Type 0 where
+  pub words : List Word
+  pub end : Place
+
+-- The words that were passed, the nearest first, and those ahead are the whole text; no word that was passed has a cause
+-- of a refusal; and the names are those that were declared.
+pub record In (t : Whole) (names : Names) (back : List Word) (at : At) : Type 0 where
+  pub whole : words_at back at.words ≡ t.words
+  pub ends : at.end ≡ t.end
+  pub clean : IsClean back at.words
+  pub known : (x : List ℕ) (v : Var) → variable_of names x ≡ Some v → Contains (declared_in back) x
+  pub unknown : (x : List ℕ) → variable_of names x ≡ None → ¬ Contains (declared_in back) x
+
+-- what a refusal promises
+abbrev pub Blamed : Whole → ReadRefusal → Type 0
+Blamed t e = IsFirstCause t.words t.end e
+
+-- ---- words without a cause
+
+-- `global`, `local` or `init`
+abbrev pub opens_item : TokenKind → Bool
+opens_item k = is_kind k kind.Global || is_kind k kind.Local || is_kind k kind.Init
+
+spelled_first : (k : TokenKind) (ps : List Piece) (w : Word) (ahead front rest : List Word) → w ∷ ahead ≡ front ++ rest → pieces front ≡ Mark k ∷ ps → w.kind ≡ k
+spelled_first k ps w ahead front rest split spelled =
+    let taken : Takes (w ∷ ahead) (Mark k ∷ ps) rest = record { front = front; split = split; spelled = spelled } in
+    one_kind w.kind k (begins_pieces k (w ∷ ahead) ∙ ap (begins_piece k) (takes_pieces taken) ∙ same_kind k k refl)
+
+-- where words give rows, an item begins
+rows_open : (w : Word) (ahead : List Word) (rows : ℕ) → GivesRows (w ∷ ahead) rows → opens_item w.kind ≡ true
+rows_open w ahead rows (inl h) = ap opens_item (spelled_first kind.Global _ w ahead h.0.front h.0.rest h.0.split h.0.spelled)
+rows_open w ahead rows (inr h) = ap opens_item (spelled_first kind.Init _ w ahead h.0.front h.0.rest h.0.split h.0.spelled)
+
+-- what rules out each cause of a refusal at a word
+pub record Allows (back : List Word) (w : Word) (ahead : List Word) : Type 0 where
+  pub known : w.kind ≡ kind.Name → is_declaration back ≡ false → Contains (declared_in back) w.text
+  pub new : w.kind ≡ kind.Name → is_declaration back ≡ true → ¬ Contains (declared_in back) w.text
+  pub linear : w.kind ≡ kind.Name → is_after_factor back ≡ false
+  pub globals : w.kind ≡ kind.Name → begins_with kind.Global back ≡ true → count_of kind.Global back ≤ most_globals
+  pub locals : w.kind ≡ kind.Name → begins_with kind.Local back ≡ true → count_of kind.Local back ≤ most_locals
+  pub loops : w.kind ≡ kind.While → ¬ Contains (levels back) atomic_block
+  pub rows : opens_item w.kind ≡ true → (rows : ℕ) → GivesRows (w ∷ ahead) rows → rows_in back + rows ≤ most_rows
+  pub depth : opens_level w.kind ≡ true → length (levels back) < most_levels
+
+pub no_cause : {back : List Word} {w : Word} {ahead : List Word} → Allows back w ahead → (other : ReadRefusal) → ¬ IsCauseAt back w ahead other
+no_cause a (refusal.UnknownName p) h = h.2 (a.known h.0 h.1)
+no_cause a (refusal.Twice p) h = a.new h.0 h.1 h.2
+no_cause a (refusal.NotLinear p) h = true≢false (sym h.1 ∙ a.linear h.0)
+no_cause a (refusal.LoopInAtomic p) h = a.loops h.0 h.1
+no_cause a (refusal.Limit p limit.Globals) h = let b = a.globals h.0 h.1 in omega (arith, b, h.2)
+no_cause a (refusal.Limit p limit.Locals) h = let b = a.locals h.0 h.1 in omega (arith, b, h.2)
+no_cause {w = w} {ahead = ahead} a (refusal.Limit p limit.Init) h = let b = a.rows (rows_open w ahead h.0 h.1) h.0 h.1 in omega (arith, b, h.2)
+no_cause a (refusal.Limit p limit.Depth) h = let b = a.depth h.0 in omega (arith, b, h.1)
+no_cause a (refusal.Limit p what) h = h
+no_cause a (refusal.Token p) h = h
+no_cause a (refusal.Grammar p) h = h
+no_cause a (refusal.Memory e) h = h
+
+-- a word of the one kind isn't one of the other
+pub kind_clash : {A : Type 0} (w : Word) {k j : TokenKind} → w.kind ≡ k → is_kind k j ≡ false → w.kind ≡ j → A
+kind_clash w {k = k} {j = j} e no' h = absurd (true≢false (sym (same_kind k j (sym e ∙ h)) ∙ no'))
+
+pub test_clash : {A : Type 0} (w : Word) {k : TokenKind} (f : TokenKind → Bool) → w.kind ≡ k → f k ≡ false → f w.kind ≡ true → A
+test_clash w f e no' h = absurd (true≢false (sym h ∙ ap f e ∙ no'))
+
+-- some words of the kind have a cause of a refusal
+abbrev pub has_causes : TokenKind → Bool
+has_causes k = is_kind k kind.Name || (is_kind k kind.While || (opens_item k || opens_level k))
+
+pub plain : (back : List Word) (w : Word) (ahead : List Word) (k : TokenKind) → has_causes k ≡ false → w.kind ≡ k → Allows back w ahead
+plain back w ahead k h e =
+    let a : (is_kind k kind.Name ≡ false) × ((is_kind k kind.While || (opens_item k || opens_level k)) ≡ false) = or_parts _ _ h in
+    let b : (is_kind k kind.While ≡ false) × ((opens_item k || opens_level k) ≡ false) = or_parts _ _ a.1 in
+    let c : (opens_item k ≡ false) × (opens_level k ≡ false) = or_parts _ _ b.1 in
+    record {
+      known = λ i. kind_clash w e a.0 i;
+      new = λ i. kind_clash w e a.0 i;
+      linear = λ i. kind_clash w e a.0 i;
+      globals = λ i. kind_clash w e a.0 i;
+      locals = λ i. kind_clash w e a.0 i;
+      loops = λ i. kind_clash w e b.0 i;
+      rows = λ i. test_clash w opens_item e c.0 i;
+      depth = λ i. test_clash w opens_level e c.1 i;
+    }
+
+-- `{`, `(` and `!`, where fewer levels are open than may be
+pub opening : (back : List Word) (w : Word) (ahead : List Word) (k : TokenKind) → (is_kind k kind.Name || (is_kind k kind.While || opens_item k)) ≡ false → length (levels back) < most_levels → w.kind ≡ k → Allows back w ahead
+opening back w ahead k h few e =
+    let a : (is_kind k kind.Name ≡ false) × ((is_kind k kind.While || opens_item k) ≡ false) = or_parts _ _ h in
+    let b : (is_kind k kind.While ≡ false) × (opens_item k ≡ false) = or_parts _ _ a.1 in
+    record {
+      known = λ i. kind_clash w e a.0 i;
+      new = λ i. kind_clash w e a.0 i;
+      linear = λ i. kind_clash w e a.0 i;
+      globals = λ i. kind_clash w e a.0 i;
+      locals = λ i. kind_clash w e a.0 i;
+      loops = λ i. kind_clash w e b.0 i;
+      rows = λ i. test_clash w opens_item e b.1 i;
+      depth = λ i. few;
+    }
+
+-- `while`, where no atomic block is open
+pub looping : (back : List Word) (w : Word) (ahead : List Word) → ¬ Contains (levels back) atomic_block → w.kind ≡ kind.While → Allows back w ahead
+looping back w ahead out e = record {
+  known = λ i. kind_clash w e refl i;
+  new = λ i. kind_clash w e refl i;
+  linear = λ i. kind_clash w e refl i;
+  globals = λ i. kind_clash w e refl i;
+  locals = λ i. kind_clash w e refl i;
+  loops = λ i. out;
+  rows = λ i. test_clash w opens_item e refl i;
+  depth = λ i. test_clash w opens_level e refl i;
+}
+
+begins_either : (back : List Word) → is_declaration back ≡ false → (begins_with kind.Global back ≡ false) × (begins_with kind.Local back ≡ false)
+begins_either back h = or_parts _ _ h
+
+-- a name that was declared
+pub naming : (back : List Word) (w : Word) (ahead : List Word) → is_declaration back ≡ false → is_after_factor back ≡ false → Contains (declared_in back) w.text → w.kind ≡ kind.Name → Allows back w ahead
+naming back w ahead outside linear known e =
+    let b : (begins_with kind.Global back ≡ false) × (begins_with kind.Local back ≡ false) = or_parts _ _ outside in
+    record {
+      known = λ i h. known;
+      new = λ i h. absurd (true≢false (sym h ∙ outside));
+      linear = λ i. linear;
+      globals = λ i h. absurd (true≢false (sym h ∙ b.0));
+      locals = λ i h. absurd (true≢false (sym h ∙ b.1));
+      loops = λ i. kind_clash w e refl i;
+      rows = λ i. test_clash w opens_item e refl i;
+      depth = λ i. test_clash w opens_level e refl i;
+    }
+
+-- ---- passing a word
+
+-- a word that declares no name
+pub stepped : {t : Whole} {names : Names} {back : List Word} {w : Word} {ws : List Word} {end : Place} → In t names back (record { words = w ∷ ws; end = end }) → is_declaration back ≡ false → Allows back w ws → In t names (w ∷ back) (record { words = ws; end = end })
+stepped {names = names} {back = back} {w = w} {ws = ws} h outside a =
+    let same : declared_in (w ∷ back) ≡ declared_in back = cond-false _ _ _ outside in
+    record {
+      whole = h.whole;
+      ends = h.ends;
+      clean = (no_cause a, h.clean);
+      known = λ x v e. subst (λ (xs : List (List ℕ)). Contains xs x) (sym same) (h.known x v e);
+      unknown = λ x e c. h.unknown x e (subst (λ (xs : List (List ℕ)). Contains xs x) same c);
+    }
+
+-- what the nearest word is none of: `global`, `local`, `*` after a name, and `atomic` where it isn't asked for
+pub record Fresh (after : Bool) (back : List Word) : Type 0 where
+  pub declaration : is_declaration back ≡ false
+  pub factor : is_after_factor back ≡ false
+  pub atomic : begins_with kind.Atomic back ≡ after
+
+-- what follows a word of the kind rests on it
+abbrev pub joins : TokenKind → Bool
+joins k = is_kind k kind.Star || (is_kind k kind.Global || is_kind k kind.Local)
+
+pub fresh_word : {w : Word} (k : TokenKind) (back : List Word) → joins k ≡ false → w.kind ≡ k → Fresh (is_kind k kind.Atomic) (w ∷ back)
+fresh_word {w = w} k back h e =
+    let a : (is_kind k kind.Star ≡ false) × ((is_kind k kind.Global || is_kind k kind.Local) ≡ false) = or_parts _ _ h in
+    record {
+      declaration = ap (λ (j : TokenKind). is_kind j kind.Global || is_kind j kind.Local) e ∙ a.1;
+      factor = ap (λ (j : TokenKind). is_kind j kind.Star && begins_with kind.Name back) e ∙ ap (λ (b : Bool). b && begins_with kind.Name back) a.0;
+      atomic = ap (λ (j : TokenKind). is_kind j kind.Atomic) e;
+    }
+
+-- `*`, but not after a name
+pub fresh_star : {w : Word} (back : List Word) → begins_with kind.Name back ≡ false → w.kind ≡ kind.Star → Fresh false (w ∷ back)
+fresh_star {w = w} back h e = record {
+  declaration = ap (λ (j : TokenKind). is_kind j kind.Global || is_kind j kind.Local) e;
+  factor = ap (λ (j : TokenKind). is_kind j kind.Star && begins_with kind.Name back) e ∙ h;
+  atomic = ap (λ (j : TokenKind). is_kind j kind.Atomic) e;
+}
+
+-- the levels after a word
+pub level_word : (w : Word) (k : TokenKind) (back : List Word) (atomic : Bool) (ls : List Level) → w.kind ≡ k → begins_with kind.Atomic back ≡ atomic → levels back ≡ ls → levels (w ∷ back) ≡ levels_with atomic k ls
+level_word w k back atomic ls e a h =
+    ap (λ (j : TokenKind). levels_with (begins_with kind.Atomic back) j (levels back)) e
+    ∙ ap (λ (b : Bool). levels_with b k (levels back)) a
+    ∙ ap (λ (xs : List Level). levels_with atomic k xs) h
+
+-- ---- refusals
+
+pub blame : {t : Whole} {names : Names} {back ws : List Word} {end : Place} (e : ReadRefusal) → In t names back (record { words = ws; end = end }) → refusal_place e ≡ Some (place_of_next ws end)
+    → HasCause back ws e → ((other : ReadRefusal) → IsCause back ws other → rank e ≤ rank other) → Blamed t e
+blame {back = back} {ws = ws} e h place cause least = record {
+  back = back;
+  ahead = ws;
+  split = sym h.whole;
+  place_is = place ∙ ap (λ (o : Place). Some (place_of_next ws o)) h.ends;
+  cause = cause;
+  first_here = least;
+  first = h.clean;
+}
+
+-- no second name of a product stands next
+abbrev pub Linear : List Word → List Word → Type 0
+Linear back ws = (is_after_factor back && begins_with kind.Name ws) ≡ false
+
+pub fresh_linear : {atomic : Bool} {back : List Word} (ws : List Word) → Fresh atomic back → Linear back ws
+fresh_linear ws f = ap (λ (b : Bool). b && begins_with kind.Name ws) f.factor
+
+pub least_grammar : (back ws : List Word) → Linear back ws → (other : ReadRefusal) → IsCause back ws other → 1 ≤ rank other
+least_grammar back [] l other h = absurd h
+least_grammar back (w ∷ ws) l (refusal.NotLinear p) h =
+    absurd (true≢false (sym (ap (λ (b : Bool). b && is_kind w.kind kind.Name) h.1 ∙ same_kind w.kind kind.Name h.0) ∙ l))
+least_grammar back (w ∷ ws) l (refusal.Grammar p) h = absurd h
+least_grammar back (w ∷ ws) l (refusal.UnknownName p) h = omega arith
+least_grammar back (w ∷ ws) l (refusal.Twice p) h = omega arith
+least_grammar back (w ∷ ws) l (refusal.LoopInAtomic p) h = omega arith
+least_grammar back (w ∷ ws) l (refusal.Limit p what) h = omega arith
+least_grammar back (w ∷ ws) l (refusal.Token p) h = omega arith
+least_grammar back (w ∷ ws) l (refusal.Memory e) h = omega arith
+
+pub grammar_blamed : {t : Whole} {names : Names} {back ws : List Word} {end : Place} → In t names back (record { words = ws; end = end }) → Linear back ws → Blamed t (refusal.Grammar (place_of_next ws end))
+grammar_blamed {back = back} {ws = ws} {end = end} h l = blame (refusal.Grammar (place_of_next ws end)) h refl tt (least_grammar back ws l)
+
+-- at a word that is neither a name nor `while`, only limits have a cause
+pub least_limit : (back : List Word) (w : Word) (ws : List Word) (k : TokenKind) → w.kind ≡ k → (is_kind k kind.Name || is_kind k kind.While) ≡ false → (other : ReadRefusal) → IsCauseAt back w ws other → 5 ≤ rank other
+least_limit back w ws k e c (refusal.UnknownName p) h = kind_clash w e (or_parts _ _ c).0 h.0
+least_limit back w ws k e c (refusal.Twice p) h = kind_clash w e (or_parts _ _ c).0 h.0
+least_limit back w ws k e c (refusal.NotLinear p) h = kind_clash w e (or_parts _ _ c).0 h.0
+least_limit back w ws k e c (refusal.LoopInAtomic p) h = kind_clash w e (or_parts _ _ c).1 h.0
+least_limit back w ws k e c (refusal.Limit p what) h = omega arith
+least_limit back w ws k e c (refusal.Grammar p) h = absurd h
+least_limit back w ws k e c (refusal.Token p) h = omega arith
+least_limit back w ws k e c (refusal.Memory e') h = omega arith
+
+pub depth_blamed : {t : Whole} {names : Names} {back : List Word} {w : Word} {ws : List Word} {end : Place} (k : TokenKind) → In t names back (record { words = w ∷ ws; end = end }) → w.kind ≡ k → (is_kind k kind.Name || is_kind k kind.While) ≡ false → opens_level k ≡ true → most_levels ≤ length (levels back) → Blamed t (refusal.Limit w.place limit.Depth)
+depth_blamed {back = back} {w = w} {ws = ws} k h e c o many = blame (refusal.Limit w.place limit.Depth) h refl (ap opens_level e ∙ o, many) (least_limit back w ws k e c)
+
+least_loop : (back : List Word) (w : Word) (ws : List Word) → w.kind ≡ kind.While → (other : ReadRefusal) → IsCauseAt back w ws other → 4 ≤ rank other
+least_loop back w ws e (refusal.UnknownName p) h = kind_clash w e refl h.0
+least_loop back w ws e (refusal.Twice p) h = kind_clash w e refl h.0
+least_loop back w ws e (refusal.NotLinear p) h = kind_clash w e refl h.0
+least_loop back w ws e (refusal.LoopInAtomic p) h = omega arith
+least_loop back w ws e (refusal.Limit p what) h = omega arith
+least_loop back w ws e (refusal.Grammar p) h = absurd h
+least_loop back w ws e (refusal.Token p) h = omega arith
+least_loop back w ws e (refusal.Memory e') h = omega arith
+
+pub loop_blamed : {t : Whole} {names : Names} {back : List Word} {w : Word} {ws : List Word} {end : Place} → In t names back (record { words = w ∷ ws; end = end }) → w.kind ≡ kind.While → Contains (levels back) atomic_block → Blamed t (refusal.LoopInAtomic w.place)
+loop_blamed {back = back} {w = w} {ws = ws} h e inside = blame (refusal.LoopInAtomic w.place) h refl (e, inside) (least_loop back w ws e)
+
+least_unknown : (back : List Word) (w : Word) (ws : List Word) → is_after_factor back ≡ false → (other : ReadRefusal) → IsCauseAt back w ws other → 2 ≤ rank other
+least_unknown back w ws l (refusal.NotLinear p) h = absurd (true≢false (sym h.1 ∙ l))
+least_unknown back w ws l (refusal.Grammar p) h = absurd h
+least_unknown back w ws l (refusal.UnknownName p) h = omega arith
+least_unknown back w ws l (refusal.Twice p) h = omega arith
+least_unknown back w ws l (refusal.LoopInAtomic p) h = omega arith
+least_unknown back w ws l (refusal.Limit p what) h = omega arith
+least_unknown back w ws l (refusal.Token p) h = omega arith
+least_unknown back w ws l (refusal.Memory e) h = omega arith
+
+pub unknown_blamed : {t : Whole} {names : Names} {back : List Word} {w : Word} {ws : List Word} {end : Place} → In t names back (record { words = w ∷ ws; end = end }) → w.kind ≡ kind.Name → is_declaration back ≡ false → is_after_factor back ≡ false → ¬ Contains (declared_in back) w.text → Blamed t (refusal.UnknownName w.place)
+unknown_blamed {back = back} {w = w} {ws = ws} h e outside l none = blame (refusal.UnknownName w.place) h refl (e, outside, none) (least_unknown back w ws l)
+
+pub linear_blamed : {t : Whole} {names : Names} {back : List Word} {w : Word} {ws : List Word} {end : Place} → In t names back (record { words = w ∷ ws; end = end }) → w.kind ≡ kind.Name → is_after_factor back ≡ true → Blamed t (refusal.NotLinear w.place)
+linear_blamed {w = w} h e l = blame (refusal.NotLinear w.place) h refl (e, l) (λ other c. omega arith)
+
+-- ---- laws
+
+-- one step, and then another
+pub then_keeps : {A B : Type 0} (r : Result A ReadRefusal) (f : A → Result B ReadRefusal) (Q : A → Type 0) (Q' : B → Type 0) (R : ReadRefusal → Type 0) → Keeps r Q R → ((x : A) → Q x → Keeps (f x) Q' R) → Keeps (r >>= f) Q' R
+then_keeps r f Q Q' R h k = keeps_bind r f Q R Q' R h k (λ e b. b)
+
+pub if_keeps : {A : Type 0} (t : Bool) (r s : Result A ReadRefusal) (Q : A → Type 0) (R : ReadRefusal → Type 0) → (t ≡ true → Keeps r Q R) → (t ≡ false → Keeps s Q R) → Keeps (if t then r else s) Q R
+if_keeps true r s Q R h k = h refl
+if_keeps false r s Q R h k = k refl
+
+pub after_keeps : {A : Type 0} (k : TokenKind) (read : Read A) (at : At) (Q : Word × At → Type 0) (Q' : A × At → Type 0) (R : ReadRefusal → Type 0) → Keeps (word_at k at) Q R → ((w : Word × At) → Q w → Keeps (read w.1) Q' R) → Keeps (after_word k read at) Q' R
+unfolding after_word
+after_keeps k read at Q Q' R h n = then_keeps _ _ Q Q' R h n
+
+-- a word of the kind stands next
+pub found_word : {t : Whole} {names : Names} {back : List Word} {at : At} (k : TokenKind) → In t names back at → Linear back at.words
+    → Keeps (word_at k at) (λ y. (y.0.kind ≡ k) × In t names back (record { words = y.0 ∷ y.1.words; end = y.1.end })) (Blamed t)
+unfolding word_at
+found_word {t = t} {names = names} {back = back} {at = at} k h l = by_words at.words at.end h l
+  where
+    by_words : (ws : List Word) (end : Place) → In t names back (record { words = ws; end = end }) → Linear back ws → Keeps (word_from k ws end) (λ y. (y.0.kind ≡ k) × In t names back (record { words = y.0 ∷ y.1.words; end = y.1.end })) (Blamed t)
+    by_words [] end h l = record { is = grammar_blamed h l }
+    by_words (w ∷ ws) end h l =
+        if_keeps (is_kind w.kind k) _ _ _ _ (λ e. record { is = (one_kind w.kind k e, h) }) (λ e. record { is = grammar_blamed h l })
+
+-- the same, and it is passed
+pub word_keeps : {t : Whole} {names : Names} {back : List Word} {at : At} (k : TokenKind) → In t names back at → Linear back at.words → is_declaration back ≡ false → ((w : Word) (ahead : List Word) → w.kind ≡ k → Allows back w ahead)
+    → Keeps (word_at k at) (λ y. (y.0.kind ≡ k) × In t names (y.0 ∷ back) y.1) (Blamed t)
+word_keeps k h l outside allows = keeps_more _ _ _ _ _ (found_word k h l) (λ y p. (p.0, stepped p.1 outside (allows y.0 y.1.words p.0))) (λ e b. b)

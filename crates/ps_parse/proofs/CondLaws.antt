@@ -1,0 +1,318 @@
+-- The laws of conditions and tests.
+use Rattle.std.proofs.Common.{◌≡◌, ℕ, zero, suc, ◌-◌, Bool, ◌||◌, List, [], ◌∷◌, ◌++◌, map, length, drop, Some, refl, sym, ap, subst, ◌∙◌, arith, append_assoc}
+use Rattle.std.specs.List.{flat_map, AllByRecursion}
+use Rattle.std.proofs.lemmas.List.{append-nil}
+use Rattle.ps_token.specs.declared.place.Place.{Place}
+use Rattle.ps_token.specs.declared.token_kind.TokenKind.{TokenKind}
+use Rattle.ps_token.specs.declared.token_kind.TokenKind.TheVariants as kind
+use Rattle.ps_tree.specs.declared.cond.Cond.{Cond}
+use Rattle.ps_tree.specs.declared.cond.Cond.TheVariants as cond
+use Rattle.ps_tree.specs.declared.cond.Test.TheVariants as test
+use Rattle.ps_grammar.specs.Grammar.{CondText, last_conj, or_else, ConjText, last_unary, and_also, UnaryText, negation, in_parens, relation, TestText, either, condition}
+use Rattle.ps_parse.specs.Reading.{At, Read, next_is, after_word}
+use Rattle.ps_grammar.specs.Names.{Names}
+use Rattle.ps_parse.specs.Sums.{sign_of, relation_at}
+use Rattle.ps_parse.specs.Conds.{one_or_all, members_at, conj_with, cond_with, opens_at, unary_at, cond_at, test_at, parens_at}
+use Rattle.ps_grammar.specs.Spelling.{Piece, Mark, relation_pieces, cond_pieces, conj_pieces, unary_pieces, test_pieces}
+use Rattle.ps_grammar.specs.Trees.{relation_tree, gathered, cond_members, conj_members, unary_tree, cond_tree, test_tree}
+use Rattle.ps_grammar.specs.Fits.{CondFits, ConjFits, UnaryFits, TestFits}
+use Rattle.ps_parse.proofs.Steps.{same_kind, Ahead, begins_piece, next_ahead, Not, Always, Finds, Gets, found_bind, found_end, found_if, found_more, gets_bind, gets_end, gets_true, gets_false, Spelled, Exact}
+use Rattle.ps_parse.proofs.Sequences.{IsMark, mark_found, mark_again, exact_as, mapped, mapped_exact, after_exact, both_exact, closed, closed_exact, ListSays, GoesOn, Ends, while_exact}
+use Rattle.ps_parse.proofs.SumLaws.{SumEnds}
+use Rattle.ps_parse.proofs.RelationLaws.{all_signs, every_sign, RelationIn, relation_exact, relation_begins}
+
+-- ---- members with a word between them
+
+abbrev pub Is : {C A : Type 0} → (C → A) → C → List Place → A → Type 0
+Is tree c ps y = y ≡ tree c
+
+abbrev pub members_pieces : {C : Type 0} → TokenKind → (C → List Piece) → C × List C → List Piece
+members_pieces between spell c = spell c.0 ++ flat_map (λ d. Mark between ∷ spell d) c.1
+
+abbrev MembersFit : {C : Type 0} → (C → Type 0) → C × List C → Type 0
+MembersFit fits c = fits c.0 × AllByRecursion fits c.1
+
+abbrev members_tree : {C : Type 0} → (List Cond → Cond) → (C → Cond) → C × List C → Cond
+members_tree all tree c = one_or_all all (tree c.0) (map tree c.1)
+
+listed : {C A : Type 0} (spell : C → List Piece) (tree : C → A) (cs : List C) (ps : List Place) (ys : List A) → ListSays spell (Is tree) cs ps ys → ys ≡ map tree cs
+listed spell tree [] ps [] h = refl
+listed spell tree [] ps (y ∷ ys) h = absurd h
+listed spell tree (c ∷ cs) ps [] h = absurd h
+listed {A = A} spell tree (c ∷ cs) ps (y ∷ ys) h = ap (λ (z : A). z ∷ ys) h.0 ∙ ap (λ (zs : List A). tree c ∷ zs) (listed spell tree cs (drop (length (spell c)) ps) ys h.1)
+
+-- a word between goes on
+pub members_go_on : {C : Type 0} (between : TokenKind) (spell : C → List Piece) (follows : List Piece → Type 0) → ((rest : List Piece) → follows (Mark between ∷ rest)) → GoesOn (next_is between) (begins_piece between) (λ (d : C). Mark between ∷ spell d) follows
+members_go_on between spell follows joins = record {
+  same = λ m at ps h. next_ahead between h;
+  starts = λ c rest. same_kind between between refl;
+  joins = λ c rest. joins (spell c ++ rest);
+  some = λ c. omega arith;
+}
+
+members_exact : {C : Type 0} (n : ℕ) (read : Read Cond) (spell : C → List Piece) (fits : C → Type 0) (tree : C → Cond) (follows : List Piece → Type 0) (all : List Cond → Cond) (between : TokenKind)
+    → IsMark between → ((rest : List Piece) → follows (Mark between ∷ rest)) → Exact n read spell fits (Is tree) follows
+    → Exact n (members_at all between read n) (members_pieces between spell) (MembersFit fits) (Is (members_tree all tree)) (Ends (begins_piece between) follows)
+unfolding members_at
+members_exact {C = C} n read spell fits tree follows all between marked joins exact =
+    exact_as (members_pieces between spell) (MembersFit fits) (Is (members_tree all tree)) (λ c. c) (λ c. c) (λ c. refl) (λ c. refl) (λ c h. h) (λ c h. h)
+    (λ c ps y h. h.is ∙ ap (λ (z : Cond). one_or_all all z h.second) h.said_first ∙ ap (one_or_all all (tree c.0)) (listed (λ d. Mark between ∷ spell d) tree c.1 _ h.second h.said_second))
+    (both_exact (one_or_all all) exact (while_exact (next_is between) (begins_piece between) (members_go_on between spell follows joins) (after_exact between marked exact)) next)
+  where
+    next : (ds : List C) (rest : List Piece) → AllByRecursion fits ds → Ends (begins_piece between) follows rest → follows (flat_map (λ d. Mark between ∷ spell d) ds ++ rest)
+    next [] rest fit stop = stop.1
+    next (d ∷ ds) rest fit stop = joins _
+
+gathered_is : (all : List Cond → Cond) (c : Cond) (cs : List Cond) → one_or_all all c cs ≡ gathered all (c ∷ cs)
+gathered_is all c [] = refl
+gathered_is all c (d ∷ ds) = refl
+
+-- ---- `&&`
+
+pub conj_chain : UnaryText → List UnaryText → ConjText
+conj_chain u [] = last_unary u
+conj_chain u (v ∷ vs) = and_also u (conj_chain v vs)
+
+pub conj_first : ConjText → UnaryText
+conj_first (last_unary u) = u
+conj_first (and_also u rest) = u
+
+pub conj_rest : ConjText → List UnaryText
+conj_rest (last_unary u) = []
+conj_rest (and_also u rest) = conj_first rest ∷ conj_rest rest
+
+pub conj_back : (c : ConjText) → conj_chain (conj_first c) (conj_rest c) ≡ c
+unfolding conj_chain conj_first conj_rest
+conj_back (last_unary u) = refl
+conj_back (and_also u rest) = ap (and_also u) (conj_back rest)
+
+pub conj_spelled : (u : UnaryText) (us : List UnaryText) → members_pieces kind.And unary_pieces (u, us) ≡ conj_pieces (conj_chain u us)
+unfolding conj_chain
+conj_spelled u [] = append-nil (unary_pieces u)
+conj_spelled u (v ∷ vs) = ap (λ (ps : List Piece). unary_pieces u ++ (Mark kind.And ∷ ps)) (conj_spelled v vs)
+
+conj_fit : (names : Names) (levels : ℕ) (u : UnaryText) (us : List UnaryText) → UnaryFits names levels u → AllByRecursion (UnaryFits names levels) us → ConjFits names levels (conj_chain u us)
+unfolding conj_chain
+conj_fit names levels u [] f h = f
+conj_fit names levels u (v ∷ vs) f h = (f, conj_fit names levels v vs h.0 h.1)
+
+conj_unfit : (names : Names) (levels : ℕ) (c : ConjText) → ConjFits names levels c → MembersFit (UnaryFits names levels) (conj_first c, conj_rest c)
+unfolding conj_first conj_rest
+conj_unfit names levels (last_unary u) f = (f, tt)
+conj_unfit names levels (and_also u rest) f = (f.0, conj_unfit names levels rest f.1)
+
+conj_tree_is : (names : Names) (u : UnaryText) (us : List UnaryText) → unary_tree names u ∷ map (unary_tree names) us ≡ conj_members names (conj_chain u us)
+unfolding conj_chain
+conj_tree_is names u [] = refl
+conj_tree_is names u (v ∷ vs) = ap (λ (cs : List Cond). unary_tree names u ∷ cs) (conj_tree_is names v vs)
+
+abbrev pub conj_tree : Names → ConjText → Cond
+conj_tree names c = gathered cond.And (conj_members names c)
+
+abbrev pub ConjEnds : List Piece → Type 0
+ConjEnds = Ends (begins_piece kind.And) SumEnds
+
+abbrev pub CondEnds : List Piece → Type 0
+CondEnds = Ends (begins_piece kind.Or) ConjEnds
+
+abbrev pub UnaryExact : ℕ → Names → ℕ → Read Cond → Type 0
+UnaryExact n names levels read = Exact n read unary_pieces (UnaryFits names levels) (Is (unary_tree names)) SumEnds
+
+abbrev pub CondExact : ℕ → Names → ℕ → Read Cond → Type 0
+CondExact n names levels read = Exact n read cond_pieces (CondFits names levels) (Is (cond_tree names)) CondEnds
+
+conj_exact : (n : ℕ) (names : Names) (levels : ℕ) (unary : Read Cond) → UnaryExact n names levels unary → Exact n (conj_with unary n) conj_pieces (ConjFits names levels) (Is (conj_tree names)) ConjEnds
+unfolding conj_with
+conj_exact n names levels unary exact =
+    exact_as conj_pieces (ConjFits names levels) (Is (conj_tree names)) (λ c. conj_chain c.0 c.1) (λ c. (conj_first c, conj_rest c)) conj_back (λ c. conj_spelled c.0 c.1) (λ c h. conj_fit names levels c.0 c.1 h.0 h.1) (conj_unfit names levels)
+    (λ c ps y h. h ∙ gathered_is cond.And (unary_tree names c.0) (map (unary_tree names) c.1) ∙ ap (gathered cond.And) (conj_tree_is names c.0 c.1))
+    (members_exact n unary unary_pieces (UnaryFits names levels) (unary_tree names) SumEnds cond.And kind.And (λ t. refl) (λ rest. (refl, refl)) exact)
+
+-- ---- `||`
+
+pub cond_chain : ConjText → List ConjText → CondText
+cond_chain u [] = last_conj u
+cond_chain u (v ∷ vs) = or_else u (cond_chain v vs)
+
+pub cond_first : CondText → ConjText
+cond_first (last_conj u) = u
+cond_first (or_else u rest) = u
+
+pub cond_rest : CondText → List ConjText
+cond_rest (last_conj u) = []
+cond_rest (or_else u rest) = cond_first rest ∷ cond_rest rest
+
+pub cond_back : (c : CondText) → cond_chain (cond_first c) (cond_rest c) ≡ c
+unfolding cond_chain cond_first cond_rest
+cond_back (last_conj u) = refl
+cond_back (or_else u rest) = ap (or_else u) (cond_back rest)
+
+pub cond_spelled : (u : ConjText) (us : List ConjText) → members_pieces kind.Or conj_pieces (u, us) ≡ cond_pieces (cond_chain u us)
+unfolding cond_chain
+cond_spelled u [] = append-nil (conj_pieces u)
+cond_spelled u (v ∷ vs) = ap (λ (ps : List Piece). conj_pieces u ++ (Mark kind.Or ∷ ps)) (cond_spelled v vs)
+
+cond_fit : (names : Names) (levels : ℕ) (u : ConjText) (us : List ConjText) → ConjFits names levels u → AllByRecursion (ConjFits names levels) us → CondFits names levels (cond_chain u us)
+unfolding cond_chain
+cond_fit names levels u [] f h = f
+cond_fit names levels u (v ∷ vs) f h = (f, cond_fit names levels v vs h.0 h.1)
+
+cond_unfit : (names : Names) (levels : ℕ) (c : CondText) → CondFits names levels c → MembersFit (ConjFits names levels) (cond_first c, cond_rest c)
+unfolding cond_first cond_rest
+cond_unfit names levels (last_conj u) f = (f, tt)
+cond_unfit names levels (or_else u rest) f = (f.0, cond_unfit names levels rest f.1)
+
+cond_tree_is : (names : Names) (u : ConjText) (us : List ConjText) → conj_tree names u ∷ map (conj_tree names) us ≡ cond_members names (cond_chain u us)
+unfolding cond_chain
+cond_tree_is names u [] = refl
+cond_tree_is names u (v ∷ vs) = ap (λ (cs : List Cond). conj_tree names u ∷ cs) (cond_tree_is names v vs)
+
+cond_with_exact : (n : ℕ) (names : Names) (levels : ℕ) (unary : Read Cond) → UnaryExact n names levels unary → CondExact n names levels (cond_with unary n)
+unfolding cond_with
+cond_with_exact n names levels unary exact =
+    exact_as cond_pieces (CondFits names levels) (Is (cond_tree names)) (λ c. cond_chain c.0 c.1) (λ c. (cond_first c, cond_rest c)) cond_back (λ c. cond_spelled c.0 c.1) (λ c h. cond_fit names levels c.0 c.1 h.0 h.1) (cond_unfit names levels)
+    (λ c ps y h. h ∙ gathered_is cond.Or (conj_tree names c.0) (map (conj_tree names) c.1) ∙ ap (gathered cond.Or) (cond_tree_is names c.0 c.1))
+    (members_exact n (conj_with unary n) conj_pieces (ConjFits names levels) (conj_tree names) ConjEnds cond.Or kind.Or (λ t. refl) (λ rest. (refl, (refl, refl))) (conj_exact n names levels unary exact))
+
+-- ---- levels
+
+pub one_less : (levels : ℕ) → suc levels - 1 ≡ levels
+one_less levels = omega arith
+
+rel_exact : (n : ℕ) (names : Names) → Exact n (mapped cond.Rel (relation_at sign_of (Some names) n)) relation_pieces (RelationIn sign_of (Some names)) (Is (λ r. cond.Rel (relation_tree names r))) SumEnds
+rel_exact n names = mapped_exact _ cond.Rel (λ r ps y h. ap cond.Rel h.1) (relation_exact n sign_of all_signs (Some names))
+
+rel_found : (n : ℕ) (names : Names) (levels : ℕ) (at : At) → Finds (mapped cond.Rel (relation_at sign_of (Some names) n) at) (Spelled unary_pieces (UnaryFits names levels) (Is (unary_tree names)) at)
+rel_found n names levels at = found_more _ _ _ ((rel_exact n names).found at) (λ y p. record { text = relation p.text; taken = p.taken; fit = p.fit.0; is = p.is })
+
+not_exact : (n : ℕ) (names : Names) (levels : ℕ) (unary : Read Cond) → UnaryExact n names levels unary → Exact n (mapped cond.Not (after_word kind.Not unary)) (λ u. unary_pieces (negation u)) (UnaryFits names levels) (Is (λ u. unary_tree names (negation u))) SumEnds
+not_exact n names levels unary exact = mapped_exact _ cond.Not (λ c ps y h. ap cond.Not h) (after_exact kind.Not (λ t. refl) exact)
+
+in_parens_exact : (n : ℕ) (names : Names) (levels : ℕ) (unary : Read Cond) → UnaryExact n names levels unary → Exact n (closed kind.CloseParen (after_word kind.OpenParen (cond_with unary n))) (λ c. unary_pieces (in_parens c)) (CondFits names levels) (Is (cond_tree names)) Always
+in_parens_exact n names levels unary exact = closed_exact kind.CloseParen (λ t. refl) (λ rest. (refl, (refl, (refl, refl)))) (after_exact kind.OpenParen (λ t. refl) (cond_with_exact n names levels unary exact))
+
+unary_found : (n : ℕ) (names : Names) (levels : ℕ) → UnaryExact n names levels (unary_at (Some names) n levels) → (at : At) → Finds (unary_at (Some names) n (suc levels) at) (Spelled unary_pieces (UnaryFits names (suc levels)) (Is (unary_tree names)) at)
+unfolding unary_at
+unary_found n names levels exact at =
+    found_if (next_is kind.Not at) _ _ _
+    (found_more _ _ _ ((not_exact n names levels (unary_at (Some names) n levels) exact).found at) (λ y p. record {
+      text = negation p.text;
+      taken = p.taken;
+      fit = (omega arith, subst (λ (l : ℕ). UnaryFits names l p.text) (sym (one_less levels)) p.fit);
+      is = p.is;
+    }))
+    (found_if (next_is kind.OpenParen at) _ _ _
+    (found_more _ _ _ ((in_parens_exact n names levels (unary_at (Some names) n levels) exact).found at) (λ y p. record {
+      text = in_parens p.text;
+      taken = p.taken;
+      fit = (omega arith, subst (λ (l : ℕ). CondFits names l p.text) (sym (one_less levels)) p.fit);
+      is = p.is;
+    }))
+    (rel_found n names (suc levels) at))
+
+unary_again : (n : ℕ) (names : Names) (levels : ℕ) → UnaryExact n names levels (unary_at (Some names) n levels) → (at : At) (u : UnaryText) (rest : List Piece) → UnaryFits names (suc levels) u → Ahead n at (unary_pieces u ++ rest) → SumEnds rest → Gets (unary_at (Some names) n (suc levels) at) (λ y. (y.0 ≡ unary_tree names u) × Ahead n y.1 rest)
+unfolding unary_at
+unary_again n names levels exact at (negation u) rest fit h stop =
+    gets_true (next_is kind.Not at) _ _ _ (next_ahead kind.Not h)
+    ((not_exact n names levels (unary_at (Some names) n levels) exact).again at u rest (subst (λ (l : ℕ). UnaryFits names l u) (one_less levels) fit.1) h stop)
+unary_again n names levels exact at (in_parens c) rest fit h stop =
+    gets_false (next_is kind.Not at) _ _ _ (next_ahead kind.Not h)
+    (gets_true (next_is kind.OpenParen at) _ _ _ (next_ahead kind.OpenParen h)
+    ((in_parens_exact n names levels (unary_at (Some names) n levels) exact).again at c rest (subst (λ (l : ℕ). CondFits names l c) (one_less levels) fit.1) h tt))
+unary_again n names levels exact at (relation r) rest fit h stop =
+    gets_false (next_is kind.Not at) _ _ _ (next_ahead kind.Not h ∙ relation_begins kind.Not refl refl refl r rest)
+    (gets_false (next_is kind.OpenParen at) _ _ _ (next_ahead kind.OpenParen h ∙ relation_begins kind.OpenParen refl refl refl r rest)
+    ((rel_exact n names).again at r rest (fit, every_sign r.sign) h stop))
+
+last_found : (n : ℕ) (names : Names) (at : At) → Finds (unary_at (Some names) n zero at) (Spelled unary_pieces (UnaryFits names zero) (Is (unary_tree names)) at)
+unfolding unary_at
+last_found n names at = found_if (opens_at at) _ _ _ (record { is = tt }) (rel_found n names zero at)
+
+last_again : (n : ℕ) (names : Names) (at : At) (u : UnaryText) (rest : List Piece) → UnaryFits names zero u → Ahead n at (unary_pieces u ++ rest) → SumEnds rest → Gets (unary_at (Some names) n zero at) (λ y. (y.0 ≡ unary_tree names u) × Ahead n y.1 rest)
+unfolding unary_at opens_at
+last_again n names at (negation u) rest fit h stop = absurd (omega (arith, fit.0))
+last_again n names at (in_parens c) rest fit h stop = absurd (omega (arith, fit.0))
+last_again n names at (relation r) rest fit h stop =
+    gets_false (next_is kind.Not at || next_is kind.OpenParen at) _ _ _ (ap (λ (t : Bool). t || next_is kind.OpenParen at) (next_ahead kind.Not h ∙ relation_begins kind.Not refl refl refl r rest) ∙ (next_ahead kind.OpenParen h ∙ relation_begins kind.OpenParen refl refl refl r rest))
+    ((rel_exact n names).again at r rest (fit, every_sign r.sign) h stop)
+
+unary_exact : (n : ℕ) (names : Names) (levels : ℕ) → UnaryExact n names levels (unary_at (Some names) n levels)
+unary_exact n names zero = record { found = last_found n names; again = last_again n names }
+unary_exact n names (suc levels) = record { found = unary_found n names levels (unary_exact n names levels); again = unary_again n names levels (unary_exact n names levels) }
+
+pub cond_exact : (n : ℕ) (names : Names) (levels : ℕ) → CondExact n names levels (cond_at (Some names) n levels)
+unfolding cond_at
+cond_exact n names levels = cond_with_exact n names levels (unary_at (Some names) n levels) (unary_exact n names levels)
+
+-- ---- tests
+
+-- a test without its parentheses
+abbrev pub inner_pieces : TestText → List Piece
+inner_pieces either = Mark kind.Star ∷ []
+inner_pieces (condition c) = cond_pieces c
+
+abbrev InnerFits : Names → ℕ → TestText → Type 0
+InnerFits names levels either = Unit {0}
+InnerFits names levels (condition c) = CondFits names levels c
+
+unary_begins : (u : UnaryText) (rest : List Piece) → Not kind.Star (unary_pieces u ++ rest)
+unary_begins (negation u) rest = refl
+unary_begins (in_parens c) rest = refl
+unary_begins (relation r) rest = relation_begins kind.Star refl refl refl r rest
+
+conj_begins : (c : ConjText) (rest : List Piece) → Not kind.Star (conj_pieces c ++ rest)
+conj_begins (last_unary u) rest = unary_begins u rest
+conj_begins (and_also u c) rest = subst (Not kind.Star) (sym (append_assoc (unary_pieces u) (Mark kind.And ∷ conj_pieces c) rest)) (unary_begins u _)
+
+pub cond_begins : (c : CondText) (rest : List Piece) → Not kind.Star (cond_pieces c ++ rest)
+cond_begins (last_conj c) rest = conj_begins c rest
+cond_begins (or_else c d) rest = subst (Not kind.Star) (sym (append_assoc (conj_pieces c) (Mark kind.Or ∷ cond_pieces d) rest)) (conj_begins c _)
+
+inner_found : (n : ℕ) (names : Names) (levels : ℕ) (at : At) → Finds (test_at (Some names) n levels at) (Spelled inner_pieces (InnerFits names levels) (Is (test_tree names)) at)
+unfolding test_at
+inner_found n names levels at =
+    found_if (next_is kind.Star at) _ _ _
+    (found_bind _ _ _ _ (mark_found n kind.Star (λ t. refl) at) (λ w p.
+    found_end _ _ (record { text = either; taken = p; fit = tt; is = refl })))
+    (found_bind _ _ _ _ ((cond_exact n names levels).found at) (λ c p.
+    found_end _ _ (record { text = condition p.text; taken = p.taken; fit = p.fit; is = ap test.Cond p.is })))
+
+inner_again : (n : ℕ) (names : Names) (levels : ℕ) (at : At) (t : TestText) (rest : List Piece) → InnerFits names levels t → Ahead n at (inner_pieces t ++ rest) → CondEnds rest → Gets (test_at (Some names) n levels at) (λ y. (y.0 ≡ test_tree names t) × Ahead n y.1 rest)
+unfolding test_at
+inner_again n names levels at either rest fit h stop =
+    gets_true (next_is kind.Star at) _ _ _ (next_ahead kind.Star h)
+    (gets_bind _ _ _ _ (mark_again n kind.Star (λ t. refl) at rest h) (λ w p.
+    gets_end _ _ (refl, p)))
+inner_again n names levels at (condition c) rest fit h stop =
+    gets_false (next_is kind.Star at) _ _ _ (next_ahead kind.Star h ∙ cond_begins c rest)
+    (gets_bind _ _ _ _ ((cond_exact n names levels).again at c rest fit h stop) (λ y p.
+    gets_end _ _ (ap test.Cond p.0, p.1)))
+
+inner_exact : (n : ℕ) (names : Names) (levels : ℕ) → Exact n (test_at (Some names) n levels) inner_pieces (InnerFits names levels) (Is (test_tree names)) CondEnds
+inner_exact n names levels = record { found = inner_found n names levels; again = inner_again n names levels }
+
+pub test_spelled : (t : TestText) → Mark kind.OpenParen ∷ (inner_pieces t ++ Mark kind.CloseParen ∷ []) ≡ test_pieces t
+test_spelled either = refl
+test_spelled (condition c) = refl
+
+test_fit : (names : Names) (levels : ℕ) (t : TestText) → InnerFits names levels t → TestFits names (suc levels) t
+test_fit names levels either h = omega arith
+test_fit names levels (condition c) h = (omega arith, subst (λ (l : ℕ). CondFits names l c) (sym (one_less levels)) h)
+
+test_unfit : (names : Names) (levels : ℕ) (t : TestText) → TestFits names (suc levels) t → InnerFits names levels t
+test_unfit names levels either h = tt
+test_unfit names levels (condition c) h = subst (λ (l : ℕ). CondFits names l c) (one_less levels) h.1
+
+no_test : (names : Names) (t : TestText) → TestFits names zero t → ⊥
+no_test names either h = omega (arith, h)
+no_test names (condition c) h = omega (arith, h.0)
+
+pub parens_exact : (n : ℕ) (names : Names) (levels : ℕ) → Exact n (parens_at (Some names) n levels) test_pieces (TestFits names levels) (Is (test_tree names)) Always
+unfolding parens_at after_word
+parens_exact n names zero = record {
+  found = λ at. found_bind _ _ _ _ (mark_found n kind.OpenParen (λ t. refl) at) (λ w p. record { is = tt });
+  again = λ at t rest fit h _. absurd (no_test names t fit);
+}
+parens_exact n names (suc levels) =
+    exact_as test_pieces (TestFits names (suc levels)) (Is (test_tree names)) (λ t. t) (λ t. t) (λ t. refl) test_spelled (test_fit names levels) (test_unfit names levels) (λ t ps y h. h)
+    (after_exact kind.OpenParen (λ t. refl) (closed_exact kind.CloseParen (λ t. refl) (λ rest. (refl, (refl, (refl, refl)))) (inner_exact n names levels)))

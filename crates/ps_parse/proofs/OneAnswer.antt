@@ -1,0 +1,122 @@
+-- Words are one program at most, have one first fault at most, and not both; and no refusal stands after that fault, nor
+-- at it but for a second name of a product.
+use Rattle.std.proofs.Common.{◌≡◌, ◌≢◌, ◌⊎◌, inl, inr, List, [], ◌∷◌, ◌++◌, Result, Ok, refl, sym, ap, subst, ◌∙◌, append_assoc}
+use Rattle.std.specs.List.{AllByRecursion}
+use Rattle.std.proofs.lemmas.List.{append-nil, append_cancel_left, append_cancel_right}
+use Rattle.std.proofs.lemmas.List.Elements.{All-from_recursion, recursion_from_All}
+use Rattle.ps_token.specs.declared.place.Place.{Place}
+use Rattle.ps_tree.specs.declared.program.Program.{Program}
+use Rattle.ps_parse.specs.declared.read_refusal.ReadRefusal.{ReadRefusal}
+use Rattle.ps_tree.specs.declared.relation.Sign.TheVariants as sign
+use Rattle.ps_grammar.specs.Grammar.{RelationText, ItemText, global, local, init}
+use Rattle.ps_grammar.specs.Words.{Word}
+use Rattle.ps_parse.specs.Reading.{place_of_next}
+use Rattle.ps_grammar.specs.Declarations.{Declared, names_of, nothing_declared}
+use Rattle.ps_grammar.specs.Trees.{with_item}
+use Rattle.ps_grammar.specs.Fits.{RelationFits, ItemFits, ItemsFit}
+use Rattle.ps_grammar.specs.Programs.{IsProgramText}
+use Rattle.ps_parse.specs.Reads.{HasInitSigns, IsText, BeginAlike, IsFirstFault, PassesGrammar, StandsInText}
+use Rattle.ps_parse.proofs.ProgramLaws.{program_of_again}
+use Rattle.ps_parse.proofs.Guards.{alike_itself}
+
+ok_is : (p q : Program) → ◌≡◌ {A = Result Program ReadRefusal} (Ok p) (Ok q) → p ≡ q
+ok_is p q e = cc
+
+pub one_program : (words : List Word) (p q : Program) → IsProgramText words p → IsProgramText words q → p ≡ q
+one_program words p q a b =
+    let end : Place = record { line = 0; column = 0 } in
+    ok_is p q (sym (program_of_again words end p a) ∙ program_of_again words end q b)
+
+-- of two fronts of a list one goes on as the other
+record Longer (a b r s : List Word) : Type 0 where
+  pub word : Word
+  pub tail : List Word
+  pub is : b ≡ a ++ (word ∷ tail)
+  pub left : r ≡ word ∷ (tail ++ s)
+
+record Equal (a b r s : List Word) : Type 0 where
+  pub left : r ≡ s
+
+head_is : (w v : Word) (ws vs : List Word) → w ∷ ws ≡ v ∷ vs → w ≡ v
+head_is w v ws vs e = cc
+
+tail_is : (w v : Word) (ws vs : List Word) → w ∷ ws ≡ v ∷ vs → ws ≡ vs
+tail_is w v ws vs e = cc
+
+longer_after : (x y : Word) (a b r s : List Word) → x ≡ y → Longer a b r s → Longer (x ∷ a) (y ∷ b) r s
+longer_after x y a b r s e h = record { word = h.word; tail = h.tail; is = ap (λ (ws : List Word). y ∷ ws) h.is ∙ ap (λ (z : Word). z ∷ (a ++ (h.word ∷ h.tail))) (sym e); left = h.left }
+
+compare : (a b r s : List Word) → a ++ r ≡ b ++ s → Equal a b r s ⊎ (Longer a b r s ⊎ Longer b a s r)
+compare [] [] r s e = inl (record { left = e })
+compare [] (w ∷ t) r s e = inr (inl (record { word = w; tail = t; is = refl; left = e }))
+compare (w ∷ t) [] r s e = inr (inr (record { word = w; tail = t; is = refl; left = sym e }))
+compare (x ∷ a) (y ∷ b) r s e =
+    elim (compare a b r s (tail_is x y (a ++ r) (b ++ s) e)) [
+      | inl h ↦ inl (record { left = h.left })
+      | inr h ↦ elim h [
+        | inl k ↦ inr (inl (longer_after x y a b r s (head_is x y (a ++ r) (b ++ s) e) k))
+        | inr k ↦ inr (inr (longer_after y x b a s r (sym (head_is x y (a ++ r) (b ++ s) e)) k))
+      ]
+    ]
+
+same_front : (a b r s : List Word) → a ++ r ≡ b ++ s → r ≡ s → a ≡ b
+same_front a b r s e h = append_cancel_right a b s (ap (λ (ws : List Word). a ++ ws) (sym h) ∙ e)
+
+-- the words before a fault don't stop before it
+not_longer : (words : List Word) (end p q : Place) (f : IsFirstFault words end p) (g : IsFirstFault words end q) → Longer f.before g.before f.rest g.rest → ⊥
+not_longer words end p q f g h =
+    let joined : g.before ++ g.others ≡ f.before ++ (h.word ∷ (h.tail ++ g.others)) = ap (λ (ws : List Word). ws ++ g.others) h.is ∙ append_assoc f.before (h.word ∷ h.tail) g.others in
+    f.stops (h.word ∷ (h.tail ++ g.others)) (subst (λ (ws : List Word). BeginAlike ws (h.word ∷ (h.tail ++ g.others))) (sym h.left) refl) (subst IsText joined g.goes_on)
+
+pub one_fault : (words : List Word) (end p q : Place) → IsFirstFault words end p → IsFirstFault words end q → p ≡ q
+one_fault words end p q f g =
+    elim (compare f.before g.before f.rest g.rest (sym f.split ∙ g.split)) [
+      | inl h ↦ f.place_is ∙ ap (λ (ws : List Word). place_of_next ws end) h.left ∙ sym g.place_is
+      | inr h ↦ elim h [
+        | inl k ↦ absurd (not_longer words end p q f g k)
+        | inr k ↦ absurd (not_longer words end q p g f k)
+      ]
+    ]
+
+-- A front that goes on as some text doesn't pass a fault.
+pub not_after : (words : List Word) (end p : Place) (f : IsFirstFault words end p) (before rest others : List Word) → words ≡ before ++ rest → IsText (before ++ others) → (tail : List Word) × (f.before ≡ before ++ tail)
+not_after words end p f before rest others split text =
+    elim (compare f.before before f.rest rest (sym f.split ∙ split)) [
+      | inl h ↦ ([], same_front f.before before f.rest rest (sym f.split ∙ split) h.left ∙ sym (append-nil before))
+      | inr h ↦ elim h [
+        | inl k ↦ absurd (f.stops (k.word ∷ (k.tail ++ others)) (subst (λ (ws : List Word). BeginAlike ws (k.word ∷ (k.tail ++ others))) (sym k.left) refl)
+            (subst IsText (ap (λ (ws : List Word). ws ++ others) k.is ∙ append_assoc f.before (k.word ∷ k.tail) others) text))
+        | inr k ↦ (k.word ∷ k.tail, k.is)
+      ]
+    ]
+
+-- No other refusal stands after a fault of the grammar.
+pub not_after_fault : (words : List Word) (end p : Place) (f : IsFirstFault words end p) (e : ReadRefusal) (s : StandsInText words end e) → (tail : List Word) × (f.before ≡ s.before ++ tail)
+not_after_fault words end p f e s = not_after words end p f s.before s.rest s.others s.split s.goes_on
+
+-- Nor does one stand at it, but for a second name of a product.
+pub not_at_fault : (words : List Word) (end p : Place) (f : IsFirstFault words end p) (e : ReadRefusal) (s : StandsInText words end e) → PassesGrammar e → f.before ≡ s.before → ⊥
+not_at_fault words end p f e s g same =
+    let left : f.rest ≡ s.rest = append_cancel_left f.before f.rest s.rest (sym f.split ∙ s.split ∙ ap (λ (ws : List Word). ws ++ s.rest) (sym same)) in
+    f.stops s.others (subst (λ (ws : List Word). BeginAlike ws s.others) (sym left) (s.next g)) (subst (λ (ws : List Word). IsText (ws ++ s.others)) (sym same) s.goes_on)
+
+-- ---- a program is a text of the grammar
+
+item_signs : (d : Declared) (i : ItemText) → ItemFits d i → HasInitSigns i
+item_signs d (global x v) h = tt
+item_signs d (local x) h = tt
+item_signs d (init r rs) h = All-from_recursion (λ (s : RelationText). s.sign ≢ sign.NotEqual) (r ∷ rs) (each (r ∷ rs) (recursion_from_All (λ (s : RelationText). RelationFits (names_of d) s × (s.sign ≢ sign.NotEqual)) (r ∷ rs) h.0))
+  where
+    each : (ss : List RelationText) → AllByRecursion (λ (s : RelationText). RelationFits (names_of d) s × (s.sign ≢ sign.NotEqual)) ss → AllByRecursion (λ (s : RelationText). s.sign ≢ sign.NotEqual) ss
+    each [] g = tt
+    each (s ∷ ss) g = (g.0.1, each ss g.1)
+
+items_signs : (d : Declared) (is : List ItemText) → ItemsFit d is → AllByRecursion HasInitSigns is
+items_signs d [] h = tt
+items_signs d (i ∷ is) h = (item_signs d i h.0, items_signs (with_item d i) is h.1)
+
+pub program_is_text : (words : List Word) (p : Program) → IsProgramText words p → IsText words
+program_is_text words p h = record { text = h.text; spelled = h.spelled; signs = All-from_recursion HasInitSigns h.text.items (items_signs nothing_declared h.text.items h.fits.items) }
+
+pub no_program : (words : List Word) (end place : Place) (p : Program) → IsFirstFault words end place → IsProgramText words p → ⊥
+no_program words end place p f h = f.stops f.rest (alike_itself f.rest) (subst IsText f.split (program_is_text words p h))

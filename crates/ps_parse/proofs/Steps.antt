@@ -1,0 +1,197 @@
+-- The laws of reading functions of words, in steps: what is read is spelled so, and what is spelled so is read.
+use Rattle.std.proofs.Common.{◌≡◌, ℕ, ◌≤◌, Bool, true, false, List, [], ◌∷◌, ◌++◌, map, length, drop, get_or, Result, Ok, Err, refl, sym, ap, subst, ◌∙◌, append_assoc, eq-eqb}
+use Rattle.std.specs.Prelude.{IfOk, if◌then◌else◌}
+use Rattle.std.proofs.lemmas.Bool.{cond-true, cond-false, eqb-true}
+use Rattle.std.proofs.lemmas.List.{map-append, length-map, drop_at, drop-map}
+use Rattle.ps_token.specs.declared.place.Place.{Place}
+use Rattle.ps_token.specs.declared.token_kind.TokenKind.{TokenKind}
+use Rattle.ps_token.specs.declared.token_kind.TokenKind.TheVariants as kind
+use Rattle.ps_parse.specs.declared.read_refusal.ReadRefusal.{ReadRefusal}
+use Rattle.ps_grammar.specs.Words.{Word}
+use Rattle.ps_parse.specs.Reading.{At, Read, and_then, ◌>>=◌, kind_number, is_kind, begins_with, next_is}
+use Rattle.ps_grammar.specs.Spelling.{Piece, NamePiece, NumberPiece, Mark, piece_of_kind, pieces}
+
+-- ---- kinds
+
+abbrev kinds : List TokenKind
+kinds = kind.Name ∷ kind.Number ∷ kind.Global ∷ kind.Local ∷ kind.Init ∷ kind.Thread ∷ kind.Havoc ∷ kind.Assume ∷ kind.Assert ∷ kind.Skip ∷ kind.Atomic ∷ kind.If ∷ kind.Else ∷ kind.While ∷ kind.Becomes ∷ kind.LessEq ∷ kind.GreaterEq ∷ kind.EqualEqual ∷ kind.NotEqual ∷ kind.And ∷ kind.Or ∷ kind.Less ∷ kind.Greater ∷ kind.Not ∷ kind.Equal ∷ kind.Plus ∷ kind.Minus ∷ kind.Star ∷ kind.OpenParen ∷ kind.CloseParen ∷ kind.OpenBrace ∷ kind.CloseBrace ∷ kind.Semicolon ∷ []
+
+numbered : (k : TokenKind) → get_or kinds (kind_number k) kind.Name ≡ k
+numbered kind.Name = refl
+numbered kind.Number = refl
+numbered kind.Global = refl
+numbered kind.Local = refl
+numbered kind.Init = refl
+numbered kind.Thread = refl
+numbered kind.Havoc = refl
+numbered kind.Assume = refl
+numbered kind.Assert = refl
+numbered kind.Skip = refl
+numbered kind.Atomic = refl
+numbered kind.If = refl
+numbered kind.Else = refl
+numbered kind.While = refl
+numbered kind.Becomes = refl
+numbered kind.LessEq = refl
+numbered kind.GreaterEq = refl
+numbered kind.EqualEqual = refl
+numbered kind.NotEqual = refl
+numbered kind.And = refl
+numbered kind.Or = refl
+numbered kind.Less = refl
+numbered kind.Greater = refl
+numbered kind.Not = refl
+numbered kind.Equal = refl
+numbered kind.Plus = refl
+numbered kind.Minus = refl
+numbered kind.Star = refl
+numbered kind.OpenParen = refl
+numbered kind.CloseParen = refl
+numbered kind.OpenBrace = refl
+numbered kind.CloseBrace = refl
+numbered kind.Semicolon = refl
+
+pub one_kind : (a b : TokenKind) → is_kind a b ≡ true → a ≡ b
+one_kind a b h = sym (numbered a) ∙ ap (λ (n : ℕ). get_or kinds n kind.Name) (eqb-true (kind_number a) (kind_number b) h) ∙ numbered b
+
+pub same_kind : (a b : TokenKind) → a ≡ b → is_kind a b ≡ true
+same_kind a b h = eq-eqb (kind_number a) (kind_number b) (ap kind_number h)
+
+abbrev pub kind_of : Piece → TokenKind
+kind_of (NamePiece t) = kind.Name
+kind_of (NumberPiece t) = kind.Number
+kind_of (Mark k) = k
+
+-- the bytes of a name or a number
+abbrev pub text_of : Piece → List ℕ
+text_of (NamePiece t) = t
+text_of (NumberPiece t) = t
+text_of (Mark k) = []
+
+pub kind_of_piece : (k : TokenKind) (t : List ℕ) → kind_of (piece_of_kind k t) ≡ k
+kind_of_piece kind.Name t = refl
+kind_of_piece kind.Number t = refl
+kind_of_piece k t = refl
+
+-- ---- the words ahead
+
+abbrev pub places : List Word → List Place
+places words = map (λ (w : Word). w.place) words
+
+-- the words begin with ones spelled so, and then those are left
+pub record Takes (before : List Word) (ps : List Piece) (after : List Word) : Type 0 where
+  pub front : List Word
+  pub split : before ≡ front ++ after
+  pub spelled : pieces front ≡ ps
+
+pub takes_none : (ws : List Word) → Takes ws [] ws
+takes_none ws = record { front = []; split = refl; spelled = refl }
+
+pub takes_then : {a b c : List Word} {ps qs : List Piece} → Takes a ps b → Takes b qs c → Takes a (ps ++ qs) c
+takes_then {a = a} {b = b} {c = c} {ps = ps} {qs = qs} p q = record {
+  front = p.front ++ q.front;
+  split = p.split ∙ ap (λ (ws : List Word). p.front ++ ws) q.split ∙ sym (append_assoc p.front q.front c);
+  spelled = map-append (λ (w : Word). piece_of_kind w.kind w.text) p.front q.front ∙ ap (λ (xs : List Piece). xs ++ pieces q.front) p.spelled ∙ ap (λ (xs : List Piece). ps ++ xs) q.spelled;
+}
+
+pub takes_so : {a b : List Word} {ps qs : List Piece} → ps ≡ qs → Takes a ps b → Takes a qs b
+takes_so {a = a} {b = b} e p = subst (λ (xs : List Piece). Takes a xs b) e p
+
+pub takes_pieces : {a b : List Word} {ps : List Piece} → Takes a ps b → pieces a ≡ ps ++ pieces b
+takes_pieces {a = a} {b = b} {ps = ps} p = ap pieces p.split ∙ map-append (λ (w : Word). piece_of_kind w.kind w.text) p.front b ∙ ap (λ (xs : List Piece). xs ++ pieces b) p.spelled
+
+pub takes_drop : {a b : List Word} {ps : List Piece} → Takes a ps b → b ≡ drop (length ps) a
+takes_drop {a = a} {b = b} {ps = ps} p =
+    let e : length p.front ≡ length ps = sym (length-map p.front (λ (w : Word). piece_of_kind w.kind w.text)) ∙ ap (λ (xs : List Piece). length xs) p.spelled in
+    sym (ap (drop (length ps)) p.split ∙ drop_at p.front b (length ps) e)
+
+pub takes_places : {a b : List Word} {ps : List Piece} → Takes a ps b → places b ≡ drop (length ps) (places a)
+takes_places {a = a} {b = b} {ps = ps} p = ap places (takes_drop p) ∙ sym (drop-map (λ (w : Word). w.place) (length ps) a)
+
+-- what is ahead is spelled so, and there are no more words than the bound
+pub record Ahead (n : ℕ) (at : At) (ps : List Piece) : Type 0 where
+  pub is : pieces at.words ≡ ps
+  pub room : length ps ≤ n
+
+pub ahead_so : {n : ℕ} {at : At} {ps qs : List Piece} → ps ≡ qs → Ahead n at ps → Ahead n at qs
+ahead_so {n = n} {at = at} e h = subst (λ (xs : List Piece). Ahead n at xs) e h
+
+abbrev pub begins_piece : TokenKind → List Piece → Bool
+begins_piece k [] = false
+begins_piece k (p ∷ ps) = is_kind (kind_of p) k
+
+pub begins_pieces : (k : TokenKind) (ws : List Word) → begins_with k ws ≡ begins_piece k (pieces ws)
+begins_pieces k [] = refl
+begins_pieces k (w ∷ ws) = ap (λ (j : TokenKind). is_kind j k) (sym (kind_of_piece w.kind w.text))
+
+pub next_ahead : {n : ℕ} {at : At} {ps : List Piece} (k : TokenKind) → Ahead n at ps → next_is k at ≡ begins_piece k ps
+next_ahead {at = at} k h = begins_pieces k at.words ∙ ap (begins_piece k) h.is
+
+-- the next word isn't of the kind
+abbrev pub Not : TokenKind → List Piece → Type 0
+Not k ps = begins_piece k ps ≡ false
+
+abbrev pub Always : {X : Type 0} → X → Type 0
+Always x = Unit {0}
+
+-- ---- steps
+
+-- what a step that didn't fail found
+pub record Finds {A : Type 0} (r : Result A ReadRefusal) (Q : A → Type 0) : Type 0 where
+  pub is : IfOk r Q
+
+-- a step doesn't fail
+pub record Gets {A : Type 0} (r : Result A ReadRefusal) (Q : A → Type 0) : Type 0 where
+  pub value : A
+  pub ok : r ≡ Ok value
+  pub is : Q value
+
+pub found_bind : {A B : Type 0} (r : Result A ReadRefusal) (f : A → Result B ReadRefusal) (Q : A → Type 0) (R : B → Type 0) → Finds r Q → ((x : A) → Q x → Finds (f x) R) → Finds (r >>= f) R
+unfolding and_then
+found_bind (Ok x) f Q R h k = k x h.is
+found_bind (Err e) f Q R h k = record { is = tt }
+
+pub found_end : {A : Type 0} (y : A) (R : A → Type 0) → R y → Finds (Ok y) R
+found_end y R h = record { is = h }
+
+pub found_if : {A : Type 0} (t : Bool) (r s : Result A ReadRefusal) (R : A → Type 0) → Finds r R → Finds s R → Finds (if t then r else s) R
+found_if true r s R h k = h
+found_if false r s R h k = k
+
+pub found_more : {A : Type 0} (r : Result A ReadRefusal) (Q R : A → Type 0) → Finds r Q → ((x : A) → Q x → R x) → Finds r R
+found_more (Ok x) Q R h k = record { is = k x h.is }
+found_more (Err e) Q R h k = record { is = tt }
+
+pub gets_bind : {A B : Type 0} (r : Result A ReadRefusal) (f : A → Result B ReadRefusal) (Q : A → Type 0) (R : B → Type 0) → Gets r Q → ((x : A) → Q x → Gets (f x) R) → Gets (r >>= f) R
+unfolding and_then
+gets_bind r f Q R h k =
+    let n = k h.value h.is in
+    record { value = n.value; ok = ap (λ s. and_then s f) h.ok ∙ n.ok; is = n.is }
+
+pub gets_end : {A : Type 0} (y : A) (R : A → Type 0) → R y → Gets (Ok y) R
+gets_end y R h = record { value = y; ok = refl; is = h }
+
+pub gets_true : {A : Type 0} (t : Bool) (r s : Result A ReadRefusal) (R : A → Type 0) → t ≡ true → Gets r R → Gets (if t then r else s) R
+gets_true t r s R e h = record { value = h.value; ok = cond-true _ _ _ e ∙ h.ok; is = h.is }
+
+pub gets_false : {A : Type 0} (t : Bool) (r s : Result A ReadRefusal) (R : A → Type 0) → t ≡ false → Gets s R → Gets (if t then r else s) R
+gets_false t r s R e h = record { value = h.value; ok = cond-false _ _ _ e ∙ h.ok; is = h.is }
+
+pub gets_more : {A : Type 0} (r : Result A ReadRefusal) (Q R : A → Type 0) → Gets r Q → ((x : A) → Q x → R x) → Gets r R
+gets_more r Q R h k = record { value = h.value; ok = h.ok; is = k h.value h.is }
+
+-- both at once: what is got is also what is found
+pub gets_found : {A : Type 0} (r : Result A ReadRefusal) (Q R : A → Type 0) → Gets r Q → Finds r R → Gets r (λ y. Q y × R y)
+gets_found r Q R h k = record { value = h.value; ok = h.ok; is = (h.is, subst (λ s. IfOk s R) h.ok k.is) }
+
+-- what was read is spelled by a text that fits, and is what the text says from the places of the words
+pub record Spelled {C A : Type 0} (spell : C → List Piece) (fits : C → Type 0) (says : C → List Place → A → Type 0) (at : At) (y : A × At) : Type 0 where
+  pub text : C
+  pub taken : Takes at.words (spell text) y.1.words
+  pub fit : fits text
+  pub is : says text (places at.words) y.0
+
+-- A reading function reads the texts that fit, where what follows is so.
+pub record Exact {C A : Type 0} (n : ℕ) (read : Read A) (spell : C → List Piece) (fits : C → Type 0) (says : C → List Place → A → Type 0) (follows : List Piece → Type 0) : Type 0 where
+  pub found : (at : At) → Finds (read at) (Spelled spell fits says at)
+  pub again : (at : At) (c : C) (rest : List Piece) → fits c → Ahead n at (spell c ++ rest) → follows rest → Gets (read at) (λ y. says c (places at.words) y.0 × Ahead n y.1 rest)

@@ -1,0 +1,209 @@
+-- The laws of refusals of statements and blocks.
+use Rattle.std.proofs.Common.{ℕ, zero, suc, ◌≤◌, Bool, true, false, ◌⊎◌, inl, inr, List, [], ◌∷◌, ◌++◌, Option, Some, None, refl, sym, ap, arith}
+use Rattle.std.specs.Prelude.{not}
+use Rattle.ps_token.specs.declared.token_kind.TokenKind.{TokenKind}
+use Rattle.ps_token.specs.declared.token_kind.TokenKind.TheVariants as kind
+use Rattle.ps_tree.specs.declared.cond.Cond.{Cond}
+use Rattle.ps_tree.specs.declared.limit_name.LimitName.TheVariants as limit
+use Rattle.ps_tree.specs.declared.stmt.Stmt.{Stmt}
+use Rattle.ps_tree.specs.declared.stmt.StmtKind.{StmtKind}
+use Rattle.ps_tree.specs.declared.stmt.StmtKind.TheVariants as stmt
+use Rattle.ps_parse.specs.declared.read_refusal.ReadRefusal.TheVariants.{Limit, LoopInAtomic}
+use Rattle.ps_grammar.specs.Grammar.{SumText, TestText, StmtText, assign, havoc, assume, assert, skip, atomic, if_then, if_else, while_do, BlockText, block_end}
+use Rattle.ps_grammar.specs.Words.{Word}
+use Rattle.ps_parse.specs.Reading.{Read, next_is, place_at, after_word}
+use Rattle.ps_parse.specs.Conds.{parens_at}
+use Rattle.ps_parse.specs.Blocks.{ended_at, assign_at, havoc_at, cond_stmt_at, skip_at, atomic_at, else_at, if_at, while_stmt_at, kind_at, stmt_at, has_more, block_at}
+use Rattle.ps_grammar.specs.Spelling.{Piece, Mark, cond_pieces, test_pieces, stmt_pieces, rest_pieces, block_pieces}
+use Rattle.ps_parse.proofs.Steps.{begins_piece, next_ahead, Not, Always}
+use Rattle.ps_parse.proofs.Sequences.{IsMark}
+use Rattle.ps_parse.proofs.StmtLaws.{else_pieces, if_pieces, if_of, if_spelled, if_is, then_spelled}
+use Rattle.ps_parse.proofs.BlockLaws.{stmts_go_on, block_of, stmts_of, block_back, block_spelled, goes_on}
+use Rattle.ps_parse.proofs.Guards.{IsTest, next_test, Guards, GuardsWhere, guards_where, Any, Example, resumed_mark, pieces_are}
+use Rattle.ps_parse.proofs.GuardSteps.{guards_same, guards_as, mapped_guards, placed_guards, refusing_guards, nothing_guards, both_guards, three_is, pair_up, of_pair, after_guards, word_refused_guards, word_alone, mark_example, closed_guards, example_after, example_closed, OfSort, choice_guards, last_guards}
+use Rattle.ps_parse.proofs.GuardLoops.{while_guards}
+use Rattle.ps_parse.proofs.SumGuards.{Two, GuardsIn, all_always, name_example, variable_guards, sum_guards, sum_example}
+use Rattle.ps_parse.proofs.CondGuards.{cond_guards, cond_example, parens_guards, test_example}
+
+-- ---- simple statements
+
+pub ended_guards : {C A : Type 0} {n : ℕ} {n' most : ℕ → ℕ} {read : Read A} {read' : ℕ → Read A} {spell : C → List Piece} {okay : C → Type 0} {alike : A → A → Type 0} {follows : List Piece → Type 0}
+    → ((rest : List Piece) → follows (Mark kind.Semicolon ∷ rest)) → Guards n n' most read read' spell okay alike follows → Guards n n' most (ended_at read) (λ i. ended_at (read' i)) (λ c. spell c ++ Mark kind.Semicolon ∷ []) okay alike Always
+unfolding ended_at
+ended_guards ends g = closed_guards kind.Semicolon (λ u. refl) ends g
+
+assign_guards : (t : Two) → GuardsIn t (assign_at t.scope t.most) (λ i. assign_at t.scope' (t.most' i)) (λ (c : List ℕ × SumText). stmt_pieces (assign c.0 c.1)) Any Always
+unfolding assign_at
+assign_guards t =
+    guards_as _ Always (λ c. c) (λ c. c) (λ c. refl) (λ c. refl) (λ c h. tt) (λ c h. (tt, tt))
+    (both_guards {m = t.left} {m' = t.left'} Any stmt.Assign (λ x y z w a b. tt) (variable_guards t) (λ c. omega arith) (λ i c. omega arith)
+    (after_guards kind.Becomes (λ u. refl) (omega arith) (λ i. omega arith) (ended_guards (λ rest. (refl, refl)) (sum_guards t)) (example_closed kind.Semicolon (λ u. refl) sum_example))
+    (example_after kind.Becomes (λ u. refl) (example_closed kind.Semicolon (λ u. refl) sum_example)) (λ d rest h. tt))
+
+havoc_guards : (t : Two) → GuardsIn t (havoc_at t.scope) (λ i. havoc_at t.scope') (λ x. stmt_pieces (havoc x)) Any Always
+unfolding havoc_at
+havoc_guards t = mapped_guards Any stmt.Havoc (λ x y h. tt) (after_guards kind.Havoc (λ u. refl) (omega arith) (λ i. omega arith) (ended_guards (λ rest. tt) (variable_guards t)) (example_closed kind.Semicolon (λ u. refl) name_example))
+
+cond_stmt_guards : (t : Two) (levels : ℕ) (word : TokenKind) (of : Cond → StmtKind) → IsMark word
+    → GuardsIn t (cond_stmt_at word of t.scope t.most levels) (λ i. cond_stmt_at word of t.scope' (t.most' i) levels) (λ c. Mark word ∷ (cond_pieces c ++ Mark kind.Semicolon ∷ [])) Any Always
+unfolding cond_stmt_at
+cond_stmt_guards t levels word of marked =
+    mapped_guards Any of (λ x y h. tt) (after_guards word marked (omega arith) (λ i. omega arith) (ended_guards (λ rest. (refl, (refl, (refl, refl)))) (cond_guards t levels)) (example_closed kind.Semicolon (λ u. refl) cond_example))
+
+skip_guards : (t : Two) → GuardsIn t skip_at (λ i. skip_at) (λ (u : Unit {0}). stmt_pieces skip) Any Always
+unfolding skip_at
+skip_guards t = mapped_guards Any (λ (w : Word). stmt.Skip) (λ x y h. tt) (after_guards kind.Skip (λ u. refl) (omega arith) (λ i. omega arith) (word_alone t.left t.left' t.most' kind.Semicolon (λ u. refl)) (mark_example kind.Semicolon (λ u. refl)))
+
+-- ---- statements with blocks
+
+abbrev BlockGuards : Two → Read (List Stmt) → (ℕ → Read (List Stmt)) → Type 0
+BlockGuards t block block' = GuardsIn t block block' block_pieces Any Always
+
+pub block_example : Example block_pieces Always
+block_example = record {
+  text = block_end;
+  fine = tt;
+  spelled = refl;
+  words = record { kind = kind.OpenBrace; text = []; place = record { line = 0; column = 0 } } ∷ record { kind = kind.CloseBrace; text = []; place = record { line = 0; column = 0 } } ∷ [];
+}
+
+atomic_guards : (t : Two) (block : Read (List Stmt)) (block' : ℕ → Read (List Stmt)) → BlockGuards t block block' → GuardsIn t (atomic_at block) (λ i. atomic_at (block' i)) (λ b. stmt_pieces (atomic b)) Any Always
+unfolding atomic_at
+atomic_guards t block block' g = mapped_guards Any stmt.Atomic (λ x y h. tt) (after_guards kind.Atomic (λ u. refl) (omega arith) (λ i. omega arith) g block_example)
+
+abbrev while_pieces : TestText × BlockText → List Piece
+while_pieces c = stmt_pieces (while_do c.0 c.1)
+
+while_example : Example while_pieces Always
+while_example = record {
+  text = (test_example.text, block_example.text);
+  fine = tt;
+  words = record { kind = kind.While; text = []; place = record { line = 0; column = 0 } } ∷ (test_example.words ++ block_example.words);
+  spelled = ap (λ (ps : List Piece). Mark kind.While ∷ ps) (pieces_are test_example.words block_example.words (test_pieces test_example.text) (block_pieces block_example.text) test_example.spelled block_example.spelled);
+}
+
+while_stmt_guards : (t : Two) (levels : ℕ) (inside : Bool) (block : Read (List Stmt)) (block' : ℕ → Read (List Stmt)) → BlockGuards t block block'
+    → GuardsWhere (next_is kind.While) t.left t.left' t.most' (while_stmt_at inside block t.scope t.most levels) (λ i. while_stmt_at inside (block' i) t.scope' (t.most' i) levels) while_pieces Always Any Always
+unfolding while_stmt_at while_example
+while_stmt_guards t levels true block block' g =
+    refusing_guards (next_is kind.While) t.left t.left' t.most' (λ at. LoopInAtomic (place_at at)) while_pieces Always Any Always (λ at. record { is = tt }) (λ at. refl)
+    (λ at e. resumed_mark kind.While (λ u. refl) at.words (LoopInAtomic (place_at at)) e while_example refl)
+while_stmt_guards t levels false block block' g =
+    guards_where (next_is kind.While)
+    (guards_as while_pieces Always (λ c. c) (λ c. c) (λ c. refl) (λ c. refl) (λ c h. tt) (λ c h. (tt, tt))
+    (both_guards {m = t.left} {m' = t.left'} Any stmt.While (λ x y z w a b. tt) (after_guards kind.While (λ u. refl) (omega arith) (λ i. omega arith) (parens_guards t levels) test_example) (λ c. omega arith) (λ i c. omega arith) g block_example (λ d rest h. tt)))
+
+else_sort : (o : Option BlockText) → Always o → OfSort (begins_piece kind.Else) true (λ (b : BlockText). Mark kind.Else ∷ block_pieces b) Always (Not kind.Else) (else_pieces o) ⊎ OfSort (begins_piece kind.Else) false (λ (u : Unit {0}). []) Always (Not kind.Else) (else_pieces o)
+else_sort None ok = inr (record { text = tt; fine = tt; same = refl; tells = λ rest h. h })
+else_sort (Some b) ok = inl (record { text = b; fine = tt; same = refl; tells = λ rest h. refl })
+
+else_guards : (t : Two) (block : Read (List Stmt)) (block' : ℕ → Read (List Stmt)) → BlockGuards t block block' → GuardsIn t (else_at block) (λ i. else_at (block' i)) else_pieces Any (Not kind.Else)
+unfolding else_at
+else_guards t block block' g =
+    choice_guards else_pieces Always (Not kind.Else) (next_is kind.Else) (begins_piece kind.Else) (next_test kind.Else) (λ k at ps h. next_ahead kind.Else h)
+    (λ b. Some b) (λ b. refl) (λ b h. tt) (λ (u : Unit {0}). None) (λ u. refl) (λ u h. tt) else_sort (λ rest h. tt) (λ rest h. tt)
+    (after_guards kind.Else (λ u. refl) (omega arith) (λ i. omega arith) g block_example) (nothing_guards t.left t.left' t.most' [] Any tt Always)
+
+if_guards : (t : Two) (levels : ℕ) (block : Read (List Stmt)) (block' : ℕ → Read (List Stmt)) → BlockGuards t block block' → GuardsIn t (if_at block t.scope t.most levels) (λ i. if_at (block' i) t.scope' (t.most' i) levels) if_pieces Any (Not kind.Else)
+unfolding if_at
+if_guards t levels block block' g =
+    guards_as if_pieces Always (λ c. record { test = c.0; held = c.1.0; failed = c.1.1 }) (λ c. (c.test, (c.held, c.failed))) (λ c. refl) (λ c. refl) (λ c h. tt) (λ c h. (tt, (tt, tt)))
+    (guards_same _ _ (three_is stmt.If (after_word kind.If (parens_at t.scope t.most levels)) block (else_at block)) (λ i. three_is stmt.If (after_word kind.If (parens_at t.scope' (t.most' i) levels)) (block' i) (else_at (block' i)))
+    (both_guards {m = t.left} {m' = t.left'} Any (of_pair stmt.If) (λ x y z w a b. tt) (after_guards kind.If (λ u. refl) (omega arith) (λ i. omega arith) (parens_guards t levels) test_example) (λ c. omega arith) (λ i c. omega arith)
+    (both_guards Any pair_up (λ x y z w a b. tt) g (λ c. omega arith) (λ i c. omega arith) (else_guards t block block' g) (record { text = None; fine = tt; words = []; spelled = refl }) (λ d rest h. tt))
+    (record { text = (block_example.text, None); fine = (tt, tt); words = block_example.words ++ []; spelled = pieces_are block_example.words [] (block_pieces block_example.text) [] block_example.spelled refl }) (λ d rest h. tt)))
+
+-- ---- which statement
+
+-- the statements in the order of the tests
+abbrev order : StmtText → ℕ
+order (assign x s) = 0
+order (havoc x) = 1
+order (assume c) = 2
+order (assert c) = 3
+order skip = 4
+order (atomic b) = 5
+order (if_then t b) = 6
+order (if_else t b c) = 6
+order (while_do t b) = 7
+
+abbrev From : ℕ → StmtText → Type 0
+From k s = k ≤ order s
+
+abbrev SortOf : {C : Type 0} → TokenKind → ℕ → (C → List Piece) → StmtText → Type 0
+SortOf k next spell s = OfSort (begins_piece k) true spell Always (Not kind.Else) (stmt_pieces s) ⊎ OfSort (begins_piece k) false stmt_pieces (From next) (Not kind.Else) (stmt_pieces s)
+
+sort_assign : (s : StmtText) → From 0 s → SortOf kind.Name 1 (λ (c : List ℕ × SumText). stmt_pieces (assign c.0 c.1)) s
+sort_assign (assign x u) ok = inl (record { text = (x, u); fine = tt; same = refl; tells = λ rest h. refl })
+sort_assign s ok = inr (record { text = s; fine = omega (arith, ok); same = refl; tells = λ rest h. refl })
+
+sort_havoc : (s : StmtText) → From 1 s → SortOf kind.Havoc 2 (λ x. stmt_pieces (havoc x)) s
+sort_havoc (havoc x) ok = inl (record { text = x; fine = tt; same = refl; tells = λ rest h. refl })
+sort_havoc s ok = inr (record { text = s; fine = omega (arith, ok); same = refl; tells = λ rest h. refl })
+
+sort_assume : (s : StmtText) → From 2 s → SortOf kind.Assume 3 (λ c. stmt_pieces (assume c)) s
+sort_assume (assume c) ok = inl (record { text = c; fine = tt; same = refl; tells = λ rest h. refl })
+sort_assume s ok = inr (record { text = s; fine = omega (arith, ok); same = refl; tells = λ rest h. refl })
+
+sort_assert : (s : StmtText) → From 3 s → SortOf kind.Assert 4 (λ c. stmt_pieces (assert c)) s
+sort_assert (assert c) ok = inl (record { text = c; fine = tt; same = refl; tells = λ rest h. refl })
+sort_assert s ok = inr (record { text = s; fine = omega (arith, ok); same = refl; tells = λ rest h. refl })
+
+sort_skip : (s : StmtText) → From 4 s → SortOf kind.Skip 5 (λ (u : Unit {0}). stmt_pieces skip) s
+sort_skip skip ok = inl (record { text = tt; fine = tt; same = refl; tells = λ rest h. refl })
+sort_skip s ok = inr (record { text = s; fine = omega (arith, ok); same = refl; tells = λ rest h. refl })
+
+sort_atomic : (s : StmtText) → From 5 s → SortOf kind.Atomic 6 (λ b. stmt_pieces (atomic b)) s
+sort_atomic (atomic b) ok = inl (record { text = b; fine = tt; same = refl; tells = λ rest h. refl })
+sort_atomic s ok = inr (record { text = s; fine = omega (arith, ok); same = refl; tells = λ rest h. refl })
+
+sort_if : (s : StmtText) → From 6 s → OfSort (begins_piece kind.If) true if_pieces Always (Not kind.Else) (stmt_pieces s) ⊎ OfSort (begins_piece kind.If) false while_pieces Always (Not kind.Else) (stmt_pieces s)
+sort_if (if_then t b) ok = inl (record { text = record { test = t; held = b; failed = None }; fine = tt; same = sym (then_spelled t b); tells = λ rest h. refl })
+sort_if (if_else t b c) ok = inl (record { text = record { test = t; held = b; failed = Some c }; fine = tt; same = refl; tells = λ rest h. refl })
+sort_if (while_do t b) ok = inr (record { text = (t, b); fine = tt; same = refl; tells = λ rest h. refl })
+sort_if s ok = absurd (omega (arith, ok))
+
+kind_guards : (t : Two) (levels : ℕ) (block : Bool → Read (List Stmt)) (block' : ℕ → Bool → Read (List Stmt)) → ((inside : Bool) → BlockGuards t (block inside) (λ i. block' i inside)) → (inside : Bool)
+    → GuardsIn t (kind_at block inside t.scope t.most levels) (λ i. kind_at (block' i) inside t.scope' (t.most' i) levels) stmt_pieces Any (Not kind.Else)
+unfolding kind_at
+kind_guards t levels block block' g inside =
+    guards_as stmt_pieces Always (λ s. s) (λ s. s) (λ s. refl) (λ s. refl) (λ s h. tt) (λ s h. omega arith)
+    (choice_guards stmt_pieces (From 0) (Not kind.Else) (next_is kind.Name) (begins_piece kind.Name) (next_test kind.Name) (λ k at ps h. next_ahead kind.Name h)
+    (λ c. assign c.0 c.1) (λ c. refl) (λ c h. omega arith) (λ s. s) (λ s. refl) (λ s h. omega arith) sort_assign (λ rest h. tt) (λ rest h. h) (assign_guards t)
+    (choice_guards stmt_pieces (From 1) (Not kind.Else) (next_is kind.Havoc) (begins_piece kind.Havoc) (next_test kind.Havoc) (λ k at ps h. next_ahead kind.Havoc h)
+    havoc (λ c. refl) (λ c h. omega arith) (λ s. s) (λ s. refl) (λ s h. omega (arith, h)) sort_havoc (λ rest h. tt) (λ rest h. h) (havoc_guards t)
+    (choice_guards stmt_pieces (From 2) (Not kind.Else) (next_is kind.Assume) (begins_piece kind.Assume) (next_test kind.Assume) (λ k at ps h. next_ahead kind.Assume h)
+    assume (λ c. refl) (λ c h. omega arith) (λ s. s) (λ s. refl) (λ s h. omega (arith, h)) sort_assume (λ rest h. tt) (λ rest h. h) (cond_stmt_guards t levels kind.Assume stmt.Assume (λ u. refl))
+    (choice_guards stmt_pieces (From 3) (Not kind.Else) (next_is kind.Assert) (begins_piece kind.Assert) (next_test kind.Assert) (λ k at ps h. next_ahead kind.Assert h)
+    assert (λ c. refl) (λ c h. omega arith) (λ s. s) (λ s. refl) (λ s h. omega (arith, h)) sort_assert (λ rest h. tt) (λ rest h. h) (cond_stmt_guards t levels kind.Assert stmt.Assert (λ u. refl))
+    (choice_guards stmt_pieces (From 4) (Not kind.Else) (next_is kind.Skip) (begins_piece kind.Skip) (next_test kind.Skip) (λ k at ps h. next_ahead kind.Skip h)
+    (λ (u : Unit {0}). skip) (λ c. refl) (λ c h. omega arith) (λ s. s) (λ s. refl) (λ s h. omega (arith, h)) sort_skip (λ rest h. tt) (λ rest h. h) (skip_guards t)
+    (choice_guards stmt_pieces (From 5) (Not kind.Else) (next_is kind.Atomic) (begins_piece kind.Atomic) (next_test kind.Atomic) (λ k at ps h. next_ahead kind.Atomic h)
+    atomic (λ c. refl) (λ c h. omega arith) (λ s. s) (λ s. refl) (λ s h. omega (arith, h)) sort_atomic (λ rest h. tt) (λ rest h. h) (atomic_guards t (block true) (λ i. block' i true) (g true))
+    (choice_guards stmt_pieces (From 6) (Not kind.Else) (next_is kind.If) (begins_piece kind.If) (next_test kind.If) (λ k at ps h. next_ahead kind.If h)
+    if_of if_spelled (λ c h. if_is (From 6) (λ u b. omega arith) (λ u b d. omega arith) c) (λ c. while_do c.0 c.1) (λ c. refl) (λ c h. omega arith) sort_if (λ rest h. h) (λ rest h. tt) (if_guards t levels (block inside) (λ i. block' i inside) (g inside))
+    (last_guards kind.While (λ c rest h. refl) while_example (while_stmt_guards t levels inside (block inside) (λ i. block' i inside) (g inside))))))))))
+
+stmt_guards : (t : Two) (levels : ℕ) (block : Bool → Read (List Stmt)) (block' : ℕ → Bool → Read (List Stmt)) → ((inside : Bool) → BlockGuards t (block inside) (λ i. block' i inside)) → (inside : Bool)
+    → GuardsIn t (stmt_at block inside t.scope t.most levels) (λ i. stmt_at (block' i) inside t.scope' (t.most' i) levels) stmt_pieces Any (Not kind.Else)
+unfolding stmt_at
+stmt_guards t levels block block' g inside = placed_guards (λ at k. record { place = place_at at; kind = k }) (kind_guards t levels block block' g inside)
+
+-- ---- blocks
+
+more_test : IsTest has_more
+more_test = record { same = λ at at' h. ap not ((next_test kind.CloseBrace).same at at' h) }
+
+rest_example : Example rest_pieces Always
+rest_example = record { text = block_end; fine = tt; words = record { kind = kind.CloseBrace; text = []; place = record { line = 0; column = 0 } } ∷ []; spelled = refl }
+
+pub block_guards : (t : Two) (levels : ℕ) (inside : Bool) → BlockGuards t (block_at t.scope t.most levels inside) (λ i. block_at t.scope' (t.most' i) levels inside)
+unfolding block_at after_word
+block_guards t zero inside =
+    word_refused_guards t.left t.left' t.most' kind.OpenBrace (λ w. Limit w.place limit.Depth) rest_pieces Always Any Always (λ u. refl) (λ w. record { is = tt }) (λ w. refl) rest_example
+block_guards t (suc levels) inside =
+    after_guards kind.OpenBrace (λ u. refl) (omega arith) (λ i. omega arith)
+    (guards_as rest_pieces Always block_of stmts_of block_back block_spelled (λ ss h. tt) (λ b h. all_always (stmts_of b))
+    (closed_guards kind.CloseBrace (λ u. refl) (λ rest. (refl, refl))
+    (while_guards has_more goes_on more_test stmts_go_on t.low t.low' (stmt_guards t levels (block_at t.scope t.most levels) (λ i. block_at t.scope' (t.most' i) levels) (λ u. block_guards t levels u) inside))))
+    rest_example

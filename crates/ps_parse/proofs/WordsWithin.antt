@@ -1,0 +1,71 @@
+-- The tokens of a text as its words.
+use Rattle.std.proofs.Common.{◌≡◌, ℕ, ◌+◌, ◌≤◌, List, [], ◌∷◌, suc, length, arith, true}
+use Rattle.std.specs.Prelude.{All}
+use Rattle.ps_token.specs.declared.token.Token.{Token}
+use Rattle.ps_token.specs.declared.token_kind.TokenKind.{TokenKind}
+use Rattle.ps_token.specs.declared.token_kind.TokenKind.TheVariants as kind
+use Rattle.ps_token.specs.Lexing.{AreTokens, AreUpTo, IsInside, IsNumber, IsSpelled}
+use Rattle.ps_parse.specs.Inner.Within.{AreWithin}
+use Rattle.ps_parse.specs.Reading.{is_kind}
+
+is_number : (k : TokenKind) (text : List ℕ) → IsSpelled k text → is_kind k kind.Number ≡ true → IsNumber text
+is_number kind.Number text h e = h
+is_number kind.Name text h e = absurd cc
+is_number kind.Global text h e = absurd cc
+is_number kind.Local text h e = absurd cc
+is_number kind.Init text h e = absurd cc
+is_number kind.Thread text h e = absurd cc
+is_number kind.Havoc text h e = absurd cc
+is_number kind.Assume text h e = absurd cc
+is_number kind.Assert text h e = absurd cc
+is_number kind.Skip text h e = absurd cc
+is_number kind.Atomic text h e = absurd cc
+is_number kind.If text h e = absurd cc
+is_number kind.Else text h e = absurd cc
+is_number kind.While text h e = absurd cc
+is_number kind.Becomes text h e = absurd cc
+is_number kind.LessEq text h e = absurd cc
+is_number kind.GreaterEq text h e = absurd cc
+is_number kind.EqualEqual text h e = absurd cc
+is_number kind.NotEqual text h e = absurd cc
+is_number kind.And text h e = absurd cc
+is_number kind.Or text h e = absurd cc
+is_number kind.Less text h e = absurd cc
+is_number kind.Greater text h e = absurd cc
+is_number kind.Not text h e = absurd cc
+is_number kind.Equal text h e = absurd cc
+is_number kind.Plus text h e = absurd cc
+is_number kind.Minus text h e = absurd cc
+is_number kind.Star text h e = absurd cc
+is_number kind.OpenParen text h e = absurd cc
+is_number kind.CloseParen text h e = absurd cc
+is_number kind.OpenBrace text h e = absurd cc
+is_number kind.CloseBrace text h e = absurd cc
+is_number kind.Semicolon text h e = absurd cc
+
+first_inside : (len : ℕ) (t : Token) (ts : List Token) → All (IsInside len) (t ∷ ts) → IsInside len t
+first_inside len t ts all = all 0 t (omega arith)
+
+rest_inside : (len : ℕ) (t : Token) (ts : List Token) → All (IsInside len) (t ∷ ts) → All (IsInside len) ts
+rest_inside len t ts all = λ k d lt. all (suc k) d (omega (arith, lt))
+
+within_from : (bytes : List ℕ) (from : ℕ) (ts : List Token) (to : ℕ) → AreUpTo bytes from ts to → All (IsInside (length bytes)) ts → AreWithin bytes ts
+within_from bytes from [] to cut inside = tt
+within_from bytes from (t ∷ ts) to cut inside = (
+  record {
+    ordered = omega (arith, (first_inside (length bytes) t ts inside).ordered);
+    inside = (first_inside (length bytes) t ts inside).inside;
+    number = is_number t.kind _ cut.1.text.spelled;
+  },
+  within_from bytes t.end ts to cut.2 (rest_inside (length bytes) t ts inside),
+)
+
+count_from : (bytes : List ℕ) (from : ℕ) (ts : List Token) (to : ℕ) → AreUpTo bytes from ts to → All (IsInside (length bytes)) ts → from + length ts ≤ to
+count_from bytes from [] to cut inside = omega (arith, cut)
+count_from bytes from (t ∷ ts) to cut inside = omega (arith, cut.0.ordered, (first_inside (length bytes) t ts inside).ordered, count_from bytes t.end ts to cut.2 (rest_inside (length bytes) t ts inside))
+
+pub tokens_within : (bytes : List ℕ) (ts : List Token) → AreTokens bytes ts → All (IsInside (length bytes)) ts → AreWithin bytes ts
+tokens_within bytes ts cut inside = within_from bytes 0 ts cut.to cut.cut inside
+
+pub tokens_few : (bytes : List ℕ) (ts : List Token) → AreTokens bytes ts → All (IsInside (length bytes)) ts → length ts ≤ length bytes
+tokens_few bytes ts cut inside = omega (arith, cut.rest.ordered, count_from bytes 0 ts cut.to cut.cut inside)

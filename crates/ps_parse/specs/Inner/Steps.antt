@@ -1,0 +1,31 @@
+-- Parts of the reading functions of declarations, as the code's calls have them.
+use Rattle.std.specs.Prelude.{ℕ, ◌+◌, List, ◌∷◌, ℤ, Option, Some, None, Result, Ok}
+use Rattle.ps_token.specs.declared.token_kind.TokenKind.TheVariants as kind
+use Rattle.ps_parse.specs.declared.read_refusal.ReadRefusal.{ReadRefusal}
+use Rattle.ps_tree.specs.declared.relation.Relation.{Relation}
+use Rattle.ps_parse.specs.Blocks.{ended_at}
+use Rattle.ps_parse.specs.Items.{counted, value_at}
+use Rattle.ps_grammar.specs.Names.{Names}
+use Rattle.ps_parse.specs.Sums.{init_sign_of, relation_at}
+use Rattle.ps_parse.specs.Reading.{At, Read, ◌>>=◌, after_word, next_is, while_at}
+use Rattle.ps_grammar.specs.Words.{Word}
+
+-- The value of a global, which stands after its name.
+unfoldable pub declared_value_at : Read (Option ℤ)
+declared_value_at at = after_word kind.Global (after_word kind.Name value_at) at
+
+-- The relations of an `init` item.
+unfoldable pub relations_at : Option Names → ℕ → Read (List Relation)
+relations_at scope n at = do
+  r ← after_word kind.Init (relation_at init_sign_of scope n) at
+  rs ← ended_at (while_at (next_is kind.And) (after_word kind.And (relation_at init_sign_of scope n)) n) r.1
+  Ok (r.0 ∷ rs.0, rs.1)
+
+-- the rows of what was read, where something was, and of what follows
+abbrev pub rows_then : Option ℕ → ℕ → ℕ
+rows_then None following = 0
+rows_then (Some rows) following = rows + following
+
+-- a number that follows a word, where it is read
+abbrev pub passed : (At → ℕ) → Result (Word × At) ReadRefusal → ℕ
+passed following read = counted (λ (w : Word). 0) following read

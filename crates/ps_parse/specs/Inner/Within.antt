@@ -1,0 +1,17 @@
+-- What the reader of words knows of tokens.
+use Rattle.std.specs.Prelude.{◌≡◌, ℕ, ◌≤◌, true, List, [], ◌∷◌, length, slice_range}
+use Rattle.ps_token.specs.declared.token.Token.{Token}
+use Rattle.ps_token.specs.declared.token_kind.TokenKind.TheVariants.{Number}
+use Rattle.ps_token.specs.Lexing.{IsNumber}
+use Rattle.ps_parse.specs.Reading.{is_kind}
+
+-- The token's bytes are within the text, and those of a number are 1 to 18 digits.
+pub record IsWithin (bytes : List ℕ) (token : Token) : Type 0 where
+  pub ordered : token.start ≤ token.end
+  pub inside : token.end ≤ length bytes
+  pub number : is_kind token.kind Number ≡ true → IsNumber (slice_range bytes token.start token.end)
+
+-- All of them are.
+abbrev pub AreWithin : List ℕ → List Token → Type 0
+AreWithin bytes [] = Unit {0}
+AreWithin bytes (t ∷ ts) = IsWithin bytes t × AreWithin bytes ts

@@ -1,0 +1,11 @@
+pub mod Reading
+pub mod Variables
+pub mod Sums
+pub mod Conds
+pub mod Blocks
+pub mod Items
+pub mod Reads
+pub mod Causes
+pub mod Texts
+pub mod Refusals
+pub mod Inner

@@ -1,0 +1,201 @@
+//! Reading conditions and tests.
+
+ghost use Rattle.std.specs.Prelude.{◌≡◌, ℕ, suc, [], ◌∷◌, List};
+ghost use Rattle.ps_token.specs.declared.token_kind.TokenKind.TheVariants as kind;
+ghost use Rattle.ps_tree.specs.declared.cond.Cond.{Cond};
+ghost use Rattle.ps_tree.specs.declared.cond.Cond.TheVariants as cond;
+ghost use Rattle.ps_parse.specs.Reading.{Gives, with_front, while_at, next_is, after_word};
+ghost use Rattle.ps_parse.specs.Inner.Scoped.{names_in};
+ghost use Rattle.ps_parse.specs.Conds.{one_or_all, conj_with, opens_at, unary_at, cond_at, test_at, parens_at};
+
+use crate::cursor::Cursor;
+use crate::parser::Parser;
+use crate::read_refusal::ReadRefusal;
+use crate::signs::Signs;
+use ps_token::TokenKind;
+use ps_tree::{Cond, LimitName, Test};
+use sqlite_items::{Boxed, Items};
+
+// One member is itself, several are an `And`.
+fn all_of(mut members: Vec<Cond>) -> Cond
+    ensures { (c : Cond) (cs : List Cond) → members.items ≡ c ∷ cs → result ≡ one_or_all cond.And c cs }
+{
+    if members.len() == 1 {
+        members.remove(0)
+    } else {
+        Cond::And(Items::from_vec(members))
+    }
+}
+
+// One member is itself, several are an `Or`.
+fn any_of(mut members: Vec<Cond>) -> Cond
+    ensures { (c : Cond) (cs : List Cond) → members.items ≡ c ∷ cs → result ≡ one_or_all cond.Or c cs }
+{
+    if members.len() == 1 {
+        members.remove(0)
+    } else {
+        Cond::Or(Items::from_vec(members))
+    }
+}
+
+// Whether a condition opens a level.
+#[tactic(auto, unfolding(crate::specs::Conds::opens_at))]
+fn opens<'b>(cursor: &Cursor<'b>) -> bool
+    ensures { result ≡ opens_at cursor.now }
+{
+    cursor.next_is(TokenKind::Not) || cursor.next_is(TokenKind::OpenParen)
+}
+
+impl<'a> Parser<'a> {
+    // A condition without `&&` and `||`, where no level may be opened.
+    #[tactic(auto, unfolding(crate::specs::Conds::unary_at, crate::specs::Reading::and_then))]
+    fn flat_unary<'b>(&self, cursor: &mut Cursor<'b>) -> Result<Cond, ReadRefusal>
+        ensures { Gives (λ x. x) result cursor.new (unary_at (names_in self.now.scope) self.now.most 0 cursor.old) }
+    {
+        if opens(cursor) {
+            return Err(ReadRefusal::Limit(cursor.place(), LimitName::Depth));
+        }
+        let relation = self.relation(Signs::All, cursor)?;
+        Ok(Cond::Rel(relation))
+    }
+
+    // The same, where one level may be opened, and so many more in it.
+    #[cycle(cond)]
+    #[tactic(auto, unfolding(crate::specs::Conds::unary_at, crate::specs::Conds::cond_at, crate::specs::Reading::after_word, crate::specs::Reading::and_then))]
+    fn nested_unary<'b>(&self, levels: u32, cursor: &mut Cursor<'b>) -> Result<Cond, ReadRefusal>
+        ensures { Gives (λ x. x) result cursor.new (unary_at (names_in self.now.scope) self.now.most (suc levels) cursor.old) }
+    {
+        if cursor.next_is(TokenKind::Not) {
+            cursor.word(TokenKind::Not)?;
+            let negated = self.unary(levels, cursor)?;
+            return Ok(Cond::Not(Boxed::new(self.alloc, negated)?));
+        }
+        if cursor.next_is(TokenKind::OpenParen) {
+            cursor.word(TokenKind::OpenParen)?;
+            let cond = self.cond(levels, cursor)?;
+            cursor.word(TokenKind::CloseParen)?;
+            return Ok(cond);
+        }
+        let relation = self.relation(Signs::All, cursor)?;
+        Ok(Cond::Rel(relation))
+    }
+
+    // A condition without `&&` and `||`, where so many levels may still be opened.
+    #[cycle(cond)]
+    fn unary<'b>(&self, levels: u32, cursor: &mut Cursor<'b>) -> Result<Cond, ReadRefusal>
+        ensures { Gives (λ x. x) result cursor.new (unary_at (names_in self.now.scope) self.now.most levels cursor.old) }
+    {
+        if levels == 0 {
+            return self.flat_unary(cursor);
+        }
+        self.nested_unary(levels - 1, cursor)
+    }
+
+    // The further members of an `And`, after those that were read.
+    #[cycle(cond)]
+    #[tactic(auto, using(crate::proofs::Repeated::repeats_none, crate::proofs::Repeated::repeats_more, crate::proofs::Repeated::repeats_stop, crate::proofs::Repeated::repeats_all), unfolding(crate::specs::Reading::after_word, crate::specs::Reading::and_then))]
+    fn further_unaries<'b>(
+        &self,
+        levels: u32,
+        mut members: Vec<Cond>,
+        cursor: &mut Cursor<'b>,
+    ) -> Result<Vec<Cond>, ReadRefusal>
+        ensures { Gives (λ v. v.items) result cursor.new (with_front members.items (while_at (next_is kind.And) (after_word kind.And (unary_at (names_in self.now.scope) self.now.most levels)) self.now.most cursor.old)) }
+    {
+        for _ in 0..self.most {
+            if !cursor.next_is(TokenKind::And) {
+                return Ok(members);
+            }
+            cursor.word(TokenKind::And)?;
+            members.push(self.unary(levels, cursor)?)?;
+        }
+        Ok(members)
+    }
+
+    // Conditions with `&&` between them.
+    #[cycle(cond)]
+    #[tactic(auto, unfolding(crate::specs::Conds::conj_with, crate::specs::Conds::members_at, crate::specs::Reading::and_then))]
+    fn conj<'b>(&self, levels: u32, cursor: &mut Cursor<'b>) -> Result<Cond, ReadRefusal>
+        ensures { Gives (λ x. x) result cursor.new (conj_with (unary_at (names_in self.now.scope) self.now.most levels) self.now.most cursor.old) }
+    {
+        let first = self.unary(levels, cursor)?;
+        let mut members = Vec::new(self.alloc);
+        members.push(first)?;
+        let members = self.further_unaries(levels, members, cursor)?;
+        Ok(all_of(members))
+    }
+
+    // The further members of an `Or`, after those that were read.
+    #[cycle(cond)]
+    #[tactic(auto, using(crate::proofs::Repeated::repeats_none, crate::proofs::Repeated::repeats_more, crate::proofs::Repeated::repeats_stop, crate::proofs::Repeated::repeats_all), unfolding(crate::specs::Reading::after_word, crate::specs::Reading::and_then))]
+    fn further_conjs<'b>(
+        &self,
+        levels: u32,
+        mut members: Vec<Cond>,
+        cursor: &mut Cursor<'b>,
+    ) -> Result<Vec<Cond>, ReadRefusal>
+        ensures { Gives (λ v. v.items) result cursor.new (with_front members.items (while_at (next_is kind.Or) (after_word kind.Or (conj_with (unary_at (names_in self.now.scope) self.now.most levels) self.now.most)) self.now.most cursor.old)) }
+    {
+        for _ in 0..self.most {
+            if !cursor.next_is(TokenKind::Or) {
+                return Ok(members);
+            }
+            cursor.word(TokenKind::Or)?;
+            members.push(self.conj(levels, cursor)?)?;
+        }
+        Ok(members)
+    }
+
+    /// Takes a condition, where so many levels may still be opened.
+    #[cycle(cond)]
+    #[tactic(auto, unfolding(crate::specs::Conds::cond_at, crate::specs::Conds::cond_with, crate::specs::Conds::members_at, crate::specs::Reading::and_then))]
+    pub(crate) fn cond<'b>(&self, levels: u32, cursor: &mut Cursor<'b>) -> Result<Cond, ReadRefusal>
+        ensures { Gives (λ x. x) result cursor.new (cond_at (names_in self.now.scope) self.now.most levels cursor.old) }
+    {
+        let first = self.conj(levels, cursor)?;
+        let mut members = Vec::new(self.alloc);
+        members.push(first)?;
+        let members = self.further_conjs(levels, members, cursor)?;
+        Ok(any_of(members))
+    }
+
+    // What stands in the parentheses after `if` and `while`.
+    #[tactic(auto, unfolding(crate::specs::Conds::test_at, crate::specs::Reading::and_then))]
+    fn test<'b>(&self, levels: u32, cursor: &mut Cursor<'b>) -> Result<Test, ReadRefusal>
+        ensures { Gives (λ x. x) result cursor.new (test_at (names_in self.now.scope) self.now.most levels cursor.old) }
+    {
+        if cursor.next_is(TokenKind::Star) {
+            cursor.word(TokenKind::Star)?;
+            return Ok(Test::Star);
+        }
+        let cond = self.cond(levels, cursor)?;
+        Ok(Test::Cond(cond))
+    }
+
+    // A test in its parentheses, where so many levels may be opened in them.
+    #[tactic(auto, unfolding(crate::specs::Conds::parens_at, crate::specs::Reading::and_then))]
+    fn nested_parens<'b>(&self, levels: u32, cursor: &mut Cursor<'b>) -> Result<Test, ReadRefusal>
+        ensures { Gives (λ x. x) result cursor.new (parens_at (names_in self.now.scope) self.now.most (suc levels) cursor.old) }
+    {
+        cursor.word(TokenKind::OpenParen)?;
+        let test = self.test(levels, cursor)?;
+        cursor.word(TokenKind::CloseParen)?;
+        Ok(test)
+    }
+
+    /// Takes a test in its parentheses, which open a level, where so many may still be opened.
+    #[tactic(auto, unfolding(crate::specs::Conds::parens_at, crate::specs::Reading::and_then))]
+    pub(crate) fn parens<'b>(
+        &self,
+        levels: u32,
+        cursor: &mut Cursor<'b>,
+    ) -> Result<Test, ReadRefusal>
+        ensures { Gives (λ x. x) result cursor.new (parens_at (names_in self.now.scope) self.now.most levels cursor.old) }
+    {
+        if levels == 0 {
+            let open = cursor.word(TokenKind::OpenParen)?;
+            return Err(ReadRefusal::Limit(open.place, LimitName::Depth));
+        }
+        self.nested_parens(levels - 1, cursor)
+    }
+}

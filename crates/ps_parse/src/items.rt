@@ -1,0 +1,330 @@
+//! Reading declarations.
+
+ghost use Rattle.std.specs.Prelude.{◌≡◌, ℕ, ◌+◌, ◌*◌, ◌<◌, ◌≤◌, ℤ, None, Some, Option, [], ◌∷◌, length, IfOk};
+ghost use Rattle.ps_token.specs.declared.token_kind.TokenKind.TheVariants as kind;
+ghost use Rattle.ps_tree.specs.declared.relation.Relation.{Relation};
+ghost use Rattle.ps_parse.specs.Reading.{At, Gives, with_front, while_at, next_is, after_word};
+ghost use Rattle.ps_parse.specs.Inner.Scoped.{names_in};
+ghost use Rattle.ps_parse.specs.Sums.{init_sign_of, relation_at};
+ghost use Rattle.ps_parse.specs.Inner.Steps.{declared_value_at, relations_at, rows_then};
+ghost use Rattle.ps_parse.specs.Items.{new_name_at, number_at, value_at, counted, rows_from, item_rows, global_at, local_at, init_at, counted_item_at, item_at, has_item, items_at};
+ghost use Rattle.ps_grammar.specs.Declarations.{rows_of_sign, rows_of_value, nothing_declared};
+
+use crate::cursor::Cursor;
+use crate::declared::{Declared, MOST_GLOBALS, MOST_LOCALS, MOST_ROWS};
+use crate::parser::Parser;
+use crate::read_refusal::ReadRefusal;
+use crate::scope::Scope;
+use crate::signs::Signs;
+use ps_token::TokenKind;
+use ps_tree::{GlobalDecl, LimitName, Name, Relation, Sign};
+use std::alloc::{AllocError, Global};
+
+// A number, which may have a `-` before it.
+#[tactic(auto, unfolding(crate::specs::Items::number_at, crate::specs::Reading::after_word, crate::specs::Reading::and_then))]
+fn number<'b>(cursor: &mut Cursor<'b>) -> Result<i128, ReadRefusal>
+    ensures { Gives (λ x. x) result cursor.new (number_at cursor.old) }
+{
+    if !cursor.next_is(TokenKind::Minus) {
+        let number = cursor.number()?;
+        return Ok(i128::from(number));
+    }
+    cursor.word(TokenKind::Minus)?;
+    let number = cursor.number()?;
+    Ok(-i128::from(number))
+}
+
+// `=` and a number, or nothing.
+#[tactic(auto, unfolding(crate::specs::Items::value_at, crate::specs::Reading::after_word, crate::specs::Reading::and_then))]
+fn value<'b>(cursor: &mut Cursor<'b>) -> Result<Option<i128>, ReadRefusal>
+    ensures { Gives (λ x. x) result cursor.new (value_at cursor.old) }
+{
+    if !cursor.next_is(TokenKind::Equal) {
+        return Ok(None);
+    }
+    cursor.word(TokenKind::Equal)?;
+    let number = number(cursor)?;
+    Ok(Some(number))
+}
+
+// A name that isn't declared yet, and that isn't one too many.
+#[tactic(auto, unfolding(crate::specs::Items::new_name_at, crate::specs::Reading::and_then))]
+fn new_name<'b>(
+    alloc: Global,
+    declared: &Declared,
+    count: usize,
+    most: usize,
+    limit: LimitName,
+    cursor: &mut Cursor<'b>,
+) -> Result<Name, ReadRefusal>
+    ensures gives { Gives (λ x. x) result cursor.new (new_name_at declared.now count most limit cursor.old) }
+    ensures room { IfOk result (λ _. count < most) }
+{
+    let word = cursor.word(TokenKind::Name)?;
+    if declared.variable(word.text).is_some() {
+        return Err(ReadRefusal::Twice(word.place));
+    }
+    if most <= count {
+        return Err(ReadRefusal::Limit(word.place, limit));
+    }
+    Ok(Name::from_bytes(Vec::from_slice(alloc, word.text)?))
+}
+
+// ---- the rows of an item, whatever names it has
+
+fn rows_of_sign(sign: Sign) -> u64
+    ensures is { result ≡ rows_of_sign sign }
+    ensures few { result ≤ 2 }
+{
+    match sign {
+        Sign::Equal => 2,
+        _ => 1,
+    }
+}
+
+// How many rows the next relation gives, or none where it isn't whole.
+fn next_rows<'a, 'b>(
+    parser: &Parser<'a>,
+    cursor: &mut Cursor<'b>,
+) -> Result<Option<u64>, AllocError>
+    ensures is { IfOk result (λ rows. (rest : At → ℕ) → counted (λ (r : Relation). rows_of_sign r.sign) rest (relation_at init_sign_of (names_in parser.now.scope) parser.now.most cursor.old) ≡ rows_then rows (rest cursor.new)) }
+    ensures few { IfOk result (λ rows. rows_then rows 0 ≤ 2) }
+{
+    match parser.relation(Signs::AtStart, cursor) {
+        Ok(relation) => Ok(Some(rows_of_sign(relation.sign))),
+        Err(ReadRefusal::Memory(e)) => Err(e),
+        Err(_) => Ok(None),
+    }
+}
+
+// How many rows the relations give that are whole.
+fn init_rows<'b>(alloc: Global, most: u32, cursor: &mut Cursor<'b>) -> Result<u64, AllocError>
+    ensures is { IfOk result (λ rows. rows ≡ rows_from most most cursor.old) }
+    ensures few { IfOk result (λ rows. rows ≤ 2 * most) }
+{
+    let parser = Parser {
+        alloc,
+        scope: Scope::Any,
+        most,
+    };
+    let mut rows = 0;
+    for _ in 0..most {
+        match next_rows(&parser, cursor)? {
+            Some(more) => rows += more,
+            None => return Ok(rows),
+        }
+        if !cursor.passes(TokenKind::And) {
+            return Ok(rows);
+        }
+    }
+    Ok(rows)
+}
+
+// The value of a global, which stands after its name.
+#[tactic(auto, unfolding(crate::specs::Inner::Steps::declared_value_at, crate::specs::Reading::after_word, crate::specs::Reading::and_then))]
+fn declared_value<'b>(cursor: &mut Cursor<'b>) -> Result<Option<i128>, ReadRefusal>
+    ensures { Gives (λ x. x) result cursor.new (declared_value_at cursor.old) }
+{
+    cursor.word(TokenKind::Global)?;
+    cursor.word(TokenKind::Name)?;
+    value(cursor)
+}
+
+// How many rows the value of a global gives.
+#[tactic(auto, unfolding(crate::specs::Inner::Steps::declared_value_at))]
+fn value_rows<'b>(cursor: &mut Cursor<'b>) -> Result<u64, AllocError>
+    ensures is { IfOk result (λ rows. rows ≡ counted rows_of_value (λ _. 0) (declared_value_at cursor.old)) }
+    ensures few { IfOk result (λ rows. rows ≤ 2) }
+{
+    match declared_value(cursor) {
+        Ok(Some(_value)) => Ok(2),
+        Ok(None) => Ok(0),
+        Err(ReadRefusal::Memory(e)) => Err(e),
+        Err(_) => Ok(0),
+    }
+}
+
+// How many rows an item gives, as far as it is of the grammar.
+#[tactic(auto, unfolding(crate::specs::Items::item_rows, crate::specs::Inner::Steps::declared_value_at))]
+fn item_rows<'b>(alloc: Global, most: u32, cursor: &mut Cursor<'b>) -> Result<u64, AllocError>
+    ensures is { IfOk result (λ rows. rows ≡ item_rows most cursor.old) }
+    ensures few { IfOk result (λ rows. rows ≤ 2 * most + 2) }
+{
+    if cursor.next_is(TokenKind::Global) {
+        return value_rows(cursor);
+    }
+    if !cursor.next_is(TokenKind::Init) {
+        return Ok(0);
+    }
+    if !cursor.passes(TokenKind::Init) {
+        return Ok(0);
+    }
+    init_rows(alloc, most, cursor)
+}
+
+// ---- items
+
+// `global NAME (= number)? ;`
+#[tactic(auto, unfolding(crate::specs::Items::global_at, crate::specs::Blocks::ended_at, crate::specs::Reading::after_word, crate::specs::Reading::and_then))]
+fn global<'b>(
+    alloc: Global,
+    declared: Declared,
+    cursor: &mut Cursor<'b>,
+) -> Result<Declared, ReadRefusal>
+    ensures { Gives (λ x. x) result cursor.new (global_at declared cursor.old) }
+{
+    cursor.word(TokenKind::Global)?;
+    let count = declared.count_globals();
+    let name = new_name(
+        alloc,
+        &declared,
+        count,
+        MOST_GLOBALS,
+        LimitName::Globals,
+        cursor,
+    )?;
+    let value = value(cursor)?;
+    cursor.word(TokenKind::Semicolon)?;
+    Ok(declared.with_global(GlobalDecl { name, value })?)
+}
+
+// `local NAME ;`
+#[tactic(auto, unfolding(crate::specs::Items::local_at, crate::specs::Blocks::ended_at, crate::specs::Reading::after_word, crate::specs::Reading::and_then))]
+fn local<'b>(
+    alloc: Global,
+    declared: Declared,
+    cursor: &mut Cursor<'b>,
+) -> Result<Declared, ReadRefusal>
+    ensures { Gives (λ x. x) result cursor.new (local_at declared cursor.old) }
+{
+    cursor.word(TokenKind::Local)?;
+    let count = declared.count_locals();
+    let name = new_name(
+        alloc,
+        &declared,
+        count,
+        MOST_LOCALS,
+        LimitName::Locals,
+        cursor,
+    )?;
+    cursor.word(TokenKind::Semicolon)?;
+    Ok(declared.with_local(name)?)
+}
+
+impl<'a> Parser<'a> {
+    // The further relations of an `init` item, after those that were read.
+    #[tactic(auto, using(crate::proofs::Repeated::repeats_none, crate::proofs::Repeated::repeats_more, crate::proofs::Repeated::repeats_stop, crate::proofs::Repeated::repeats_all), unfolding(crate::specs::Reading::after_word, crate::specs::Reading::and_then))]
+    fn further_relations<'b>(
+        &self,
+        mut relations: Vec<Relation>,
+        cursor: &mut Cursor<'b>,
+    ) -> Result<Vec<Relation>, ReadRefusal>
+        ensures { Gives (λ v. v.items) result cursor.new (with_front relations.items (while_at (next_is kind.And) (after_word kind.And (relation_at init_sign_of (names_in self.now.scope) self.now.most)) self.now.most cursor.old)) }
+    {
+        for _ in 0..self.most {
+            if !cursor.next_is(TokenKind::And) {
+                return Ok(relations);
+            }
+            cursor.word(TokenKind::And)?;
+            relations.push(self.relation(Signs::AtStart, cursor)?)?;
+        }
+        Ok(relations)
+    }
+
+    // The relations of an `init` item.
+    #[tactic(auto, unfolding(crate::specs::Inner::Steps::relations_at, crate::specs::Blocks::ended_at, crate::specs::Reading::after_word, crate::specs::Reading::and_then))]
+    fn relations<'b>(&self, cursor: &mut Cursor<'b>) -> Result<Vec<Relation>, ReadRefusal>
+        ensures { Gives (λ v. v.items) result cursor.new (relations_at (names_in self.now.scope) self.now.most cursor.old) }
+    {
+        cursor.word(TokenKind::Init)?;
+        let first = self.relation(Signs::AtStart, cursor)?;
+        let mut relations = Vec::new(self.alloc);
+        relations.push(first)?;
+        let relations = self.further_relations(relations, cursor)?;
+        cursor.word(TokenKind::Semicolon)?;
+        Ok(relations)
+    }
+}
+
+// `init rel (&& rel)* ;`
+#[tactic(auto, unfolding(crate::specs::Items::init_at, crate::specs::Inner::Steps::relations_at, crate::specs::Reading::and_then))]
+fn init<'b>(
+    alloc: Global,
+    most: u32,
+    declared: Declared,
+    cursor: &mut Cursor<'b>,
+) -> Result<Declared, ReadRefusal>
+    ensures { Gives (λ x. x) result cursor.new (init_at declared most cursor.old) }
+{
+    let parser = Parser {
+        alloc,
+        scope: Scope::Known(&declared),
+        most,
+    };
+    let relations = parser.relations(cursor)?;
+    Ok(declared.with_inits(relations)?)
+}
+
+// An item, whose rows are counted.
+#[tactic(auto, unfolding(crate::specs::Items::counted_item_at))]
+fn counted_item<'b>(
+    alloc: Global,
+    most: u32,
+    declared: Declared,
+    cursor: &mut Cursor<'b>,
+) -> Result<Declared, ReadRefusal>
+    ensures { Gives (λ x. x) result cursor.new (counted_item_at declared most cursor.old) }
+{
+    if cursor.next_is(TokenKind::Global) {
+        global(alloc, declared, cursor)
+    } else if cursor.next_is(TokenKind::Local) {
+        local(alloc, declared, cursor)
+    } else {
+        init(alloc, most, declared, cursor)
+    }
+}
+
+// An item.
+#[tactic(auto, unfolding(crate::specs::Items::item_at))]
+fn item<'b>(
+    alloc: Global,
+    most: u32,
+    declared: Declared,
+    cursor: &mut Cursor<'b>,
+) -> Result<Declared, ReadRefusal>
+    ensures { Gives (λ x. x) result cursor.new (item_at declared most cursor.old) }
+{
+    let rows = declared.rows() + item_rows(alloc, most, &mut cursor.fork())?;
+    if MOST_ROWS < rows {
+        return Err(ReadRefusal::Limit(cursor.place(), LimitName::Init));
+    }
+    counted_item(alloc, most, declared.with_rows(rows), cursor)
+}
+
+// Whether an item follows.
+fn has_item<'b>(cursor: &Cursor<'b>) -> bool
+    ensures { result ≡ has_item cursor.now }
+{
+    cursor.next_is(TokenKind::Global)
+        || cursor.next_is(TokenKind::Local)
+        || cursor.next_is(TokenKind::Init)
+}
+
+/// Takes the declarations, as long as there are any.
+#[tactic(auto, using(crate::proofs::Declarations::items_more, crate::proofs::Declarations::items_stop, crate::proofs::Declarations::items_all))]
+pub(crate) fn items<'b>(
+    alloc: Global,
+    most: u32,
+    cursor: &mut Cursor<'b>,
+) -> Result<Declared, ReadRefusal>
+    ensures { Gives (λ x. x) result cursor.new (items_at most nothing_declared most cursor.old) }
+{
+    let mut declared = Declared::new(alloc);
+    for _ in 0..most {
+        if !has_item(cursor) {
+            return Ok(declared);
+        }
+        declared = item(alloc, most, declared, cursor)?;
+    }
+    Ok(declared)
+}

@@ -1,0 +1,25 @@
+//! Reading programs, with the first refusal.
+//!
+//! Its definitions, in the order to read them: `Reads` (where no text of the grammar goes on), `Causes` (why each other
+//! refusal stands at a word) and `Texts` (both of bytes); `Reading`, `Variables`, `Sums`, `Conds`, `Blocks` and `Items` (a
+//! reading function for each rule); `Refusals` (the lines that tell refusals). `Inner` is for private clauses alone.
+#![tactic(auto)]
+
+mod blocks;
+mod conds;
+mod cursor;
+mod declared;
+mod items;
+pub mod laws;
+mod parser;
+mod read_refusal;
+mod reading;
+mod refusal_lines;
+mod scope;
+mod signs;
+mod sums;
+mod word;
+
+pub use read_refusal::ReadRefusal;
+pub use reading::read_program;
+pub use refusal_lines::refusal_line;

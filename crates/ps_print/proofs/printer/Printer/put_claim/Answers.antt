@@ -1,0 +1,5 @@
+use Rattle.ps_print.proofs.Putting.{chain}
+use Rattle.ps_print.proofs.printer.Printer.put_claim.Goals as goal
+
+pub returns : goal.returns
+returns c = chain c.in_ok-put_mark.ensures (chain c.in_ok-put_cond.ensures c.in_ok-put_mark-2.ensures)

@@ -1,9 +1,0 @@
-use Rattle.std.proofs.Common.{◌-◌}
-use Rattle.ps_syntax.specs.Words.{while_at, with_front}
-use Rattle.ps_syntax.specs.Scoped.{names_in}
-use Rattle.ps_syntax.specs.Sums.{adds, further_product_at}
-use Rattle.ps_syntax.proofs.Repeated.{Repeats}
-use Rattle.ps_syntax.proofs.parser.Parser.further_products.Given as goal
-
-abbrev pub invariant-loop : goal.invariant-loop
-invariant-loop l = Repeats adds (further_product_at (names_in l.self.scope)) l.terms.items (l.self.most - l.counter) l.cursor (with_front l.fn.terms.items (while_at adds (further_product_at (names_in l.self.scope)) l.self.most l.fn.cursor))

@@ -1,5 +1,0 @@
-use Rattle.ps_syntax.proofs.Putting.{chain}
-use Rattle.ps_syntax.proofs.printer.Printer.put_claim.Goals as goal
-
-pub returns : goal.returns
-returns c = chain c.in_ok-put_mark.ensures (chain c.in_ok-put_cond.ensures c.in_ok-put_mark-2.ensures)

@@ -1,7 +1,0 @@
-use Rattle.std.proofs.Common.{ℕ, List, sym, ap, ◌∷◌, []}
-use Rattle.ps_syntax.specs.Spelling.{NamePiece}
-use Rattle.ps_syntax.proofs.Putting.{chain, respell}
-use Rattle.ps_syntax.proofs.printing.put_local.Goals as goal
-
-pub returns : goal.returns
-returns c = chain c.in_ok-put_mark.ensures (chain (respell (ap (λ (x : List ℕ). NamePiece x ∷ []) (sym c.as_slice.ensures)) c.in_ok-put_name.ensures) c.in_ok-put_mark-2.ensures)

@@ -1,7 +1,0 @@
--- What contracts see of the reader's own types.
-use Rattle.ps_syntax.specs.declared.word.Word as code
-use Rattle.ps_syntax.specs.Words.{Word}
-
--- a word with its bytes
-abbrev pub seen : code.Word → Word
-seen w = record { kind = w.kind; text = w.text.now; place = w.place }

@@ -1,5 +1,0 @@
-use Rattle.ps_text.proofs.Digits.{u32_answer}
-use Rattle.ps_text.proofs.decimal.read_u32.Goals as goal
-
-pub returns-clause-canonical : goal.returns-clause-canonical
-returns-clause-canonical c = rw c.short_number_of.ensures (u32_answer c.args.field.now)

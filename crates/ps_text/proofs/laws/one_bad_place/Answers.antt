@@ -1,5 +1,0 @@
-use Rattle.ps_text.proofs.OneCut.{one_place}
-use Rattle.ps_text.proofs.laws.one_bad_place.Goals as goal
-
-pub returns : goal.returns
-returns c = one_place c.args.bytes.now

@@ -1,5 +1,0 @@
-use Rattle.ps_text.proofs.OneCut.{not_both}
-use Rattle.ps_text.proofs.laws.tokens_or_bad.Goals as goal
-
-pub returns : goal.returns
-returns c = not_both c.args.bytes.now

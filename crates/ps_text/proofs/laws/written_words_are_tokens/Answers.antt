@@ -1,5 +1,0 @@
-use Rattle.ps_text.proofs.WrittenWords.{words_are_tokens}
-use Rattle.ps_text.proofs.laws.written_words_are_tokens.Goals as goal
-
-pub returns : goal.returns
-returns c = words_are_tokens c.args.bytes.now

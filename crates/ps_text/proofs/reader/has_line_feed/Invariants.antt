@@ -1,6 +1,0 @@
-use Rattle.std.proofs.Common.{◌≡◌, drop}
-use Rattle.ps_text.specs.Tokens.{has_newline, tokens}
-use Rattle.ps_text.proofs.reader.has_line_feed.Given as goal
-
-abbrev pub invariant-loop-byte : goal.invariant-loop-byte
-invariant-loop-byte l = has_newline (tokens (drop l.byte-index l.bytes)) ≡ has_newline (tokens l.bytes)

@@ -1,9 +1,0 @@
-use Rattle.std.proofs.Common.{◌-◌, length}
-use Rattle.ps_text.proofs.LineList.{Going}
-use Rattle.ps_text.proofs.splitting.lines.Given as goal
-
-abbrev pub invariant-going : goal.invariant-going
-invariant-going l = Going l.bytes l.first l.start l.number l.lines.items
-
-abbrev pub decreases-going : goal.decreases-going
-decreases-going l = length l.bytes - l.start
