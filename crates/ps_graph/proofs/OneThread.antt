@@ -31,14 +31,14 @@ along_parts true (Some x) w c b h = let q : (x ≡ w) × (c ≡ b) = some_pair_p
 along_parts false o w c b h = cc
 
 -- the step, if there is one, is along some edge, at whose target the thread then stands
-abbrev Leads : List Command → List Edge → ℕ → ℕ → Values → List ℤ → Option (Values × Thread) → Type 0
-Leads commands edges z a v cs None = Unit {0}
-Leads commands edges z a v cs (Some q) =
-    (e : Edge) × (b : ℕ) × IsIn e edges × (along commands e a v cs ≡ Some (q.0, b)) × ThreadStands commands edges z q.1 b
+abbrev Leads : List Command → List Edge → ℕ → Values → List ℤ → Option (Values × Thread) → Type 0
+Leads commands edges a v cs None = Unit {0}
+Leads commands edges a v cs (Some q) =
+    (e : Edge) × (b : ℕ) × IsIn e edges × (along commands e a v cs ≡ Some (q.0, b)) × ThreadStands commands edges q.1 b
 
 -- the step is to these values, and the thread then stands at this location
-abbrev Comes : List Command → List Edge → ℕ → Values → ℕ → Option (Values × Thread) → Type 0
-Comes commands edges z w b o = (u : Thread) × (o ≡ Some (w, u)) × ThreadStands commands edges z u b
+abbrev Comes : List Command → List Edge → Values → ℕ → Option (Values × Thread) → Type 0
+Comes commands edges w b o = (u : Thread) × (o ≡ Some (w, u)) × ThreadStands commands edges u b
 
 module _ (commands : List Command) (edges : List Edge) where
   -- a path that gives values without a choice left is an edge to its goal, or to the error where it fails
@@ -91,42 +91,42 @@ module _ (commands : List Command) (edges : List Edge) where
       at false f t = absurd (subst NotFails g (never_fails p v cs f))
 
   -- the step of a statement that is run in one go
-  settled_leads : (z a b : ℕ) (rest : List Stmt) (ps : List (List Act)) (v : Values) (cs : List ℤ) (o : Outcome) →
-      Drawn commands a (going_to b ps) (leaving a edges) → RestStands commands edges rest b z → Agree ps v cs o →
-      Leads commands edges z a v cs (settled rest o)
-  settled_leads z a b rest ps v cs (Goes w []) d r g = elim g.complete [ inl e ↦ (let no_such : Goes w [] ≡ Stops = e in cc) | inr f ↦ at (found_path ps v cs (Goes w []) f) ]
+  settled_leads : (a b : ℕ) (rest : List Stmt) (ps : List (List Act)) (v : Values) (cs : List ℤ) (o : Outcome) →
+      Drawn commands a (going_to b ps) (leaving a edges) → RestStands commands edges rest b → Agree ps v cs o →
+      Leads commands edges a v cs (settled rest o)
+  settled_leads a b rest ps v cs (Goes w []) d r g = elim g.complete [ inl e ↦ (let no_such : Goes w [] ≡ Stops = e in cc) | inr f ↦ at (found_path ps v cs (Goes w []) f) ]
     where
-      at : (p : List Act) × IsIn p ps × (gives p v cs ≡ Goes w []) → Leads commands edges z a v cs (Some (w, Runs rest))
+      at : (p : List Act) × IsIn p ps × (gives p v cs ≡ Goes w []) → Leads commands edges a v cs (Some (w, Runs rest))
       at (p, h, e) = on (taken a (going_to b ps) d p b (in_going b p ps h) v cs w (ap used e))
         where
           on : (x : Edge) × (y : ℕ) × IsIn x edges × (along commands x a v cs ≡ Some (w, y)) × (y ≡ (if is_failing p then 1 else b)) →
-              Leads commands edges z a v cs (Some (w, Runs rest))
-          on (x, y, i, l, t) = (x, y, i, l, subst (λ (n : ℕ). RestStands commands edges rest n z) (sym (goes_on p v cs w [] y b e t)) r)
-  settled_leads z a b rest ps v cs (Goes w (c ∷ ds)) d r g = tt
-  settled_leads z a b rest ps v cs (Fails w []) d r g = elim g.complete [ inl e ↦ (let no_such : Fails w [] ≡ Stops = e in cc) | inr f ↦ at (found_path ps v cs (Fails w []) f) ]
+              Leads commands edges a v cs (Some (w, Runs rest))
+          on (x, y, i, l, t) = (x, y, i, l, subst (λ (n : ℕ). RestStands commands edges rest n) (sym (goes_on p v cs w [] y b e t)) r)
+  settled_leads a b rest ps v cs (Goes w (c ∷ ds)) d r g = tt
+  settled_leads a b rest ps v cs (Fails w []) d r g = elim g.complete [ inl e ↦ (let no_such : Fails w [] ≡ Stops = e in cc) | inr f ↦ at (found_path ps v cs (Fails w []) f) ]
     where
-      at : (p : List Act) × IsIn p ps × (gives p v cs ≡ Fails w []) → Leads commands edges z a v cs (Some (w, Failed))
+      at : (p : List Act) × IsIn p ps × (gives p v cs ≡ Fails w []) → Leads commands edges a v cs (Some (w, Failed))
       at (p, h, e) = on (taken a (going_to b ps) d p b (in_going b p ps h) v cs w (ap used e))
         where
           on : (x : Edge) × (y : ℕ) × IsIn x edges × (along commands x a v cs ≡ Some (w, y)) × (y ≡ (if is_failing p then 1 else b)) →
-              Leads commands edges z a v cs (Some (w, Failed))
+              Leads commands edges a v cs (Some (w, Failed))
           on (x, y, i, l, t) = (x, y, i, l, breaks p v cs w [] y b e t)
-  settled_leads z a b rest ps v cs (Fails w (c ∷ ds)) d r g = tt
-  settled_leads z a b rest ps v cs Stops d r g = tt
+  settled_leads a b rest ps v cs (Fails w (c ∷ ds)) d r g = tt
+  settled_leads a b rest ps v cs Stops d r g = tt
 
-  settled_comes : (z a b : ℕ) (rest : List Stmt) (ps : List (List Act)) (v : Values) (cs : List ℤ) (o : Outcome) →
-      Drawn commands a (going_to b ps) (leaving a edges) → RestStands commands edges rest b z → Agree ps v cs o →
-      (e : Edge) (w : Values) (y : ℕ) → IsIn e edges → along commands e a v cs ≡ Some (w, y) → Comes commands edges z w y (settled rest o)
-  settled_comes z a b rest ps v cs o d r g e w y h l = at (untaken a (going_to b ps) d e h v cs w y l)
+  settled_comes : (a b : ℕ) (rest : List Stmt) (ps : List (List Act)) (v : Values) (cs : List ℤ) (o : Outcome) →
+      Drawn commands a (going_to b ps) (leaving a edges) → RestStands commands edges rest b → Agree ps v cs o →
+      (e : Edge) (w : Values) (y : ℕ) → IsIn e edges → along commands e a v cs ≡ Some (w, y) → Comes commands edges w y (settled rest o)
+  settled_comes a b rest ps v cs o d r g e w y h l = at (untaken a (going_to b ps) d e h v cs w y l)
     where
       ended : (p : List Act) (x : Outcome) → gives p v cs ≡ x → used x ≡ Some w → y ≡ (if is_failing p then 1 else b) →
-          (x ≡ Stops) ⊎ (x ≡ o) → Comes commands edges z w y (settled rest o)
+          (x ≡ Stops) ⊎ (x ≡ o) → Comes commands edges w y (settled rest o)
       ended p Stops k u t s = cc
       ended p (Goes x []) k u t (inl n) = let no_such : Goes x [] ≡ Stops = n in cc
       ended p (Goes x []) k u t (inr n) = (
         Runs rest,
         ap (settled rest) (sym n) ∙ ap (λ (q : Option Values). option_map (λ (m : Values). (m, Runs rest)) q) u,
-        subst (λ (i : ℕ). RestStands commands edges rest i z) (sym (goes_on p v cs x [] y b k t)) r,
+        subst (λ (i : ℕ). RestStands commands edges rest i) (sym (goes_on p v cs x [] y b k t)) r,
       )
       ended p (Goes x (c ∷ ds)) k u t s = cc
       ended p (Fails x []) k u t (inl n) = let no_such : Fails x [] ≡ Stops = n in cc
@@ -138,59 +138,59 @@ module _ (commands : List Command) (edges : List Edge) where
       ended p (Fails x (c ∷ ds)) k u t s = cc
 
       at : (p : List Act × ℕ) × IsIn p (going_to b ps) × (used (gives p.0 v cs) ≡ Some w) × (y ≡ (if is_failing p.0 then 1 else p.1)) →
-          Comes commands edges z w y (settled rest o)
+          Comes commands edges w y (settled rest o)
       at (p, i, u, t) =
           let q : IsIn p.0 ps × (p.1 ≡ b) = of_going b p ps i in
           ended p.0 (gives p.0 v cs) refl u (t ∙ ap (λ (n : ℕ). if is_failing p.0 then 1 else n) q.1) (sound_path ps v cs o p.0 g.sound q.0)
 
   -- the step of a test
-  chosen_leads : (z a b c : ℕ) (held failed : List Stmt) (t : Test) (v : Values) (cs : List ℤ) →
+  chosen_leads : (a b c : ℕ) (held failed : List Stmt) (t : Test) (v : Values) (cs : List ℤ) →
       Drawn commands a (going_to b (ways true t) ++ going_to c (ways false t)) (leaving a edges) →
-      RestStands commands edges held b z → RestStands commands edges failed c z →
-      Leads commands edges z a v cs (chosen (decided t v cs) held failed v)
-  chosen_leads z a b c held failed t v cs d hold fail = at (decided t v cs) (ways_agree true t v cs) (ways_agree false t v cs)
+      RestStands commands edges held b → RestStands commands edges failed c →
+      Leads commands edges a v cs (chosen (decided t v cs) held failed v)
+  chosen_leads a b c held failed t v cs d hold fail = at (decided t v cs) (ways_agree true t v cs) (ways_agree false t v cs)
     where
       at : (o : Option (Bool × List ℤ)) → Agree (ways true t) v cs (came true o v) → Agree (ways false t) v cs (came false o v) →
-          Leads commands edges z a v cs (chosen o held failed v)
+          Leads commands edges a v cs (chosen o held failed v)
       at None g f = tt
       at (Some (true, [])) g f = elim g.complete [ inl e ↦ (let no_such : Goes v [] ≡ Stops = e in cc) | inr k ↦ on (found_path (ways true t) v cs (Goes v []) k) ]
         where
-          on : (p : List Act) × IsIn p (ways true t) × (gives p v cs ≡ Goes v []) → Leads commands edges z a v cs (Some (v, Runs held))
+          on : (p : List Act) × IsIn p (ways true t) × (gives p v cs ≡ Goes v []) → Leads commands edges a v cs (Some (v, Runs held))
           on (p, h, e) = by (taken a (going_to b (ways true t) ++ going_to c (ways false t)) d p b
               (in_left (p, b) (going_to b (ways true t)) (going_to c (ways false t)) (in_going b p (ways true t) h)) v cs v (ap used e))
             where
               by : (x : Edge) × (y : ℕ) × IsIn x edges × (along commands x a v cs ≡ Some (v, y)) × (y ≡ (if is_failing p then 1 else b)) →
-                  Leads commands edges z a v cs (Some (v, Runs held))
-              by (x, y, i, l, n) = (x, y, i, l, subst (λ (m : ℕ). RestStands commands edges held m z) (sym (goes_on p v cs v [] y b e n)) hold)
+                  Leads commands edges a v cs (Some (v, Runs held))
+              by (x, y, i, l, n) = (x, y, i, l, subst (λ (m : ℕ). RestStands commands edges held m) (sym (goes_on p v cs v [] y b e n)) hold)
       at (Some (true, k ∷ ks)) g f = tt
       at (Some (false, [])) g f = elim f.complete [ inl e ↦ (let no_such : Goes v [] ≡ Stops = e in cc) | inr k ↦ on (found_path (ways false t) v cs (Goes v []) k) ]
         where
-          on : (p : List Act) × IsIn p (ways false t) × (gives p v cs ≡ Goes v []) → Leads commands edges z a v cs (Some (v, Runs failed))
+          on : (p : List Act) × IsIn p (ways false t) × (gives p v cs ≡ Goes v []) → Leads commands edges a v cs (Some (v, Runs failed))
           on (p, h, e) = by (taken a (going_to b (ways true t) ++ going_to c (ways false t)) d p c
               (in_right (p, c) (going_to b (ways true t)) (going_to c (ways false t)) (in_going c p (ways false t) h)) v cs v (ap used e))
             where
               by : (x : Edge) × (y : ℕ) × IsIn x edges × (along commands x a v cs ≡ Some (v, y)) × (y ≡ (if is_failing p then 1 else c)) →
-                  Leads commands edges z a v cs (Some (v, Runs failed))
-              by (x, y, i, l, n) = (x, y, i, l, subst (λ (m : ℕ). RestStands commands edges failed m z) (sym (goes_on p v cs v [] y c e n)) fail)
+                  Leads commands edges a v cs (Some (v, Runs failed))
+              by (x, y, i, l, n) = (x, y, i, l, subst (λ (m : ℕ). RestStands commands edges failed m) (sym (goes_on p v cs v [] y c e n)) fail)
       at (Some (false, k ∷ ks)) g f = tt
 
-  chosen_comes : (z a b c : ℕ) (held failed : List Stmt) (t : Test) (v : Values) (cs : List ℤ) →
+  chosen_comes : (a b c : ℕ) (held failed : List Stmt) (t : Test) (v : Values) (cs : List ℤ) →
       Drawn commands a (going_to b (ways true t) ++ going_to c (ways false t)) (leaving a edges) →
-      RestStands commands edges held b z → RestStands commands edges failed c z →
+      RestStands commands edges held b → RestStands commands edges failed c →
       (e : Edge) (w : Values) (y : ℕ) → IsIn e edges → along commands e a v cs ≡ Some (w, y) →
-      Comes commands edges z w y (chosen (decided t v cs) held failed v)
-  chosen_comes z a b c held failed t v cs d hold fail e w y h l =
+      Comes commands edges w y (chosen (decided t v cs) held failed v)
+  chosen_comes a b c held failed t v cs d hold fail e w y h l =
       at (untaken a (going_to b (ways true t) ++ going_to c (ways false t)) d e h v cs w y l)
     where
       held_comes : (p : List Act) (goal : ℕ) → goal ≡ b → (o : Option (Bool × List ℤ)) (x : Outcome) → gives p v cs ≡ x → used x ≡ Some w →
-          y ≡ (if is_failing p then 1 else goal) → (x ≡ Stops) ⊎ (x ≡ came true o v) → Comes commands edges z w y (chosen o held failed v)
+          y ≡ (if is_failing p then 1 else goal) → (x ≡ Stops) ⊎ (x ≡ came true o v) → Comes commands edges w y (chosen o held failed v)
       held_comes p goal m o Stops k u n s = cc
       held_comes p goal m o (Goes q ds) k u n (inl r) = let no_such : Goes q ds ≡ Stops = r in cc
       held_comes p goal m None (Goes q ds) k u n (inr r) = let no_such : Goes q ds ≡ Stops = r in cc
       held_comes p goal m (Some (true, [])) (Goes q ds) k u n (inr r) = (
         Runs held,
         ap (λ (o : Option Values). option_map (λ (i : Values). (i, Runs held)) o) (ap used (sym r) ∙ u),
-        subst (λ (i : ℕ). RestStands commands edges held i z) (sym (goes_on p v cs q ds y goal k n ∙ m)) hold,
+        subst (λ (i : ℕ). RestStands commands edges held i) (sym (goes_on p v cs q ds y goal k n ∙ m)) hold,
       )
       held_comes p goal m (Some (true, j ∷ js)) (Goes q ds) k u n (inr r) = let none : None ≡ Some w = ap used (sym r) ∙ u in cc
       held_comes p goal m (Some (false, js)) (Goes q ds) k u n (inr r) = let no_such : Goes q ds ≡ Stops = r in cc
@@ -200,14 +200,14 @@ module _ (commands : List Command) (edges : List Edge) where
       held_comes p goal m (Some (false, js)) (Fails q ds) k u n (inr r) = let no_such : Fails q ds ≡ Stops = r in cc
 
       failed_comes : (p : List Act) (goal : ℕ) → goal ≡ c → (o : Option (Bool × List ℤ)) (x : Outcome) → gives p v cs ≡ x → used x ≡ Some w →
-          y ≡ (if is_failing p then 1 else goal) → (x ≡ Stops) ⊎ (x ≡ came false o v) → Comes commands edges z w y (chosen o held failed v)
+          y ≡ (if is_failing p then 1 else goal) → (x ≡ Stops) ⊎ (x ≡ came false o v) → Comes commands edges w y (chosen o held failed v)
       failed_comes p goal m o Stops k u n s = cc
       failed_comes p goal m o (Goes q ds) k u n (inl r) = let no_such : Goes q ds ≡ Stops = r in cc
       failed_comes p goal m None (Goes q ds) k u n (inr r) = let no_such : Goes q ds ≡ Stops = r in cc
       failed_comes p goal m (Some (false, [])) (Goes q ds) k u n (inr r) = (
         Runs failed,
         ap (λ (o : Option Values). option_map (λ (i : Values). (i, Runs failed)) o) (ap used (sym r) ∙ u),
-        subst (λ (i : ℕ). RestStands commands edges failed i z) (sym (goes_on p v cs q ds y goal k n ∙ m)) fail,
+        subst (λ (i : ℕ). RestStands commands edges failed i) (sym (goes_on p v cs q ds y goal k n ∙ m)) fail,
       )
       failed_comes p goal m (Some (false, j ∷ js)) (Goes q ds) k u n (inr r) = let none : None ≡ Some w = ap used (sym r) ∙ u in cc
       failed_comes p goal m (Some (true, js)) (Goes q ds) k u n (inr r) = let no_such : Goes q ds ≡ Stops = r in cc
@@ -217,7 +217,7 @@ module _ (commands : List Command) (edges : List Edge) where
       failed_comes p goal m (Some (true, js)) (Fails q ds) k u n (inr r) = let no_such : Fails q ds ≡ Stops = r in cc
 
       at : (p : List Act × ℕ) × IsIn p (going_to b (ways true t) ++ going_to c (ways false t)) × (used (gives p.0 v cs) ≡ Some w)
-          × (y ≡ (if is_failing p.0 then 1 else p.1)) → Comes commands edges z w y (chosen (decided t v cs) held failed v)
+          × (y ≡ (if is_failing p.0 then 1 else p.1)) → Comes commands edges w y (chosen (decided t v cs) held failed v)
       at (p, i, u, n) = elim (in_either p (going_to b (ways true t)) (going_to c (ways false t)) i) [
         | inl j ↦ (let q : IsIn p.0 (ways true t) × (p.1 ≡ b) = of_going b p (ways true t) j in
             held_comes p.0 p.1 q.1 (decided t v cs) (gives p.0 v cs) refl u n
@@ -228,54 +228,54 @@ module _ (commands : List Command) (edges : List Edge) where
       ]
 
   -- a block that stands before a rest
-  join : {n : _} (block : Row_of-Stmt n) (rest : List Stmt) (a b z : ℕ) → BlockStands commands edges block a b →
-      RestStands commands edges rest b z → RestStands commands edges (items-the_row-Stmt _ block ++ rest) a z
-  join end_of-Stmt rest a b z h r = subst (λ (i : ℕ). RestStands commands edges rest i z) (sym h) r
-  join (more_of-Stmt _ k block) rest a b z (c, ne, s, h) r = (c, ne, s, join block rest c b z h r)
+  join : {n : _} (block : Row_of-Stmt n) (rest : List Stmt) (a b : ℕ) → BlockStands commands edges block a b →
+      RestStands commands edges rest b → RestStands commands edges (items-the_row-Stmt _ block ++ rest) a
+  join end_of-Stmt rest a b h r = subst (λ (i : ℕ). RestStands commands edges rest i) (sym h) r
+  join (more_of-Stmt _ k block) rest a b (c, ne, s, h) r = (c, ne, s, join block rest c b h r)
 
   -- the step of a statement of a kind
-  kind_leads : (s : Stmt) (k : StmtKind) → s.kind ≡ k → (rest : List Stmt) (z a b : ℕ) → a ≢ 1 → Stands commands edges k a b →
-      RestStands commands edges rest b z → (v : Values) (cs : List ℤ) → Leads commands edges z a v cs (step_of s k rest v cs)
-  kind_leads s (Assign x m) e rest z a b ne d r v cs = settled_leads z a b rest (paths (Assign x m)) v cs _ d r (agrees (Assign x m) v cs)
-  kind_leads s (Havoc x) e rest z a b ne d r v cs = settled_leads z a b rest (paths (Havoc x)) v cs (within (Havoc x) v cs) d r (agrees (Havoc x) v cs)
-  kind_leads s (Assume c) e rest z a b ne d r v cs = settled_leads z a b rest (paths (Assume c)) v cs (within (Assume c) v cs) d r (agrees (Assume c) v cs)
-  kind_leads s (Assert c) e rest z a b ne d r v cs = settled_leads z a b rest (paths (Assert c)) v cs (within (Assert c) v cs) d r (agrees (Assert c) v cs)
-  kind_leads s Skip e rest z a b ne d r v cs = settled_leads z a b rest (paths Skip) v cs _ d r (agrees Skip v cs)
-  kind_leads s (Atomic' n block) e rest z a b ne d r v cs =
-      settled_leads z a b rest (paths (Atomic' n block)) v cs (within (Atomic' n block) v cs) d r (agrees (Atomic' n block) v cs)
-  kind_leads s (If' t n held m failed) e rest z a b ne (i, j, d, h, f) r v cs =
-      chosen_leads z a i j (items-the_row-Stmt _ held ++ rest) (items-the_row-Stmt _ failed ++ rest) t v cs d (join held rest i b z h r) (join failed rest j b z f r)
-  kind_leads s (While' t n block) e rest z a b ne (i, d, h) r v cs =
-      chosen_leads z a i b (items-the_row-Stmt _ block ++ s ∷ rest) rest t v cs d (join block (s ∷ rest) i a z h again) r
+  kind_leads : (s : Stmt) (k : StmtKind) → s.kind ≡ k → (rest : List Stmt) (a b : ℕ) → a ≢ 1 → Stands commands edges k a b →
+      RestStands commands edges rest b → (v : Values) (cs : List ℤ) → Leads commands edges a v cs (step_of s k rest v cs)
+  kind_leads s (Assign x m) e rest a b ne d r v cs = settled_leads a b rest (paths (Assign x m)) v cs _ d r (agrees (Assign x m) v cs)
+  kind_leads s (Havoc x) e rest a b ne d r v cs = settled_leads a b rest (paths (Havoc x)) v cs (within (Havoc x) v cs) d r (agrees (Havoc x) v cs)
+  kind_leads s (Assume c) e rest a b ne d r v cs = settled_leads a b rest (paths (Assume c)) v cs (within (Assume c) v cs) d r (agrees (Assume c) v cs)
+  kind_leads s (Assert c) e rest a b ne d r v cs = settled_leads a b rest (paths (Assert c)) v cs (within (Assert c) v cs) d r (agrees (Assert c) v cs)
+  kind_leads s Skip e rest a b ne d r v cs = settled_leads a b rest (paths Skip) v cs _ d r (agrees Skip v cs)
+  kind_leads s (Atomic' n block) e rest a b ne d r v cs =
+      settled_leads a b rest (paths (Atomic' n block)) v cs (within (Atomic' n block) v cs) d r (agrees (Atomic' n block) v cs)
+  kind_leads s (If' t n held m failed) e rest a b ne (i, j, d, h, f) r v cs =
+      chosen_leads a i j (items-the_row-Stmt _ held ++ rest) (items-the_row-Stmt _ failed ++ rest) t v cs d (join held rest i b h r) (join failed rest j b f r)
+  kind_leads s (While' t n block) e rest a b ne (i, d, h) r v cs =
+      chosen_leads a i b (items-the_row-Stmt _ block ++ s ∷ rest) rest t v cs d (join block (s ∷ rest) i a h again) r
     where
-      again : RestStands commands edges (s ∷ rest) a z
+      again : RestStands commands edges (s ∷ rest) a
       again = (b, ne, subst (λ (k : StmtKind). Stands commands edges k a b) (sym e) (i, d, h), r)
 
-  kind_comes : (s : Stmt) (k : StmtKind) → s.kind ≡ k → (rest : List Stmt) (z a b : ℕ) → a ≢ 1 → Stands commands edges k a b →
-      RestStands commands edges rest b z → (v : Values) (cs : List ℤ) (e : Edge) (w : Values) (y : ℕ) → IsIn e edges →
-      along commands e a v cs ≡ Some (w, y) → Comes commands edges z w y (step_of s k rest v cs)
-  kind_comes s (Assign x m) q rest z a b ne d r v cs e w y h l = settled_comes z a b rest (paths (Assign x m)) v cs _ d r (agrees (Assign x m) v cs) e w y h l
-  kind_comes s (Havoc x) q rest z a b ne d r v cs e w y h l =
-      settled_comes z a b rest (paths (Havoc x)) v cs (within (Havoc x) v cs) d r (agrees (Havoc x) v cs) e w y h l
-  kind_comes s (Assume c) q rest z a b ne d r v cs e w y h l =
-      settled_comes z a b rest (paths (Assume c)) v cs (within (Assume c) v cs) d r (agrees (Assume c) v cs) e w y h l
-  kind_comes s (Assert c) q rest z a b ne d r v cs e w y h l =
-      settled_comes z a b rest (paths (Assert c)) v cs (within (Assert c) v cs) d r (agrees (Assert c) v cs) e w y h l
-  kind_comes s Skip q rest z a b ne d r v cs e w y h l = settled_comes z a b rest (paths Skip) v cs _ d r (agrees Skip v cs) e w y h l
-  kind_comes s (Atomic' n block) q rest z a b ne d r v cs e w y h l =
-      settled_comes z a b rest (paths (Atomic' n block)) v cs (within (Atomic' n block) v cs) d r (agrees (Atomic' n block) v cs) e w y h l
-  kind_comes s (If' t n held m failed) q rest z a b ne (i, j, d, h, f) r v cs e w y g l =
-      chosen_comes z a i j (items-the_row-Stmt _ held ++ rest) (items-the_row-Stmt _ failed ++ rest) t v cs d (join held rest i b z h r) (join failed rest j b z f r) e w y g l
-  kind_comes s (While' t n block) q rest z a b ne (i, d, h) r v cs e w y g l =
-      chosen_comes z a i b (items-the_row-Stmt _ block ++ s ∷ rest) rest t v cs d (join block (s ∷ rest) i a z h again) r e w y g l
+  kind_comes : (s : Stmt) (k : StmtKind) → s.kind ≡ k → (rest : List Stmt) (a b : ℕ) → a ≢ 1 → Stands commands edges k a b →
+      RestStands commands edges rest b → (v : Values) (cs : List ℤ) (e : Edge) (w : Values) (y : ℕ) → IsIn e edges →
+      along commands e a v cs ≡ Some (w, y) → Comes commands edges w y (step_of s k rest v cs)
+  kind_comes s (Assign x m) q rest a b ne d r v cs e w y h l = settled_comes a b rest (paths (Assign x m)) v cs _ d r (agrees (Assign x m) v cs) e w y h l
+  kind_comes s (Havoc x) q rest a b ne d r v cs e w y h l =
+      settled_comes a b rest (paths (Havoc x)) v cs (within (Havoc x) v cs) d r (agrees (Havoc x) v cs) e w y h l
+  kind_comes s (Assume c) q rest a b ne d r v cs e w y h l =
+      settled_comes a b rest (paths (Assume c)) v cs (within (Assume c) v cs) d r (agrees (Assume c) v cs) e w y h l
+  kind_comes s (Assert c) q rest a b ne d r v cs e w y h l =
+      settled_comes a b rest (paths (Assert c)) v cs (within (Assert c) v cs) d r (agrees (Assert c) v cs) e w y h l
+  kind_comes s Skip q rest a b ne d r v cs e w y h l = settled_comes a b rest (paths Skip) v cs _ d r (agrees Skip v cs) e w y h l
+  kind_comes s (Atomic' n block) q rest a b ne d r v cs e w y h l =
+      settled_comes a b rest (paths (Atomic' n block)) v cs (within (Atomic' n block) v cs) d r (agrees (Atomic' n block) v cs) e w y h l
+  kind_comes s (If' t n held m failed) q rest a b ne (i, j, d, h, f) r v cs e w y g l =
+      chosen_comes a i j (items-the_row-Stmt _ held ++ rest) (items-the_row-Stmt _ failed ++ rest) t v cs d (join held rest i b h r) (join failed rest j b f r) e w y g l
+  kind_comes s (While' t n block) q rest a b ne (i, d, h) r v cs e w y g l =
+      chosen_comes a i b (items-the_row-Stmt _ block ++ s ∷ rest) rest t v cs d (join block (s ∷ rest) i a h again) r e w y g l
     where
-      again : RestStands commands edges (s ∷ rest) a z
+      again : RestStands commands edges (s ∷ rest) a
       again = (b, ne, subst (λ (k : StmtKind). Stands commands edges k a b) (sym q) (i, d, h), r)
 
-  thread_leads : (z : ℕ) (t : Thread) (a : ℕ) → ThreadStands commands edges z t a → (v : Values) (cs : List ℤ) → Leads commands edges z a v cs (step t v cs)
-  thread_leads z Failed a h v cs = tt
-  thread_leads z (Runs []) a h v cs = tt
-  thread_leads z (Runs (s ∷ rest)) a (b, ne, d, r) v cs = kind_leads s s.kind refl rest z a b ne d r v cs
+  thread_leads : (t : Thread) (a : ℕ) → ThreadStands commands edges t a → (v : Values) (cs : List ℤ) → Leads commands edges a v cs (step t v cs)
+  thread_leads Failed a h v cs = tt
+  thread_leads (Runs []) a h v cs = tt
+  thread_leads (Runs (s ∷ rest)) a (b, ne, d, r) v cs = kind_leads s s.kind refl rest a b ne d r v cs
 
   -- no edge leaves this location
   none_leaves : (a : ℕ) → leaving a edges ≡ [] → (e : Edge) → IsIn e edges → (v : Values) (cs : List ℤ) (w : Values) (y : ℕ) →
@@ -284,25 +284,24 @@ module _ (commands : List Command) (edges : List Edge) where
       let q : ((e.source == a) ≡ true) × (after_edge commands e v cs ≡ Some w) × (e.target ≡ y) = along_parts (e.source == a) (after_edge commands e v cs) w e.target y l in
       subst (λ (es : List Edge). IsIn e es) n (in_leaving a e edges h (eqb-true e.source a q.0))
 
-  thread_comes : (z : ℕ) → leaving z edges ≡ [] → leaving 1 edges ≡ [] → (t : Thread) (a : ℕ) → ThreadStands commands edges z t a →
+  thread_comes : leaving 1 edges ≡ [] → (t : Thread) (a : ℕ) → ThreadStands commands edges t a →
       (v : Values) (cs : List ℤ) (e : Edge) (w : Values) (y : ℕ) → IsIn e edges → along commands e a v cs ≡ Some (w, y) →
-      Comes commands edges z w y (step t v cs)
-  thread_comes z no_end no_error Failed a h v cs e w y i l =
+      Comes commands edges w y (step t v cs)
+  thread_comes no_error Failed a h v cs e w y i l =
       absurd (none_leaves 1 no_error e i v cs w y (subst (λ (n : ℕ). along commands e n v cs ≡ Some (w, y)) h l))
-  thread_comes z no_end no_error (Runs []) a h v cs e w y i l =
-      absurd (none_leaves z no_end e i v cs w y (subst (λ (n : ℕ). along commands e n v cs ≡ Some (w, y)) h l))
-  thread_comes z no_end no_error (Runs (s ∷ rest)) a (b, ne, d, r) v cs e w y i l = kind_comes s s.kind refl rest z a b ne d r v cs e w y i l
+  thread_comes no_error (Runs []) a (ne, none) v cs e w y i l = absurd (none_leaves a none e i v cs w y l)
+  thread_comes no_error (Runs (s ∷ rest)) a (b, ne, d, r) v cs e w y i l = kind_comes s s.kind refl rest a b ne d r v cs e w y i l
 
   -- the steps of a thread are the edges, both ways
-  pub steps_are_edges : (z : ℕ) → leaving z edges ≡ [] → leaving 1 edges ≡ [] → StepsAreEdges commands edges z
-  steps_are_edges z no_end no_error = record {
-    forth = λ t a h v cs w u e. subst (λ (o : Option (Values × Thread)). Leads commands edges z a v cs o) e (thread_leads z t a h v cs);
-    back = λ t a h v cs e w b i l. thread_comes z no_end no_error t a h v cs e w b i l;
+  pub steps_are_edges : leaving 1 edges ≡ [] → StepsAreEdges commands edges
+  steps_are_edges no_error = record {
+    forth = λ t a h v cs w u e. subst (λ (o : Option (Values × Thread)). Leads commands edges a v cs o) e (thread_leads t a h v cs);
+    back = λ t a h v cs e w b i l. thread_comes no_error t a h v cs e w b i l;
   }
 
 -- a thread is at the error exactly where it is Failed
-pub failed_at_error : (commands : List Command) (edges : List Edge) (z : ℕ) → z ≢ 1 → (t : Thread) (a : ℕ) → ThreadStands commands edges z t a →
+pub failed_at_error : (commands : List Command) (edges : List Edge) (t : Thread) (a : ℕ) → ThreadStands commands edges t a →
     (a ≡ 1 → t ≡ Failed) × (t ≡ Failed → a ≡ 1)
-failed_at_error commands edges z end Failed a h = (λ e. refl, λ e. h)
-failed_at_error commands edges z end (Runs []) a h = (λ e. absurd (end (sym h ∙ e)), λ e. (let no_such : Runs [] ≡ Failed = e in cc))
-failed_at_error commands edges z end (Runs (s ∷ rest)) a (b, ne, d, r) = (λ e. absurd (ne e), λ e. (let no_such : Runs (s ∷ rest) ≡ Failed = e in cc))
+failed_at_error commands edges Failed a h = (λ e. refl, λ e. h)
+failed_at_error commands edges (Runs []) a (ne, none) = (λ e. absurd (ne e), λ e. (let no_such : Runs [] ≡ Failed = e in cc))
+failed_at_error commands edges (Runs (s ∷ rest)) a (b, ne, d, r) = (λ e. absurd (ne e), λ e. (let no_such : Runs (s ∷ rest) ≡ Failed = e in cc))

@@ -49,10 +49,10 @@ step_at_none one k globals [] cs h = refl
 step_at_none one zero globals (t ∷ us) cs h = cc
 step_at_none one (suc k) globals (t ∷ us) cs h = ap (option_map (behind t)) (step_at_none one k globals us cs h)
 
-abbrev at_target : ℕ → Option Values → Option (Values × ℕ)
+abbrev pub at_target : ℕ → Option Values → Option (Values × ℕ)
 at_target b o = option_map (λ (w : Values). (w, b)) o
 
-along_parts : (t : Bool) (o : Option Values) (w : Values) (c b : ℕ) →
+pub along_parts : (t : Bool) (o : Option Values) (w : Values) (c b : ℕ) →
     (if t then at_target c o else None) ≡ Some (w, b) → (t ≡ true) × (o ≡ Some w) × (c ≡ b)
 along_parts true None w c b h = cc
 along_parts true (Some x) w c b h = let q : (x ≡ w) × (c ≡ b) = some_pair_parts x w c b h in (refl, ap Some q.0, q.1)
@@ -73,12 +73,12 @@ place_is w k u h =
     get_or_from_slice_get (places w) k u.at 0 looked
 
 -- the state and the places after a thread came to values and a place
-state_seated : (w : World ℕ) (k : ℕ) (v : Values) (b : ℕ) → state_of (seated k w.seats (v, b)) ≡ with_values k (state_of w) v
+pub state_seated : (w : World ℕ) (k : ℕ) (v : Values) (b : ℕ) → state_of (seated k w.seats (v, b)) ≡ with_values k (state_of w) v
 state_seated w k v b =
     let make : List (List ℤ) → State = λ ls. record { globals = v.globals; locals = ls } in
     ap make (map-set (λ (u : Seat ℕ). u.locals) w.seats k (record { locals = v.locals; at = b }))
 
-length_map : {X Y : Type 0} → (f : X → Y) (xs : List X) → length (map f xs) ≡ length xs
+pub length_map : {X Y : Type 0} → (f : X → Y) (xs : List X) → length (map f xs) ≡ length xs
 length_map f [] = refl
 length_map f (x ∷ xs) = ap suc (length_map f xs)
 
@@ -95,7 +95,7 @@ place_seated w k v b within j =
     at false t = get_or-set_other (places w) k j b 0 (λ e. eqb-false k j t (sym e))
 
 -- letters are located from any equal places
-relocated : (edges : List Edge) (ls : List (ℕ × ℕ)) (f g : ℕ → ℕ) → ((j : ℕ) → f j ≡ g j) → Located edges f ls → Located edges g ls
+pub relocated : (edges : List Edge) (ls : List (ℕ × ℕ)) (f g : ℕ → ℕ) → ((j : ℕ) → f j ≡ g j) → Located edges f ls → Located edges g ls
 relocated edges [] f g same h = tt
 relocated edges (l ∷ ls) f g same (e, i, s, h) =
     (e, i, s ∙ same l.0, relocated edges ls (moved_to f l.0 e.target) (moved_to g l.0 e.target) (λ j. at j (l.0 == j)) h)
@@ -105,7 +105,7 @@ relocated edges (l ∷ ls) f g same (e, i, s, h) =
     at j false = same j
 
 -- an edge of the list has a number
-numbered : (e : Edge) (edges : List Edge) → IsIn e edges → (n : ℕ) × (slice_get edges n ≡ Some e)
+pub numbered : (e : Edge) (edges : List Edge) → IsIn e edges → (n : ℕ) × (slice_get edges n ≡ Some e)
 numbered e [] h = absurd h
 numbered e (d ∷ edges) (inl same) = (zero, ap Some (sym same))
 numbered e (d ∷ edges) (inr h) = at (numbered e edges h)
@@ -113,7 +113,7 @@ numbered e (d ∷ edges) (inr h) = at (numbered e edges h)
     at : (n : ℕ) × (slice_get edges n ≡ Some e) → (n : ℕ) × (slice_get (d ∷ edges) n ≡ Some e)
     at (n, g) = (suc n, g)
 
-in_numbered : (e : Edge) (edges : List Edge) (n : ℕ) → slice_get edges n ≡ Some e → IsIn e edges
+pub in_numbered : (e : Edge) (edges : List Edge) (n : ℕ) → slice_get edges n ≡ Some e → IsIn e edges
 in_numbered e [] n h = cc
 in_numbered e (d ∷ edges) zero h = inl (sym (same_Some d e h))
 in_numbered e (d ∷ edges) (suc n) h = inr (in_numbered e edges n h)
@@ -128,7 +128,7 @@ pub record Strides (commands : List Command) (k : ℕ) (e : Edge) (cs : List ℤ
   pub moves : (j : ℕ) → place_of x j ≡ moved_to (place_of w) k e.target j
   pub same_number : length x.seats ≡ length w.seats
 
-stride_forth : (commands : List Command) (k : ℕ) (e : Edge) (cs : List ℤ) (w x : World ℕ) → step_at (along commands e) k w.globals w.seats cs ≡ Some x →
+pub stride_forth : (commands : List Command) (k : ℕ) (e : Edge) (cs : List ℤ) (w x : World ℕ) → step_at (along commands e) k w.globals w.seats cs ≡ Some x →
     Strides commands k e cs w x
 stride_forth commands k e cs w x h = seat (slice_get w.seats k) refl
   where
@@ -175,7 +175,7 @@ pub record Strode (commands : List Command) (k : ℕ) (e : Edge) (cs : List ℤ)
   pub moves : (j : ℕ) → place_of after j ≡ moved_to (place_of w) k e.target j
   pub same_number : length after.seats ≡ length w.seats
 
-stride_back : (commands : List Command) (k : ℕ) (e : Edge) (cs hs : List ℤ) (w : World ℕ) (s : State) → k < length w.seats → e.source ≡ place_of w k →
+pub stride_back : (commands : List Command) (k : ℕ) (e : Edge) (cs hs : List ℤ) (w : World ℕ) (s : State) → k < length w.seats → e.source ≡ place_of w k →
     havocs_of e.picks cs ≡ Some hs → run_by k (ops_of commands e.command) (state_of w) hs ≡ Some s → Strode commands k e cs w s
 stride_back commands k e cs hs w s within source fits runs = seat (get_or w.seats k (record { locals = []; at = 0 })) (slice_get-get_or w.seats k (record { locals = []; at = 0 }) within)
   where
@@ -200,10 +200,10 @@ stride_back commands k e cs hs w s within source fits runs = seat (get_or w.seat
         (ap (λ (vs : Values). option_map (with_values k (state_of w)) (run (ops_of commands e.command) vs hs)) (sym (values_are w k u g)) ∙ runs)
 
 -- the ops of an edge of a number
-edge_ops_are : (commands : List Command) (edges : List Edge) (n : ℕ) (e : Edge) → slice_get edges n ≡ Some e → edge_ops commands edges n ≡ ops_of commands e.command
+pub edge_ops_are : (commands : List Command) (edges : List Edge) (n : ℕ) (e : Edge) → slice_get edges n ≡ Some e → edge_ops commands edges n ≡ ops_of commands e.command
 edge_ops_are commands edges n e g = ap (λ (o : Option Edge). unwrap_or (option_map (λ (e : Edge). ops_of commands e.command) o) []) g
 
-threads_among : (m n : ℕ) (ls : List (ℕ × ℕ)) → m ≡ n → AreThreads m ls → AreThreads n ls
+pub threads_among : (m n : ℕ) (ls : List (ℕ × ℕ)) → m ≡ n → AreThreads m ls → AreThreads n ls
 threads_among m n ls e h = subst (λ (i : ℕ). AreThreads i ls) e h
 
 -- the letters of a walk

@@ -64,15 +64,15 @@ abbrev mutual
   BlockStands commands edges (more_of-Stmt _ k rest) a z =
       (b : ℕ) × (a ≢ 1) × Stands commands edges k a b × BlockStands commands edges rest b z
 
--- a rest of statements stands at a location, and ends at another
-abbrev pub RestStands : List Command → List Edge → List Stmt → ℕ → ℕ → Type 0
-RestStands commands edges [] a z = a ≡ z
-RestStands commands edges (s ∷ rest) a z = (b : ℕ) × (a ≢ 1) × Stands commands edges s.kind a b × RestStands commands edges rest b z
+-- a rest of statements stands at a location other than the error; where nothing is left to run, no edge leaves it
+abbrev pub RestStands : List Command → List Edge → List Stmt → ℕ → Type 0
+RestStands commands edges [] a = (a ≢ 1) × (leaving a edges ≡ [])
+RestStands commands edges (s ∷ rest) a = (b : ℕ) × (a ≢ 1) × Stands commands edges s.kind a b × RestStands commands edges rest b
 
 -- a thread stands at a location: at that of its rest, or at the error where it is Failed
-abbrev pub ThreadStands : List Command → List Edge → ℕ → Thread → ℕ → Type 0
-ThreadStands commands edges z (Runs rest) a = RestStands commands edges rest a z
-ThreadStands commands edges z Failed a = a ≡ 1
+abbrev pub ThreadStands : List Command → List Edge → Thread → ℕ → Type 0
+ThreadStands commands edges (Runs rest) a = RestStands commands edges rest a
+ThreadStands commands edges Failed a = a ≡ 1
 
 -- one step of a thread at a location along an edge: the values and the location after it
 abbrev pub along : List Command → Edge → ℕ → Values → List ℤ → Option (Values × ℕ)
@@ -80,10 +80,10 @@ along commands e a v cs = if e.source == a then option_map (λ (w : Values). (w,
 
 -- Where a thread stands at a location, each step of it is a step along an edge, and each step along an edge is a step
 -- of it, with the same choices and to the same values; and after it the thread stands at the target.
-pub record StepsAreEdges (commands : List Command) (edges : List Edge) (z : ℕ) : Type 0 where
-  pub forth : (t : Thread) (a : ℕ) → ThreadStands commands edges z t a →
+pub record StepsAreEdges (commands : List Command) (edges : List Edge) : Type 0 where
+  pub forth : (t : Thread) (a : ℕ) → ThreadStands commands edges t a →
       (v : Values) (cs : List ℤ) (w : Values) (u : Thread) → step t v cs ≡ Some (w, u) →
-      (e : Edge) × (b : ℕ) × IsIn e edges × (along commands e a v cs ≡ Some (w, b)) × ThreadStands commands edges z u b
-  pub back : (t : Thread) (a : ℕ) → ThreadStands commands edges z t a →
+      (e : Edge) × (b : ℕ) × IsIn e edges × (along commands e a v cs ≡ Some (w, b)) × ThreadStands commands edges u b
+  pub back : (t : Thread) (a : ℕ) → ThreadStands commands edges t a →
       (v : Values) (cs : List ℤ) (e : Edge) (w : Values) (b : ℕ) → IsIn e edges → along commands e a v cs ≡ Some (w, b) →
-      (u : Thread) × (step t v cs ≡ Some (w, u)) × ThreadStands commands edges z u b
+      (u : Thread) × (step t v cs ≡ Some (w, u)) × ThreadStands commands edges u b

@@ -29,23 +29,23 @@ walked commands [] w = Some w
 walked commands (m ∷ ms) w = option_and_then (walked commands ms) (moved (along commands m.edge) (m.thread, m.choices) w)
 
 -- thread by thread the locals are the same, and the one stands at the other's location
-abbrev pub SeatsStand : List Command → List Edge → ℕ → List (Seat Thread) → List (Seat ℕ) → Type 0
-SeatsStand commands edges z [] [] = Unit {0}
-SeatsStand commands edges z (t ∷ ts) (u ∷ us) =
-    (t.locals ≡ u.locals) × ThreadStands commands edges z t.at u.at × SeatsStand commands edges z ts us
-SeatsStand commands edges z _ _ = ⊥
+abbrev pub SeatsStand : List Command → List Edge → List (Seat Thread) → List (Seat ℕ) → Type 0
+SeatsStand commands edges [] [] = Unit {0}
+SeatsStand commands edges (t ∷ ts) (u ∷ us) =
+    (t.locals ≡ u.locals) × ThreadStands commands edges t.at u.at × SeatsStand commands edges ts us
+SeatsStand commands edges _ _ = ⊥
 
 -- the globals are the same, and thread by thread the locals, and each thread stands at its location
-pub record WorldStands (commands : List Command) (edges : List Edge) (z : ℕ) (w : World Thread) (l : World ℕ) : Type 0 where
+pub record WorldStands (commands : List Command) (edges : List Edge) (w : World Thread) (l : World ℕ) : Type 0 where
   pub globals : w.globals ≡ l.globals
-  pub seats : SeatsStand commands edges z w.seats l.seats
+  pub seats : SeatsStand commands edges w.seats l.seats
 
 -- Where the threads of a world stand at locations, each list of steps of them is a walk by the same threads with the
 -- same choices, and each walk is such a list of steps; and after it they stand where it ends, with the same values.
-pub record ExecutionsAreWalks (commands : List Command) (edges : List Edge) (z : ℕ) : Type 0 where
-  pub forth : (w : World Thread) (l : World ℕ) → WorldStands commands edges z w l →
+pub record ExecutionsAreWalks (commands : List Command) (edges : List Edge) : Type 0 where
+  pub forth : (w : World Thread) (l : World ℕ) → WorldStands commands edges w l →
       (steps : List (ℕ × List ℤ)) (x : World Thread) → all_moved step steps w ≡ Some x →
-      (ms : List Stride) × (m : World ℕ) × (steps_of ms ≡ steps) × AlongEdges edges ms × (walked commands ms l ≡ Some m) × WorldStands commands edges z x m
-  pub back : (w : World Thread) (l : World ℕ) → WorldStands commands edges z w l →
+      (ms : List Stride) × (m : World ℕ) × (steps_of ms ≡ steps) × AlongEdges edges ms × (walked commands ms l ≡ Some m) × WorldStands commands edges x m
+  pub back : (w : World Thread) (l : World ℕ) → WorldStands commands edges w l →
       (ms : List Stride) (m : World ℕ) → AlongEdges edges ms → walked commands ms l ≡ Some m →
-      (x : World Thread) × (all_moved step (steps_of ms) w ≡ Some x) × WorldStands commands edges z x m
+      (x : World Thread) × (all_moved step (steps_of ms) w ≡ Some x) × WorldStands commands edges x m

@@ -1,5 +1,5 @@
 //! How edges follow the text: each function does no work, and its clause is the fact.
-ghost use Rattle.std.specs.Prelude.{◌≢◌, ◌↔◌, IsTrue, ◌≡◌, [], List, not, true, false, ℕ, ℤ};
+ghost use Rattle.std.specs.Prelude.{◌↔◌, IsTrue, ◌≡◌, [], List, not, true, false, ℕ, ℤ};
 ghost use Rattle.ps_command.specs.declared.command.Command.{Command};
 ghost use Rattle.ps_graph.specs.Alternatives.{alternatives, any_hold};
 ghost use Rattle.ps_graph.specs.ErrorTrace.{edges_of, is_path};
@@ -20,18 +20,16 @@ pub fn alternatives_hold()
     ensures fails { (cond : Cond) (values : Var → ℤ) → any_hold values (alternatives false cond) ≡ not (truth values cond) }
 {}
 
-/// Where a thread stands at a location, its steps are the edges that leave it, both ways; the text ends at
-/// location `z`, and no edge leaves it or the error.
+/// Where a thread stands at a location, its steps are the edges that leave it, both ways; no edge leaves
+/// the error.
 pub fn steps_are_edges()
-    ensures { (commands : List Command) (edges : List Edge) (z : ℕ) → leaving z edges ≡ [] → leaving 1 edges ≡ []
-        → StepsAreEdges commands edges z }
+    ensures { (commands : List Command) (edges : List Edge) → leaving 1 edges ≡ [] → StepsAreEdges commands edges }
 {}
 
 /// Where threads stand at locations, their executions are the walks over the edges, both ways, for any
 /// number of threads.
 pub fn executions_are_walks()
-    ensures { (commands : List Command) (edges : List Edge) (z : ℕ) → leaving z edges ≡ [] → leaving 1 edges ≡ []
-        → ExecutionsAreWalks commands edges z }
+    ensures { (commands : List Command) (edges : List Edge) → leaving 1 edges ≡ [] → ExecutionsAreWalks commands edges }
 {}
 
 /// Walks are letters whose commands run one after another, both ways, where each edge has as many values
@@ -48,8 +46,8 @@ pub fn paths_are_located()
         → (((k : ℕ) → IsTrue (is_path edges (at k) (edges_of k letters))) ↔ Located edges at letters) }
 {}
 
-/// A thread stands at the error exactly where it is Failed; the text ends at another location `z`.
+/// A thread stands at the error exactly where it is Failed.
 pub fn failed_at_error()
-    ensures { (commands : List Command) (edges : List Edge) (z : ℕ) → z ≢ 1 → (thread : Thread) (a : ℕ)
-        → ThreadStands commands edges z thread a → ((a ≡ 1) ↔ (thread ≡ Failed)) }
+    ensures { (commands : List Command) (edges : List Edge) (thread : Thread) (a : ℕ)
+        → ThreadStands commands edges thread a → ((a ≡ 1) ↔ (thread ≡ Failed)) }
 {}
