@@ -5,15 +5,14 @@ use Rattle.std.specs.List.{list_all, AllByRecursion}
 use Rattle.std.specs.Option.{option_and_then}
 use Rattle.std.proofs.lemmas.Bool.{eqb-true, eqb-false}
 use Rattle.std.proofs.lemmas.List.{get_or-set_same, get_or-set_other, length-set, map-set}
-use Rattle.std.proofs.lemmas.Option.{same_Some, some_pair_parts, slice_get_within, slice_get-map, get_or_from_slice_get, slice_get-get_or}
+use Rattle.std.proofs.lemmas.Option.{same_Some, slice_get_within, slice_get-map, get_or_from_slice_get, slice_get-get_or}
 use Rattle.ps_command.specs.Run.{run, run_by, havocs_in}
 use Rattle.ps_command.specs.Values.{Values, values_of, with_values}
 use Rattle.ps_command.specs.declared.command.Command.{Command}
-use Rattle.ps_command.specs.declared.op.Op.{Op}
 use Rattle.ps_command.specs.declared.state.State.{State}
 use Rattle.ps_graph.proofs.Letters.{moved_to, Located}
 use Rattle.ps_graph.proofs.Members.{IsIn}
-use Rattle.ps_graph.proofs.OneThread.{at_target, along_is, along_parts}
+use Rattle.ps_graph.proofs.OneThread.{along_is, along_parts}
 use Rattle.ps_graph.specs.ErrorTrace.{edge_ops}
 use Rattle.ps_graph.specs.Facts.{ops_of, after_edge, picks_fit}
 use Rattle.ps_graph.specs.Follows.{along}

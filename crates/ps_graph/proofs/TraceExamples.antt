@@ -1,10 +1,10 @@
 -- Error traces of the examples' graphs.
 use Rattle.std.proofs.Common.{◌≡◌, Bool, true, false, ◌&&◌, ◌==◌, refl, sym, ◌∙◌, ap, ap₂, subst, ℕ, zero, suc, ◌<◌, ℤ, pos, negsuc, ◌+ℤ◌, ◌*ℤ◌, List, [], ◌∷◌, length, map, if◌then◌else◌, arith}
-use Rattle.std.specs.Prelude.{Option, Some, None, slice_index_or, int_le, filter, is_some, IsTrue}
+use Rattle.std.specs.Prelude.{Option, Some, None, slice_index_or, int_le, is_some}
 use Rattle.std.specs.List.{list_all}
 use Rattle.std.proofs.lemmas.Bool.{eqb-true}
 use Rattle.std.proofs.lemmas.Int.{ints}
-use Rattle.std.proofs.lemmas.List.Elements.{All-from_recursion, recursion_from_All}
+use Rattle.std.proofs.lemmas.List.Elements.{All-from_recursion}
 use Rattle.ps_command.specs.Initial.{IsInitial}
 use Rattle.ps_command.specs.Run.{holds}
 use Rattle.ps_command.specs.Values.{values_of, value_at}

@@ -1,7 +1,7 @@
 -- Worked examples: what sums and conditions are worth, and the alternatives of a condition.
 use Rattle.std.specs.Prelude.{◌≡◌, ℤ, pos, negsuc, Bool, true, false, List, [], ◌∷◌, Some, None}
 use Rattle.ps_command.specs.Values.{Values, value_at}
-use Rattle.ps_graph.specs.Alternatives.{Bound, at_most, less_than, alternatives}
+use Rattle.ps_graph.specs.Alternatives.{at_most, less_than, alternatives}
 use Rattle.ps_graph.specs.Examples.{number, plus, compare_with, x, y}
 use Rattle.ps_syntax.specs.Cond.{compares, truth}
 use Rattle.ps_syntax.specs.Sum.{sum_value}

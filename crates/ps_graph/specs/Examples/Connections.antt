@@ -1,7 +1,6 @@
 -- Worked examples: edges that follow a text, and edges that don't.
 use Rattle.std.specs.Prelude.{ℕ, ℤ, pos, negsuc, true, false, List, [], ◌∷◌, ◌++◌}
 use Rattle.ps_command.specs.declared.command.Command.{Command}
-use Rattle.ps_command.specs.declared.op.Op.{Op}
 use Rattle.ps_command.specs.declared.op.Op.TheVariants.{Assume, Assign}
 use Rattle.ps_graph.specs.Examples.{does, x, counter}
 use Rattle.ps_graph.specs.Follows.{RestBeginsAt}
@@ -9,7 +8,6 @@ use Rattle.ps_graph.specs.declared.edge.Edge.{Edge}
 use Rattle.ps_graph.specs.declared.edge.Pick.{Pick}
 use Rattle.ps_graph.specs.declared.edge.Pick.TheVariants.{Star as StarPick}
 use Rattle.ps_syntax.specs.declared.cond.Test.TheVariants.{Star}
-use Rattle.ps_syntax.specs.declared.stmt.Stmt.{Stmt}
 use Rattle.ps_syntax.specs.declared.stmt.StmtKind.TheVariants.{Skip, If, While}
 use Rattle.ps_term.specs.declared.term.Term.{Term}
 

@@ -1,9 +1,9 @@
 -- Worked examples: executions of small programs.
-use Rattle.std.specs.Prelude.{◌≡◌, ℤ, pos, negsuc, ◌+◌, ◌^◌, true, false, List, [], ◌∷◌, Some}
+use Rattle.std.specs.Prelude.{◌≡◌, pos, negsuc, ◌+◌, ◌^◌, true, false, List, [], ◌∷◌, Some}
 use Rattle.ps_graph.specs.Examples.{does, number, plus, x, t, of_body, undeclared, state, by, counter, race, loop}
 use Rattle.ps_graph.specs.Execution.{started, executed, reaches, NeverFails}
 use Rattle.ps_graph.specs.Step.{Thread, Runs}
-use Rattle.ps_graph.specs.Threads.{Seat, World}
+use Rattle.ps_graph.specs.Threads.{Seat}
 use Rattle.ps_syntax.specs.declared.stmt.Stmt.{Stmt}
 use Rattle.ps_syntax.specs.declared.stmt.StmtKind.TheVariants.{Assign, Skip}
 

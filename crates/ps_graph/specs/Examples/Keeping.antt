@@ -1,7 +1,6 @@
 -- Worked examples: parts of a graph that keep all facts but one.
-use Rattle.std.specs.Prelude.{◌≡◌, ℕ, pos, Bool, true, false, List, [], ◌∷◌, ◌++◌, Option, Some, None}
+use Rattle.std.specs.Prelude.{◌≡◌, ℕ, pos, Bool, true, false, List, [], ◌∷◌, Option, Some, None}
 use Rattle.ps_command.specs.declared.command.Command.{Command}
-use Rattle.ps_command.specs.declared.op.Op.{Op}
 use Rattle.ps_command.specs.declared.op.Op.TheVariants.{Assign, Havoc}
 use Rattle.ps_graph.specs.Examples.{x}
 use Rattle.ps_graph.specs.Examples.Connections.{edge, star_edge}

@@ -1,9 +1,8 @@
 -- Worked examples: which states are initial.
-use Rattle.std.specs.Prelude.{◌≡◌, ℕ, ℤ, pos, negsuc, ◌^◌, true, false, List, [], ◌∷◌, Some}
+use Rattle.std.specs.Prelude.{◌≡◌, ℤ, pos, negsuc, ◌^◌, true, false, [], ◌∷◌, Some}
 use Rattle.ps_command.specs.Initial.{IsInitial}
 use Rattle.ps_command.specs.Named.{names_local}
 use Rattle.ps_command.specs.declared.setting.Setting.{Setting}
-use Rattle.ps_command.specs.declared.state.State.{State}
 use Rattle.ps_graph.specs.Examples.{relation_with, x, t, of_body, undeclared, state, counter}
 use Rattle.ps_graph.specs.Initial.{is_initial}
 use Rattle.ps_syntax.specs.declared.program.Program.{Program}

@@ -1,7 +1,6 @@
 -- Worked examples: error traces, and which of them are feasible.
 use Rattle.std.specs.Prelude.{◌≡◌, ℕ, ℤ, pos, negsuc, true, false, List, [], ◌∷◌, Option, Some, None}
 use Rattle.ps_command.specs.declared.command.Command.{Command}
-use Rattle.ps_command.specs.declared.op.Op.{Op}
 use Rattle.ps_command.specs.declared.op.Op.TheVariants.{Assume, Assign}
 use Rattle.ps_graph.specs.ErrorTrace.{is_path, edges_of, error_at_last, IsErrorTrace, IsFeasible}
 use Rattle.ps_graph.specs.Examples.{x, t}
@@ -9,7 +8,6 @@ use Rattle.ps_graph.specs.Examples.Connections.{edge, counter_commands, counter_
 use Rattle.ps_graph.specs.Examples.Starts.{row_of}
 use Rattle.ps_graph.specs.declared.edge.Edge.{Edge}
 use Rattle.ps_graph.specs.declared.graph.Graph.{Graph}
-use Rattle.ps_term.specs.declared.row.Row.{Row}
 use Rattle.ps_term.specs.declared.term.Term.{Term}
 
 -- paths over the counter's edges: by thread 1 of letters of two threads, one that begins elsewhere, and no edge

@@ -1,5 +1,5 @@
 -- Worked examples: the paths of statements, in order.
-use Rattle.std.specs.Prelude.{◌≡◌, pos, true, false, List, [], ◌∷◌}
+use Rattle.std.specs.Prelude.{◌≡◌, pos, true, false, [], ◌∷◌}
 use Rattle.ps_graph.specs.Alternatives.{Bound, at_most, less_than}
 use Rattle.ps_graph.specs.Examples.{does, number, plus, compare_with, x, y}
 use Rattle.ps_graph.specs.Paths.{Guards, Assigns, Havocs, Chooses, Fails, is_failing, picks_of, paths}

@@ -1,6 +1,6 @@
 use denote.Hole.Carrier.{hidden}
 use Rattle.std.proofs.Common.{◌≡◌, true, false, refl, sym, ◌∙◌, ap, ℕ, zero, suc, ℤ, pos, List, [], ◌∷◌, length}
-use Rattle.std.specs.Prelude.{Option, Some, None, option_map, replicate}
+use Rattle.std.specs.Prelude.{Some, None, option_map, replicate}
 use Rattle.std.specs.List.{list_any}
 use Rattle.std.specs.Option.{option_and_then}
 use Rattle.std.proofs.lemmas.Option.{same_Some}

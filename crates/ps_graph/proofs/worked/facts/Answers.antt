@@ -1,5 +1,5 @@
-use Rattle.std.proofs.Common.{◌≡◌, Bool, true, false, refl, sym, ◌∙◌, ap, ℕ, ℤ, pos, List, [], ◌∷◌, get_or, ◌⊎◌, inl, inr, if◌then◌else◌, arith}
-use Rattle.std.specs.Prelude.{Option, Some, None, slice_index_or}
+use Rattle.std.proofs.Common.{◌≡◌, Bool, true, false, refl, sym, ◌∙◌, ap, ℤ, pos, List, [], ◌∷◌, get_or, ◌⊎◌, inl, inr, if◌then◌else◌, arith}
+use Rattle.std.specs.Prelude.{Some, None, slice_index_or}
 use Rattle.std.specs.Ordering.{int_eq}
 use Rattle.std.specs.Option.{option_and_then}
 use Rattle.std.proofs.lemmas.Option.{same_Some}
@@ -10,7 +10,7 @@ use Rattle.ps_command.specs.declared.op.Op.{Op}
 use Rattle.ps_graph.proofs.Agreement.{not_both}
 use Rattle.ps_graph.proofs.Members.{in_of_contains}
 use Rattle.ps_graph.specs.Examples.{seeing}
-use Rattle.ps_graph.specs.Examples.Connections.{edge, star_edge}
+use Rattle.ps_graph.specs.Examples.Connections.{edge}
 use Rattle.ps_graph.specs.Examples.Keeping.{one_edge}
 use Rattle.ps_graph.specs.Facts.{names_exist, entries_owned, error_is_final, picks_fit, stay_in_bodies, ops_of, after_edge, IsDeterministic}
 use Rattle.ps_graph.specs.Picks.{choice_of, fit, if_all_used, run_with}

@@ -1,4 +1,4 @@
-use Rattle.std.proofs.Common.{refl, sym, ◌∙◌, List, [], ◌∷◌}
+use Rattle.std.proofs.Common.{refl, sym, ◌∙◌, [], ◌∷◌}
 use Rattle.std.specs.Prelude.{Some, None}
 use Rattle.ps_graph.proofs.TraceExamples.{trace_of, no_path, no_error, any_number, thread_one, two_begin, infeasible, race_trace, race_start, no_havocs, race_runs}
 use Rattle.ps_graph.specs.Examples.Connections.{edge, counter_commands, counter_edges}
