@@ -8,6 +8,7 @@ mod cursor;
 mod declared;
 mod global_decl;
 mod items;
+pub mod laws;
 mod limit_name;
 mod name;
 mod parser;
