@@ -8,12 +8,13 @@ use Rattle.ps_command.specs.Values.{Values, value_at, with_value}
 use Rattle.ps_command.specs.declared.command.Command.{Command}
 use Rattle.ps_command.specs.declared.op.Op.{Op}
 use Rattle.ps_command.specs.declared.op.Op.TheVariants.{Assume, Assign, Havoc}
+use Rattle.ps_graph.proofs.Agreement.{gives}
 use Rattle.ps_graph.specs.Alternatives.{bound_holds}
 use Rattle.ps_graph.specs.Facts.{ops_of, after_edge}
-use Rattle.ps_graph.specs.Follows.{Says, Draws}
-use Rattle.ps_graph.specs.Paths.{Act, Needs, Sets, Takes, Chooses, Breaks, gives, picks_of}
+use Rattle.ps_graph.specs.Follows.{Says, Realises}
+use Rattle.ps_graph.specs.Paths.{Act, Guards, Assigns, Havocs, Chooses, Fails, picks_of}
 use Rattle.ps_graph.specs.Picks.{choice_of, fit, if_all_used, run_with}
-use Rattle.ps_graph.specs.Step.{Outcome, Goes, Fails, Stops}
+use Rattle.ps_graph.specs.Step.{Completion, Normal, Failing, Blocked}
 use Rattle.ps_graph.specs.declared.edge.Edge.{Edge}
 use Rattle.ps_graph.specs.declared.edge.Pick.{Pick}
 use Rattle.ps_tree.specs.Sum.{sum_value}
@@ -22,11 +23,11 @@ use Rattle.ps_tree.specs.Sum.{sum_value}
 abbrev run_left : List Op → Values → List ℤ × List ℤ → Option (Values × List ℤ)
 run_left ops v q = option_map (λ (w : Values). (w, q.1)) (run ops v q.0)
 
--- the values of an outcome, with the choices that are left
-abbrev ended : Outcome → Option (Values × List ℤ)
-ended (Goes v cs) = Some (v, cs)
-ended (Fails v cs) = Some (v, cs)
-ended Stops = None
+-- the values of a completion, with the choices that are left
+abbrev ended : Completion → Option (Values × List ℤ)
+ended (Normal v cs) = Some (v, cs)
+ended (Failing v cs) = Some (v, cs)
+ended Blocked = None
 
 never : {X Y : Type 0} → (o : Option X) → option_and_then (λ (x : X). let n : Option Y = None in n) o ≡ None
 never None = refl
@@ -36,31 +37,31 @@ never (Some x) = refl
 tied : (p : List Act) (ops : List Op) → Says p ops → (v : Values) (cs : List ℤ) →
     option_and_then (run_left ops v) (fit (picks_of p) cs) ≡ ended (gives p v cs)
 tied [] ops s v cs = ap (λ (os : List Op). run_left os v ([], cs)) s
-tied (Breaks ∷ p) ops s v cs = ap (λ (os : List Op). run_left os v ([], cs)) s
-tied (Needs b ∷ p) [] s v cs = absurd s
-tied (Needs b ∷ p) (Assume r ∷ ops) s v cs =
+tied (Fails ∷ p) ops s v cs = ap (λ (os : List Op). run_left os v ([], cs)) s
+tied (Guards b ∷ p) [] s v cs = absurd s
+tied (Guards b ∷ p) (Assume r ∷ ops) s v cs =
     at (holds (value_at v) r) (bound_holds (value_at v) b) (ap (λ z. int_le z (pos 0)) (s.0 (value_at v))) (tied p ops s.1 v cs)
   where
     at : (t u : Bool) → t ≡ u → option_and_then (run_left ops v) (fit (picks_of p) cs) ≡ ended (gives p v cs) →
         option_and_then (λ (q : List ℤ × List ℤ). option_map (λ (w : Values). (w, q.1)) (if t then run ops v q.0 else None)) (fit (picks_of p) cs)
-        ≡ ended (if u then gives p v cs else Stops)
+        ≡ ended (if u then gives p v cs else Blocked)
     at true true h e = e
     at true false h e = cc
     at false true h e = cc
     at false false h e = never (fit (picks_of p) cs)
-tied (Needs b ∷ p) (Assign y t ∷ ops) s v cs = absurd s
-tied (Needs b ∷ p) (Havoc y ∷ ops) s v cs = absurd s
-tied (Sets x m ∷ p) [] s v cs = absurd s
-tied (Sets x m ∷ p) (Assume r ∷ ops) s v cs = absurd s
-tied (Sets x m ∷ p) (Assign y t ∷ ops) s v cs =
+tied (Guards b ∷ p) (Assign y t ∷ ops) s v cs = absurd s
+tied (Guards b ∷ p) (Havoc y ∷ ops) s v cs = absurd s
+tied (Assigns x m ∷ p) [] s v cs = absurd s
+tied (Assigns x m ∷ p) (Assume r ∷ ops) s v cs = absurd s
+tied (Assigns x m ∷ p) (Assign y t ∷ ops) s v cs =
     ap (λ (u : Values). option_and_then (run_left ops u) (fit (picks_of p) cs)) (ap₂ (with_value v) s.0 (s.1 (value_at v)))
     ∙ tied p ops s.2 (with_value v x (sum_value (value_at v) m)) cs
-tied (Sets x m ∷ p) (Havoc y ∷ ops) s v cs = absurd s
-tied (Takes x ∷ p) [] s v cs = absurd s
-tied (Takes x ∷ p) (Assume r ∷ ops) s v cs = absurd s
-tied (Takes x ∷ p) (Assign y t ∷ ops) s v cs = absurd s
-tied (Takes x ∷ p) (Havoc y ∷ ops) s v [] = refl
-tied (Takes x ∷ p) (Havoc y ∷ ops) s v (c ∷ cs) =
+tied (Assigns x m ∷ p) (Havoc y ∷ ops) s v cs = absurd s
+tied (Havocs x ∷ p) [] s v cs = absurd s
+tied (Havocs x ∷ p) (Assume r ∷ ops) s v cs = absurd s
+tied (Havocs x ∷ p) (Assign y t ∷ ops) s v cs = absurd s
+tied (Havocs x ∷ p) (Havoc y ∷ ops) s v [] = refl
+tied (Havocs x ∷ p) (Havoc y ∷ ops) s v (c ∷ cs) =
     at (fit (picks_of p) cs)
     ∙ ap (λ z. option_and_then (run_left ops (with_value v z c)) (fit (picks_of p) cs)) s.0
     ∙ tied p ops s.1 (with_value v x c) cs
@@ -74,26 +75,26 @@ tied (Chooses b ∷ p) ops s v [] = refl
 tied (Chooses b ∷ p) ops s v (c ∷ cs) = at (int_eq c (choice_of b)) (tied p ops s v cs)
   where
     at : (t : Bool) → option_and_then (run_left ops v) (fit (picks_of p) cs) ≡ ended (gives p v cs) →
-        option_and_then (run_left ops v) (if t then fit (picks_of p) cs else None) ≡ ended (if t then gives p v cs else Stops)
+        option_and_then (run_left ops v) (if t then fit (picks_of p) cs else None) ≡ ended (if t then gives p v cs else Blocked)
     at true e = e
     at false e = refl
 
 -- the values, if no choice is left
-abbrev pub used : Outcome → Option Values
-used (Goes v []) = Some v
-used (Fails v []) = Some v
+abbrev pub used : Completion → Option Values
+used (Normal v []) = Some v
+used (Failing v []) = Some v
 used _ = None
 
 abbrev if_used : Values × List ℤ → Option Values
 if_used (w, []) = Some w
 if_used (w, c ∷ cs) = None
 
-used_is : (o : Outcome) → option_and_then if_used (ended o) ≡ used o
-used_is (Goes v []) = refl
-used_is (Goes v (c ∷ cs)) = refl
-used_is (Fails v []) = refl
-used_is (Fails v (c ∷ cs)) = refl
-used_is Stops = refl
+used_is : (o : Completion) → option_and_then if_used (ended o) ≡ used o
+used_is (Normal v []) = refl
+used_is (Normal v (c ∷ cs)) = refl
+used_is (Failing v []) = refl
+used_is (Failing v (c ∷ cs)) = refl
+used_is Blocked = refl
 
 at_the_end : (ops : List Op) (v : Values) (o : Option (List ℤ × List ℤ)) →
     option_and_then (run ops v) (option_and_then if_all_used o) ≡ option_and_then if_used (option_and_then (run_left ops v) o)
@@ -110,9 +111,9 @@ at_the_end ops v (Some (hs, c ∷ cs)) = ran (run ops v hs)
     ran (Some w) = refl
 
 -- an edge that is drawn of a path gives what the path gives, where it leaves no choice
-pub after_drawn : (commands : List Command) (a : ℕ) (p : List Act) (goal : ℕ) (e : Edge) → Draws commands a p goal e →
+pub after_realised : (commands : List Command) (a : ℕ) (p : List Act) (goal : ℕ) (e : Edge) → Realises commands a p goal e →
     (v : Values) (cs : List ℤ) → after_edge commands e v cs ≡ used (gives p v cs)
-after_drawn commands a p goal e d v cs =
+after_realised commands a p goal e d v cs =
     ap (λ (ps : List Pick). run_with ps (ops_of commands e.command) v cs) d.picks
     ∙ at_the_end (ops_of commands e.command) v (fit (picks_of p) cs)
     ∙ ap (option_and_then if_used) (tied p (ops_of commands e.command) d.ops v cs)

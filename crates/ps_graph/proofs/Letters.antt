@@ -6,11 +6,27 @@ use Rattle.std.specs.Option.{option_and_then}
 use Rattle.std.proofs.lemmas.Bool.{eqb-true}
 use Rattle.std.proofs.lemmas.Option.{same_Some}
 use Rattle.ps_graph.specs.ErrorTrace.{edges_of, is_path}
-use Rattle.ps_graph.specs.Letters.{moved_to, Located, woven}
 use Rattle.ps_graph.specs.Picks.{choice_of, fit, if_all_used, havocs_of, values_in}
 use Rattle.ps_graph.specs.declared.edge.Edge.{Edge}
 use Rattle.ps_graph.specs.declared.edge.Pick.{Pick}
 use Rattle.ps_graph.specs.declared.edge.Pick.TheVariants.{Star, Value}
+
+-- where each thread is after one of them moved
+abbrev pub moved_to : (ℕ → ℕ) → ℕ → ℕ → ℕ → ℕ
+moved_to at k goal j = if k == j then goal else at j
+
+-- each letter's edge leaves the location at which its thread then is, and takes the thread to its target
+abbrev pub Located : List Edge → (ℕ → ℕ) → List (ℕ × ℕ) → Type 0
+Located edges at [] = Unit {0}
+Located edges at (l ∷ ls) =
+    (e : Edge) × (slice_get edges l.1 ≡ Some e) × (e.source ≡ at l.0) × Located edges (moved_to at l.0 e.target) ls
+
+-- the choices that fit the picks and give these havoc values
+abbrev pub woven : List Pick → List ℤ → List ℤ
+woven [] hs = []
+woven (Star b ∷ ps) hs = choice_of b ∷ woven ps hs
+woven (Value ∷ ps) [] = []
+woven (Value ∷ ps) (h ∷ hs) = h ∷ woven ps hs
 
 abbrev after_letter : List Edge → ℕ → List ℕ → Edge → Bool
 after_letter edges a ns e = e.source == a && is_path edges e.target ns

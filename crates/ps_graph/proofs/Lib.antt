@@ -1,9 +1,12 @@
 pub mod Agreement
 pub mod Bools
 pub mod Choices
+pub mod Errors
+pub mod Joined
 pub mod Letters
 pub mod ManyThreads
 pub mod Members
 pub mod OneThread
 pub mod Strides
+pub mod TraceExamples
 pub mod Truths

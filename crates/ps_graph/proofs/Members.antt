@@ -1,14 +1,32 @@
--- Members of lists of edges and paths.
-use Rattle.std.proofs.Common.{◌≡◌, Bool, true, false, ◌==◌, refl, sym, ◌∙◌, ap, subst, ℕ, ℤ, List, [], ◌∷◌, ◌++◌, ◌⊎◌, inl, inr, if◌then◌else◌, eq-eqb}
+-- Members of lists, by recursion, and of lists of edges and paths.
+use Rattle.std.proofs.Common.{◌≡◌, Bool, true, false, ◌==◌, refl, sym, ◌∙◌, ap, subst, ℕ, zero, suc, ℤ, List, [], ◌∷◌, ◌++◌, ◌⊎◌, inl, inr, if◌then◌else◌, eq-eqb, arith}
+use Rattle.std.specs.Prelude.{Contains}
 use Rattle.std.proofs.lemmas.Bool.{eqb-true}
 use Rattle.ps_command.specs.Values.{Values}
 use Rattle.ps_command.specs.declared.command.Command.{Command}
-use Rattle.ps_graph.proofs.Agreement.{Sound, Found}
-use Rattle.ps_graph.specs.Facts.{IsIn}
-use Rattle.ps_graph.specs.Follows.{Draws, Drawn, going_to, leaving}
-use Rattle.ps_graph.specs.Paths.{Act, gives}
-use Rattle.ps_graph.specs.Step.{Outcome, Stops}
+use Rattle.ps_graph.proofs.Agreement.{gives, Sound, Found}
+use Rattle.ps_graph.specs.Follows.{Realises, AreRealised, going_to, leaving}
+use Rattle.ps_graph.specs.Paths.{Act}
+use Rattle.ps_graph.specs.Step.{Completion, Blocked}
 use Rattle.ps_graph.specs.declared.edge.Edge.{Edge}
+
+-- one of the list, by recursion
+abbrev pub IsIn : {X : Type 0} → X → List X → Type 0
+IsIn x [] = ⊥
+IsIn x (y ∷ ys) = (x ≡ y) ⊎ IsIn x ys
+
+pub contains_of_in : {X : Type 0} → (x : X) (xs : List X) → IsIn x xs → Contains xs x
+contains_of_in x [] h = absurd h
+contains_of_in x (y ∷ xs) (inl e) = (zero, omega arith, sym e)
+contains_of_in {X} x (y ∷ xs) (inr h) = at (contains_of_in x xs h)
+  where
+    at : Contains xs x → Contains (y ∷ xs) x
+    at (k, within, e) = (suc k, omega (arith, within), e)
+
+pub in_of_contains : {X : Type 0} → (x : X) (xs : List X) → Contains xs x → IsIn x xs
+in_of_contains x [] (k, within, e) = let none : ⊥ = omega (arith, within) in absurd none
+in_of_contains x (y ∷ xs) (zero, within, e) = inl (sym e)
+in_of_contains x (y ∷ xs) (suc k, within, e) = inr (in_of_contains x xs (k, omega (arith, within), e))
 
 pub in_left : {X : Type 0} → (x : X) (xs ys : List X) → IsIn x xs → IsIn x (xs ++ ys)
 in_left x [] ys h = absurd h
@@ -61,28 +79,28 @@ of_going goal p (q ∷ ps) (inr h) = (inr (of_going goal p ps h).0, (of_going go
 
 -- each path has its edge, and each edge its path
 pub edge_of : (commands : List Command) (a : ℕ) (p : List Act × ℕ) (ps : List (List Act × ℕ)) (es : List Edge) →
-    Drawn commands a ps es → IsIn p ps → (e : Edge) × IsIn e es × Draws commands a p.0 p.1 e
+    AreRealised commands a ps es → IsIn p ps → (e : Edge) × IsIn e es × Realises commands a p.0 p.1 e
 edge_of commands a p [] [] d h = absurd h
 edge_of commands a p [] (e ∷ es) d h = absurd h
 edge_of commands a p (q ∷ ps) [] d h = absurd d
-edge_of commands a p (q ∷ ps) (e ∷ es) d (inl same) = (e, inl refl, subst (λ (r : List Act × ℕ). Draws commands a r.0 r.1 e) (sym same) d.0)
+edge_of commands a p (q ∷ ps) (e ∷ es) d (inl same) = (e, inl refl, subst (λ (r : List Act × ℕ). Realises commands a r.0 r.1 e) (sym same) d.0)
 edge_of commands a p (q ∷ ps) (e ∷ es) d (inr h) = at (edge_of commands a p ps es d.1 h)
   where
-    at : (f : Edge) × IsIn f es × Draws commands a p.0 p.1 f → (f : Edge) × IsIn f (e ∷ es) × Draws commands a p.0 p.1 f
+    at : (f : Edge) × IsIn f es × Realises commands a p.0 p.1 f → (f : Edge) × IsIn f (e ∷ es) × Realises commands a p.0 p.1 f
     at (f, g, w) = (f, inr g, w)
 
 pub path_of : (commands : List Command) (a : ℕ) (e : Edge) (ps : List (List Act × ℕ)) (es : List Edge) →
-    Drawn commands a ps es → IsIn e es → (p : List Act × ℕ) × IsIn p ps × Draws commands a p.0 p.1 e
+    AreRealised commands a ps es → IsIn e es → (p : List Act × ℕ) × IsIn p ps × Realises commands a p.0 p.1 e
 path_of commands a e [] [] d h = absurd h
 path_of commands a e [] (f ∷ es) d h = absurd d
 path_of commands a e (q ∷ ps) [] d h = absurd h
-path_of commands a e (q ∷ ps) (f ∷ es) d (inl same) = (q, inl refl, subst (λ (r : Edge). Draws commands a q.0 q.1 r) (sym same) d.0)
+path_of commands a e (q ∷ ps) (f ∷ es) d (inl same) = (q, inl refl, subst (λ (r : Edge). Realises commands a q.0 q.1 r) (sym same) d.0)
 path_of commands a e (q ∷ ps) (f ∷ es) d (inr h) = at (path_of commands a e ps es d.1 h)
   where
-    at : (p : List Act × ℕ) × IsIn p ps × Draws commands a p.0 p.1 e → (p : List Act × ℕ) × IsIn p (q ∷ ps) × Draws commands a p.0 p.1 e
+    at : (p : List Act × ℕ) × IsIn p ps × Realises commands a p.0 p.1 e → (p : List Act × ℕ) × IsIn p (q ∷ ps) × Realises commands a p.0 p.1 e
     at (p, g, w) = (p, inr g, w)
 
-pub found_path : (ps : List (List Act)) (v : Values) (cs : List ℤ) (o : Outcome) → Found ps v cs o → (p : List Act) × IsIn p ps × (gives p v cs ≡ o)
+pub found_path : (ps : List (List Act)) (v : Values) (cs : List ℤ) (o : Completion) → Found ps v cs o → (p : List Act) × IsIn p ps × (gives p v cs ≡ o)
 found_path [] v cs o f = absurd f
 found_path (p ∷ ps) v cs o (inl e) = (p, inl refl, e)
 found_path (p ∷ ps) v cs o (inr f) = at (found_path ps v cs o f)
@@ -90,8 +108,8 @@ found_path (p ∷ ps) v cs o (inr f) = at (found_path ps v cs o f)
     at : (q : List Act) × IsIn q ps × (gives q v cs ≡ o) → (q : List Act) × IsIn q (p ∷ ps) × (gives q v cs ≡ o)
     at (q, g, e) = (q, inr g, e)
 
-pub sound_path : (ps : List (List Act)) (v : Values) (cs : List ℤ) (o : Outcome) (p : List Act) → Sound ps v cs o → IsIn p ps →
-    (gives p v cs ≡ Stops) ⊎ (gives p v cs ≡ o)
+pub sound_path : (ps : List (List Act)) (v : Values) (cs : List ℤ) (o : Completion) (p : List Act) → Sound ps v cs o → IsIn p ps →
+    (gives p v cs ≡ Blocked) ⊎ (gives p v cs ≡ o)
 sound_path [] v cs o p s h = absurd h
-sound_path (q ∷ ps) v cs o p s (inl e) = subst (λ (r : List Act). (gives r v cs ≡ Stops) ⊎ (gives r v cs ≡ o)) (sym e) s.0
+sound_path (q ∷ ps) v cs o p s (inl e) = subst (λ (r : List Act). (gives r v cs ≡ Blocked) ⊎ (gives r v cs ≡ o)) (sym e) s.0
 sound_path (q ∷ ps) v cs o p s (inr h) = sound_path ps v cs o p s.1 h

@@ -1,26 +1,40 @@
--- Walks over locations are letters whose commands run one after another.
+-- A stride is a step of one thread along an edge: what it does to the state, and to the locations of the threads.
 use Rattle.std.proofs.Common.{◌≡◌, Bool, true, false, ◌&&◌, ◌==◌, refl, sym, ◌∙◌, ap, subst, ℕ, zero, suc, ◌<◌, ℤ, List, [], ◌∷◌, length, map, get_or, ◌⊎◌, inl, inr, if◌then◌else◌, eq-eqb, arith}
-use Rattle.std.specs.Prelude.{Option, Some, None, option_map, slice_get, slice_set, unwrap_or, IsTrue}
-use Rattle.std.specs.List.{list_all}
+use Rattle.std.specs.Prelude.{Option, Some, None, option_map, slice_get, slice_set, slice_index_or, unwrap_or, IsTrue}
+use Rattle.std.specs.List.{list_all, AllByRecursion}
 use Rattle.std.specs.Option.{option_and_then}
 use Rattle.std.proofs.lemmas.Bool.{eqb-true, eqb-false}
 use Rattle.std.proofs.lemmas.List.{get_or-set_same, get_or-set_other, length-set, map-set}
-use Rattle.std.proofs.lemmas.Option.{same_Some, some_pair_parts, slice_get_within, slice_get-map, get_or_from_slice_get, slice_get-get_or}
+use Rattle.std.proofs.lemmas.Option.{same_Some, slice_get_within, slice_get-map, get_or_from_slice_get, slice_get-get_or}
 use Rattle.ps_command.specs.Run.{run, run_by, havocs_in}
 use Rattle.ps_command.specs.Values.{Values, values_of, with_values}
 use Rattle.ps_command.specs.declared.command.Command.{Command}
-use Rattle.ps_command.specs.declared.op.Op.{Op}
 use Rattle.ps_command.specs.declared.state.State.{State}
-use Rattle.ps_graph.specs.ErrorTrace.{edge_ops, after_letters, HavocsFit}
-use Rattle.ps_graph.specs.Facts.{IsIn, ops_of, after_edge, picks_fit}
+use Rattle.ps_graph.proofs.Letters.{moved_to, Located}
+use Rattle.ps_graph.proofs.Members.{IsIn}
+use Rattle.ps_graph.proofs.OneThread.{along_is, along_parts}
+use Rattle.ps_graph.specs.ErrorTrace.{edge_ops}
+use Rattle.ps_graph.specs.Facts.{ops_of, after_edge, picks_fit}
 use Rattle.ps_graph.specs.Follows.{along}
-use Rattle.ps_graph.specs.Letters.{moved_to, Located, woven}
 use Rattle.ps_graph.specs.Picks.{havocs_of, values_in}
-use Rattle.ps_graph.specs.Strides.{state_of, places, place_of, Matches, AreThreads, WalksAreLetters}
 use Rattle.ps_graph.specs.Threads.{Seat, World, Stepping, step_at}
-use Rattle.ps_graph.specs.Walks.{Stride, AlongEdges, walked}
 use Rattle.ps_graph.specs.declared.edge.Edge.{Edge}
-use Rattle.ps_graph.proofs.Letters.{havocs_of-woven}
+
+-- the values of a world of threads at locations
+abbrev pub state_of : World ℕ → State
+state_of w = record { globals = w.globals; locals = map (λ (u : Seat ℕ). u.locals) w.seats }
+
+-- the locations of threads, as a list
+abbrev pub places : World ℕ → List ℕ
+places w = map (λ (u : Seat ℕ). u.at) w.seats
+
+-- where a thread is; a thread that there isn't is at location 0
+abbrev pub place_of : World ℕ → ℕ → ℕ
+place_of w k = slice_index_or (places w) k 0
+
+-- every letter is of one of so many threads
+abbrev pub AreThreads : ℕ → List (ℕ × ℕ) → Type 0
+AreThreads n ls = AllByRecursion (λ (l : ℕ × ℕ). l.0 < n) ls
 
 -- the world after a thread came to values and a place
 abbrev seated : {At : Type 0} → ℕ → List (Seat At) → Values × At → World At
@@ -49,15 +63,6 @@ step_at_none one k globals [] cs h = refl
 step_at_none one zero globals (t ∷ us) cs h = cc
 step_at_none one (suc k) globals (t ∷ us) cs h = ap (option_map (behind t)) (step_at_none one k globals us cs h)
 
-abbrev at_target : ℕ → Option Values → Option (Values × ℕ)
-at_target b o = option_map (λ (w : Values). (w, b)) o
-
-along_parts : (t : Bool) (o : Option Values) (w : Values) (c b : ℕ) →
-    (if t then at_target c o else None) ≡ Some (w, b) → (t ≡ true) × (o ≡ Some w) × (c ≡ b)
-along_parts true None w c b h = cc
-along_parts true (Some x) w c b h = let q : (x ≡ w) × (c ≡ b) = some_pair_parts x w c b h in (refl, ap Some q.0, q.1)
-along_parts false o w c b h = cc
-
 -- the values that a thread that there is sees, and the place at which it is
 values_are : (w : World ℕ) (k : ℕ) (u : Seat ℕ) → slice_get w.seats k ≡ Some u →
     values_of k (state_of w) ≡ record { globals = w.globals; locals = u.locals }
@@ -73,12 +78,12 @@ place_is w k u h =
     get_or_from_slice_get (places w) k u.at 0 looked
 
 -- the state and the places after a thread came to values and a place
-state_seated : (w : World ℕ) (k : ℕ) (v : Values) (b : ℕ) → state_of (seated k w.seats (v, b)) ≡ with_values k (state_of w) v
+pub state_seated : (w : World ℕ) (k : ℕ) (v : Values) (b : ℕ) → state_of (seated k w.seats (v, b)) ≡ with_values k (state_of w) v
 state_seated w k v b =
     let make : List (List ℤ) → State = λ ls. record { globals = v.globals; locals = ls } in
     ap make (map-set (λ (u : Seat ℕ). u.locals) w.seats k (record { locals = v.locals; at = b }))
 
-length_map : {X Y : Type 0} → (f : X → Y) (xs : List X) → length (map f xs) ≡ length xs
+pub length_map : {X Y : Type 0} → (f : X → Y) (xs : List X) → length (map f xs) ≡ length xs
 length_map f [] = refl
 length_map f (x ∷ xs) = ap suc (length_map f xs)
 
@@ -95,7 +100,7 @@ place_seated w k v b within j =
     at false t = get_or-set_other (places w) k j b 0 (λ e. eqb-false k j t (sym e))
 
 -- letters are located from any equal places
-relocated : (edges : List Edge) (ls : List (ℕ × ℕ)) (f g : ℕ → ℕ) → ((j : ℕ) → f j ≡ g j) → Located edges f ls → Located edges g ls
+pub relocated : (edges : List Edge) (ls : List (ℕ × ℕ)) (f g : ℕ → ℕ) → ((j : ℕ) → f j ≡ g j) → Located edges f ls → Located edges g ls
 relocated edges [] f g same h = tt
 relocated edges (l ∷ ls) f g same (e, i, s, h) =
     (e, i, s ∙ same l.0, relocated edges ls (moved_to f l.0 e.target) (moved_to g l.0 e.target) (λ j. at j (l.0 == j)) h)
@@ -105,7 +110,7 @@ relocated edges (l ∷ ls) f g same (e, i, s, h) =
     at j false = same j
 
 -- an edge of the list has a number
-numbered : (e : Edge) (edges : List Edge) → IsIn e edges → (n : ℕ) × (slice_get edges n ≡ Some e)
+pub numbered : (e : Edge) (edges : List Edge) → IsIn e edges → (n : ℕ) × (slice_get edges n ≡ Some e)
 numbered e [] h = absurd h
 numbered e (d ∷ edges) (inl same) = (zero, ap Some (sym same))
 numbered e (d ∷ edges) (inr h) = at (numbered e edges h)
@@ -113,7 +118,7 @@ numbered e (d ∷ edges) (inr h) = at (numbered e edges h)
     at : (n : ℕ) × (slice_get edges n ≡ Some e) → (n : ℕ) × (slice_get (d ∷ edges) n ≡ Some e)
     at (n, g) = (suc n, g)
 
-in_numbered : (e : Edge) (edges : List Edge) (n : ℕ) → slice_get edges n ≡ Some e → IsIn e edges
+pub in_numbered : (e : Edge) (edges : List Edge) (n : ℕ) → slice_get edges n ≡ Some e → IsIn e edges
 in_numbered e [] n h = cc
 in_numbered e (d ∷ edges) zero h = inl (sym (same_Some d e h))
 in_numbered e (d ∷ edges) (suc n) h = inr (in_numbered e edges n h)
@@ -128,7 +133,7 @@ pub record Strides (commands : List Command) (k : ℕ) (e : Edge) (cs : List ℤ
   pub moves : (j : ℕ) → place_of x j ≡ moved_to (place_of w) k e.target j
   pub same_number : length x.seats ≡ length w.seats
 
-stride_forth : (commands : List Command) (k : ℕ) (e : Edge) (cs : List ℤ) (w x : World ℕ) → step_at (along commands e) k w.globals w.seats cs ≡ Some x →
+pub stride_forth : (commands : List Command) (k : ℕ) (e : Edge) (cs : List ℤ) (w x : World ℕ) → step_at (along commands e) k w.globals w.seats cs ≡ Some x →
     Strides commands k e cs w x
 stride_forth commands k e cs w x h = seat (slice_get w.seats k) refl
   where
@@ -164,9 +169,6 @@ stride_forth commands k e cs w x h = seat (slice_get w.seats k) refl
     seat (Some u) g =
         taken u g (along commands e u.at (record { globals = w.globals; locals = u.locals }) cs) refl (sym (step_at_is (along commands e) k w.globals w.seats cs u g) ∙ h)
 
-along_is : (t : Bool) (o : Option Values) (w : Values) (b : ℕ) → t ≡ true → o ≡ Some w → (if t then at_target b o else None) ≡ Some (w, b)
-along_is t o w b h e = rw (h, e) refl
-
 -- a stride that runs
 pub record Strode (commands : List Command) (k : ℕ) (e : Edge) (cs : List ℤ) (w : World ℕ) (s : State) : Type 0 where
   pub after : World ℕ
@@ -175,7 +177,7 @@ pub record Strode (commands : List Command) (k : ℕ) (e : Edge) (cs : List ℤ)
   pub moves : (j : ℕ) → place_of after j ≡ moved_to (place_of w) k e.target j
   pub same_number : length after.seats ≡ length w.seats
 
-stride_back : (commands : List Command) (k : ℕ) (e : Edge) (cs hs : List ℤ) (w : World ℕ) (s : State) → k < length w.seats → e.source ≡ place_of w k →
+pub stride_back : (commands : List Command) (k : ℕ) (e : Edge) (cs hs : List ℤ) (w : World ℕ) (s : State) → k < length w.seats → e.source ≡ place_of w k →
     havocs_of e.picks cs ≡ Some hs → run_by k (ops_of commands e.command) (state_of w) hs ≡ Some s → Strode commands k e cs w s
 stride_back commands k e cs hs w s within source fits runs = seat (get_or w.seats k (record { locals = []; at = 0 })) (slice_get-get_or w.seats k (record { locals = []; at = 0 }) within)
   where
@@ -200,102 +202,11 @@ stride_back commands k e cs hs w s within source fits runs = seat (get_or w.seat
         (ap (λ (vs : Values). option_map (with_values k (state_of w)) (run (ops_of commands e.command) vs hs)) (sym (values_are w k u g)) ∙ runs)
 
 -- the ops of an edge of a number
-edge_ops_are : (commands : List Command) (edges : List Edge) (n : ℕ) (e : Edge) → slice_get edges n ≡ Some e → edge_ops commands edges n ≡ ops_of commands e.command
+pub edge_ops_are : (commands : List Command) (edges : List Edge) (n : ℕ) (e : Edge) → slice_get edges n ≡ Some e → edge_ops commands edges n ≡ ops_of commands e.command
 edge_ops_are commands edges n e g = ap (λ (o : Option Edge). unwrap_or (option_map (λ (e : Edge). ops_of commands e.command) o) []) g
 
-threads_among : (m n : ℕ) (ls : List (ℕ × ℕ)) → m ≡ n → AreThreads m ls → AreThreads n ls
+pub threads_among : (m n : ℕ) (ls : List (ℕ × ℕ)) → m ≡ n → AreThreads m ls → AreThreads n ls
 threads_among m n ls e h = subst (λ (i : ℕ). AreThreads i ls) e h
-
--- the letters of a walk
-pub record Spelled (commands : List Command) (edges : List Edge) (ms : List Stride) (w x : World ℕ) : Type 0 where
-  pub letters : List (ℕ × ℕ)
-  pub havocs : List (List ℤ)
-  pub matches : Matches edges ms letters havocs
-  pub threads : AreThreads (length w.seats) letters
-  pub located : Located edges (place_of w) letters
-  pub runs : after_letters commands edges letters havocs (state_of w) ≡ Some (state_of x)
-
-spelled : (commands : List Command) (edges : List Edge) (ms : List Stride) (w x : World ℕ) → AlongEdges edges ms → walked commands ms w ≡ Some x → Spelled commands edges ms w x
-spelled commands edges [] w x t h =
-    record { letters = []; havocs = []; matches = tt; threads = tt; located = tt; runs = ap (λ (o : Option (World ℕ)). option_map state_of o) h }
-spelled commands edges (m ∷ ms) w x (i, t) h =
-    first (step_at (along commands m.edge) m.thread w.globals w.seats m.choices) refl h (λ y r. spelled commands edges ms y x t r)
-  where
-    put : (y : World ℕ) → Strides commands m.thread m.edge m.choices w y → (n : ℕ) × (slice_get edges n ≡ Some m.edge) → Spelled commands edges ms y x →
-        Spelled commands edges (m ∷ ms) w x
-    put y a (n, g) b = record {
-      letters = (m.thread, n) ∷ b.letters;
-      havocs = a.havocs ∷ b.havocs;
-      matches = (refl, g, a.fits, b.matches);
-      threads = (a.within, threads_among (length y.seats) (length w.seats) b.letters a.same_number b.threads);
-      located = (m.edge, g, a.source, relocated edges b.letters (place_of y) (moved_to (place_of w) m.thread m.edge.target) a.moves b.located);
-      runs = ap (λ (ops : List Op). option_and_then (after_letters commands edges b.letters b.havocs) (run_by m.thread ops (state_of w) a.havocs)) (edge_ops_are commands edges n m.edge g)
-          ∙ ap (option_and_then (after_letters commands edges b.letters b.havocs)) a.runs
-          ∙ b.runs;
-    }
-
-    first : (o : Option (World ℕ)) → step_at (along commands m.edge) m.thread w.globals w.seats m.choices ≡ o → option_and_then (walked commands ms) o ≡ Some x →
-        ((y : World ℕ) → walked commands ms y ≡ Some x → Spelled commands edges ms y x) → Spelled commands edges (m ∷ ms) w x
-    first None s r rest = cc
-    first (Some y) s r rest = put y (stride_forth commands m.thread m.edge m.choices w y s) (numbered m.edge edges i) (rest y r)
-
--- the walk of letters
-pub record Walks (commands : List Command) (edges : List Edge) (ls : List (ℕ × ℕ)) (hss : List (List ℤ)) (w : World ℕ) (s : State) : Type 0 where
-  pub strides : List Stride
-  pub after : World ℕ
-  pub takes : AlongEdges edges strides
-  pub matches : Matches edges strides ls hss
-  pub walks : walked commands strides w ≡ Some after
-  pub state : state_of after ≡ s
-
-walk_of : (commands : List Command) (edges : List Edge) → ((e : Edge) → IsIn e edges → values_in e.picks ≡ havocs_in (ops_of commands e.command)) →
-    (ls : List (ℕ × ℕ)) (hss : List (List ℤ)) (w : World ℕ) (s : State) → AreThreads (length w.seats) ls →
-    Located edges (place_of w) ls → HavocsFit commands edges ls hss → after_letters commands edges ls hss (state_of w) ≡ Some s → Walks commands edges ls hss w s
-walk_of commands edges fit [] [] w s t l f h = record { strides = []; after = w; takes = tt; matches = tt; walks = refl; state = same_Some (state_of w) s h }
-walk_of commands edges fit [] (hs ∷ hss) w s t l f h = absurd f
-walk_of commands edges fit (l ∷ ls) [] w s t g f h = absurd f
-walk_of commands edges fit (l ∷ ls) (hs ∷ hss) w s (within, t) (e, g, source, located) (count, f) h =
-    first (run_by l.0 (edge_ops commands edges l.1) (state_of w) hs) refl h
-    (λ y u i r. walk_of commands edges fit ls hss y s (threads_among (length w.seats) (length y.seats) ls (sym u) t) i f r)
-  where
-    is_edge : IsIn e edges
-    is_edge = in_numbered e edges l.1 g
-
-    counts : length hs ≡ values_in e.picks
-    counts = count ∙ ap havocs_in (edge_ops_are commands edges l.1 e g) ∙ sym (fit e is_edge)
-
-    put : (n : State) → Strode commands l.0 e (woven e.picks hs) w n → after_letters commands edges ls hss n ≡ Some s →
-        ((y : World ℕ) → length y.seats ≡ length w.seats → Located edges (place_of y) ls → after_letters commands edges ls hss (state_of y) ≡ Some s → Walks commands edges ls hss y s) →
-        Walks commands edges (l ∷ ls) (hs ∷ hss) w s
-    put n a r rest = join (rest a.after a.same_number
-        (relocated edges ls (moved_to (place_of w) l.0 e.target) (place_of a.after) (λ j. sym (a.moves j)) located)
-        (ap (after_letters commands edges ls hss) a.state ∙ r))
-      where
-        join : Walks commands edges ls hss a.after s → Walks commands edges (l ∷ ls) (hs ∷ hss) w s
-        join b = record {
-          strides = record { thread = l.0; choices = woven e.picks hs; edge = e } ∷ b.strides;
-          after = b.after;
-          takes = (is_edge, b.takes);
-          matches = (refl, g, havocs_of-woven e.picks hs counts, b.matches);
-          walks = ap (option_and_then (walked commands b.strides)) a.steps ∙ b.walks;
-          state = b.state;
-        }
-
-    first : (o : Option State) → run_by l.0 (edge_ops commands edges l.1) (state_of w) hs ≡ o → option_and_then (after_letters commands edges ls hss) o ≡ Some s →
-        ((y : World ℕ) → length y.seats ≡ length w.seats → Located edges (place_of y) ls → after_letters commands edges ls hss (state_of y) ≡ Some s → Walks commands edges ls hss y s) →
-        Walks commands edges (l ∷ ls) (hs ∷ hss) w s
-    first None o r rest = cc
-    first (Some n) o r rest =
-        put n (stride_back commands l.0 e (woven e.picks hs) hs w n within source (havocs_of-woven e.picks hs counts)
-        (ap (λ (ops : List Op). run_by l.0 ops (state_of w) hs) (sym (edge_ops_are commands edges l.1 e g)) ∙ o)) r rest
-
--- walks are letters, both ways, where each edge has as many values among its picks as its command has havocs
-pub walks_are_letters : (commands : List Command) (edges : List Edge) →
-    ((e : Edge) → IsIn e edges → values_in e.picks ≡ havocs_in (ops_of commands e.command)) → WalksAreLetters commands edges
-walks_are_letters commands edges fit = record {
-  forth = λ ms w x t h. (let a = spelled commands edges ms w x t h in (a.letters, a.havocs, a.matches, a.threads, a.located, a.runs));
-  back = λ ls hss w s t l f h. (let a = walk_of commands edges fit ls hss w s t l f h in (a.strides, a.after, a.takes, a.matches, a.walks, a.state));
-}
 
 all_in : {X : Type 0} → (test : X → Bool) (x : X) (xs : List X) → list_all test xs ≡ true → IsIn x xs → test x ≡ true
 all_in test x [] h i = absurd i

@@ -63,11 +63,13 @@ HavocsFit commands edges [] [] = Unit {0}
 HavocsFit commands edges (l ∷ ls) (hs ∷ hss) = (length hs ≡ havocs_in (edge_ops commands edges l.1)) × HavocsFit commands edges ls hss
 HavocsFit commands edges _ _ = ⊥
 
--- Some initial state, with at least the threads that occur, and some havoc values run its commands one after another.
-pub record IsFeasible (graph : Graph) (letters : List (ℕ × ℕ)) : Type 0 where
-  pub state : State
-  pub havocs : List (List ℤ)
-  pub initial : IsInitial graph.setting state
-  pub threads : All (λ (l : ℕ × ℕ). l.0 < length state.locals) letters
+-- From this state, which is initial and has at least the threads that occur, the letters run with these havoc values.
+pub record RunsFrom (graph : Graph) (letters : List (ℕ × ℕ)) (s : State) (havocs : List (List ℤ)) : Type 0 where
+  pub initial : IsInitial graph.setting s
+  pub threads : All (λ (l : ℕ × ℕ). l.0 < length s.locals) letters
   pub fit : HavocsFit graph.setting.commands graph.edges letters havocs
-  pub runs : IsSome (after_letters graph.setting.commands graph.edges letters havocs state)
+  pub runs : IsSome (after_letters graph.setting.commands graph.edges letters havocs s)
+
+-- Some initial state, with at least the threads that occur, and some havoc values run its commands one after another.
+abbrev pub IsFeasible : Graph → List (ℕ × ℕ) → Type 0
+IsFeasible graph letters = (s : State) × (havocs : List (List ℤ)) × RunsFrom graph letters s havocs

@@ -1,5 +1,5 @@
 -- The facts that a graph keeps.
-use Rattle.std.specs.Prelude.{◌≡◌, ℕ, suc, ℤ, Bool, true, false, not, ◌&&◌, ◌||◌, ◌==◌, nat_lt, List, [], ◌∷◌, length, slice_index_or, slice_get, Option, Some, None, option_map, unwrap_or, ◌⊎◌}
+use Rattle.std.specs.Prelude.{◌≡◌, ℕ, suc, ℤ, Bool, true, false, not, ◌&&◌, ◌||◌, ◌==◌, nat_lt, List, [], ◌∷◌, length, slice_index_or, slice_get, Option, Some, None, option_map, unwrap_or, Contains}
 use Rattle.std.specs.List.{list_all}
 use Rattle.ps_command.specs.Run.{havocs_in}
 use Rattle.ps_command.specs.Values.{Values}
@@ -7,11 +7,6 @@ use Rattle.ps_command.specs.declared.command.Command.{Command}
 use Rattle.ps_command.specs.declared.op.Op.{Op}
 use Rattle.ps_graph.specs.Picks.{values_in, run_with}
 use Rattle.ps_graph.specs.declared.edge.Edge.{Edge}
-
--- one of the list
-abbrev pub IsIn : {X : Type 0} → X → List X → Type 0
-IsIn x [] = ⊥
-IsIn x (y ∷ ys) = (x ≡ y) ⊎ IsIn x ys
 
 -- the ops of the command of a number
 abbrev pub ops_of : List Command → ℕ → List Op
@@ -70,6 +65,6 @@ after_edge commands e v cs = run_with e.picks (ops_of commands e.command) v cs
 
 -- where two edges of one location run from the same values with the same choices, they have one target and give one result
 unfoldable pub IsDeterministic : List Command → List Edge → Type 0
-IsDeterministic commands edges = (d e : Edge) → IsIn d edges → IsIn e edges → d.source ≡ e.source →
+IsDeterministic commands edges = (d e : Edge) → Contains edges d → Contains edges e → d.source ≡ e.source →
     (v w x : Values) (cs : List ℤ) → after_edge commands d v cs ≡ Some w → after_edge commands e v cs ≡ Some x →
     (d.target ≡ e.target) × (w ≡ x)

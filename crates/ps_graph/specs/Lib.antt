@@ -1,14 +1,12 @@
 pub mod Alternatives
 pub mod ErrorTrace
+pub mod Errors
 pub mod Examples
 pub mod Execution
 pub mod Facts
 pub mod Follows
 pub mod Initial
-pub mod Letters
 pub mod Paths
 pub mod Picks
 pub mod Step
-pub mod Strides
 pub mod Threads
-pub mod Walks

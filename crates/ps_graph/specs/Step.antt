@@ -9,12 +9,12 @@ use Rattle.ps_tree.specs.declared.cond.Test.TheVariants.{Star, Cond}
 use Rattle.ps_tree.specs.declared.stmt.Stmt.{Stmt}
 use Rattle.ps_tree.specs.declared.stmt.StmtKind.{StmtKind, Assign, Havoc, Assume, Assert, Skip, Atomic', If', While', Row_of-Stmt, end_of-Stmt, more_of-Stmt, items-the_row-Stmt}
 
--- What comes of statements that are run in one go: they end with values and the choices that are left, an assertion
--- fails at values with the choices that are left, or there is no such run.
-pub data Outcome : Type 0 where
-  Goes : Values → List ℤ → Outcome
-  Fails : Values → List ℤ → Outcome
-  Stops : Outcome
+-- How statements that are run in one go end: normally, with values and the choices that are left, by an assertion that
+-- fails, with the same, or not at all, where an assumption blocks them.
+pub data Completion : Type 0 where
+  Normal : Values → List ℤ → Completion
+  Failing : Values → List ℤ → Completion
+  Blocked : Completion
 
 -- Whether a test holds, and the choices that are left: a condition by its truth, `*` by its choice, 1 or 0.
 abbrev pub decided : Test → Values → List ℤ → Option (Bool × List ℤ)
@@ -23,32 +23,32 @@ decided Star v [] = None
 decided Star v (c ∷ cs) = if int_eq c (pos 1) then Some (true, cs) else if int_eq c (pos 0) then Some (false, cs) else None
 
 -- one run after another
-abbrev pub then_do : Outcome → (Values → List ℤ → Outcome) → Outcome
-then_do (Goes v cs) next = next v cs
-then_do (Fails v cs) next = Fails v cs
-then_do Stops next = Stops
+abbrev pub then_do : Completion → (Values → List ℤ → Completion) → Completion
+then_do (Normal v cs) next = next v cs
+then_do (Failing v cs) next = Failing v cs
+then_do Blocked next = Blocked
 
 -- the one run where the test holds, the other where it doesn't
-abbrev pub branch : Option (Bool × List ℤ) → (List ℤ → Outcome) → (List ℤ → Outcome) → Outcome
-branch None held failed = Stops
+abbrev pub branch : Option (Bool × List ℤ) → (List ℤ → Completion) → (List ℤ → Completion) → Completion
+branch None held failed = Blocked
 branch (Some (true, cs)) held failed = held cs
 branch (Some (false, cs)) held failed = failed cs
 
 -- A statement, and a block, run in one go from values with choices. A loop has no such run.
 abbrev mutual
-  pub within : StmtKind → Values → List ℤ → Outcome
-  within (Assign x s) v cs = Goes (with_value v x (sum_value (value_at v) s)) cs
-  within (Havoc x) v [] = Stops
-  within (Havoc x) v (c ∷ cs) = Goes (with_value v x c) cs
-  within (Assume c) v cs = if truth (value_at v) c then Goes v cs else Stops
-  within (Assert c) v cs = if truth (value_at v) c then Goes v cs else Fails v cs
-  within Skip v cs = Goes v cs
+  pub within : StmtKind → Values → List ℤ → Completion
+  within (Assign x s) v cs = Normal (with_value v x (sum_value (value_at v) s)) cs
+  within (Havoc x) v [] = Blocked
+  within (Havoc x) v (c ∷ cs) = Normal (with_value v x c) cs
+  within (Assume c) v cs = if truth (value_at v) c then Normal v cs else Blocked
+  within (Assert c) v cs = if truth (value_at v) c then Normal v cs else Failing v cs
+  within Skip v cs = Normal v cs
   within (Atomic' _ block) v cs = within_all block v cs
   within (If' t _ held _ failed) v cs = branch (decided t v cs) (within_all held v) (within_all failed v)
-  within (While' _ _ _) v cs = Stops
+  within (While' _ _ _) v cs = Blocked
 
-  pub within_all : {n : _} → Row_of-Stmt n → Values → List ℤ → Outcome
-  within_all end_of-Stmt v cs = Goes v cs
+  pub within_all : {n : _} → Row_of-Stmt n → Values → List ℤ → Completion
+  within_all end_of-Stmt v cs = Normal v cs
   within_all (more_of-Stmt _ k rest) v cs = then_do (within k v cs) (within_all rest)
 
 -- a thread: the statements that it still has to run, or Failed
@@ -57,9 +57,9 @@ pub data Thread : Type 0 where
   Failed : Thread
 
 -- what a run in one go makes of the thread, where no choice is left; the rest is what comes after it
-abbrev pub settled : List Stmt → Outcome → Option (Values × Thread)
-settled rest (Goes v []) = Some (v, Runs rest)
-settled rest (Fails v []) = Some (v, Failed)
+abbrev pub settled : List Stmt → Completion → Option (Values × Thread)
+settled rest (Normal v []) = Some (v, Runs rest)
+settled rest (Failing v []) = Some (v, Failed)
 settled rest _ = None
 
 -- the one list of statements where the test holds, the other where it doesn't, where no choice is left

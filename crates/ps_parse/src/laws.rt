@@ -1,11 +1,12 @@
 //! Facts about the texts of programs and their faults: each function does no work, and its clause is the fact.
 
-ghost use Rattle.std.specs.Prelude.{◌≡◌, ◌++◌, List};
+ghost use Rattle.std.specs.Prelude.{◌≡◌, ◌++◌, ℕ, List};
 ghost use Rattle.ps_token.specs.declared.place.Place.{Place};
 ghost use Rattle.ps_tree.specs.declared.program.Program.{Program};
 ghost use Rattle.ps_grammar.specs.Programs.{IsProgramText};
 ghost use Rattle.ps_grammar.specs.Words.{Word};
 ghost use Rattle.ps_parse.specs.Reads.{IsFirstFault, PassesGrammar, StandsInText};
+ghost use Rattle.ps_parse.specs.Texts.{IsProgram};
 ghost use Rattle.ps_parse.specs.declared.read_refusal.ReadRefusal.{ReadRefusal};
 
 /// Words are one program at most.
@@ -23,4 +24,9 @@ pub fn one_fault()
 pub fn faults_go_first()
     ensures after { (words : List Word) (end p : Place) (fault : IsFirstFault words end p) (e : ReadRefusal) (other : StandsInText words end e) → (tail : List Word) × (fault.before ≡ other.before ++ tail) }
     ensures at { (words : List Word) (end p : Place) (fault : IsFirstFault words end p) (e : ReadRefusal) (other : StandsInText words end e) → PassesGrammar e → ¬ (fault.before ≡ other.before) }
+{}
+
+/// Bytes spell at most one program.
+pub fn one_program_of_bytes()
+    ensures { (bytes : List ℕ) (p q : Program) → IsProgram bytes p → IsProgram bytes q → p ≡ q }
 {}

@@ -4,6 +4,7 @@
 mod step;
 mod trace;
 mod witness;
+pub mod worked;
 
 pub use step::Step;
 pub use trace::{IndexedTrace, Letter};

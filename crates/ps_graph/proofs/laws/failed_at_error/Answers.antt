@@ -1,5 +1,0 @@
-use Rattle.ps_graph.proofs.OneThread.{failed_at_error}
-use Rattle.ps_graph.proofs.laws.failed_at_error.Goals as goal
-
-pub returns : goal.returns
-returns c = λ commands edges z end thread a stands. failed_at_error commands edges z end thread a stands

@@ -1,0 +1,14 @@
+//! Worked examples of the definitions: each function does no work, and its clauses are the examples.
+ghost use Rattle.ps_trace.specs.Examples.{ChoicesCount, CounterTraces, RaceIsReached, RaceIsTraced};
+
+/// Which witnesses reach a failure.
+pub fn witnesses()
+    ensures race { RaceIsReached }
+    ensures choices { ChoicesCount }
+{}
+
+/// Which traces are error traces, and which of these are feasible.
+pub fn traces()
+    ensures race { RaceIsTraced }
+    ensures counter { CounterTraces }
+{}
