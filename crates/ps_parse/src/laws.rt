@@ -3,10 +3,9 @@
 ghost use Rattle.std.specs.Prelude.{◌≡◌, ◌++◌, ℕ, List};
 ghost use Rattle.ps_token.specs.declared.place.Place.{Place};
 ghost use Rattle.ps_tree.specs.declared.program.Program.{Program};
-ghost use Rattle.ps_grammar.specs.Programs.{IsProgramText};
+ghost use Rattle.ps_grammar.specs.Programs.{IsProgram, IsProgramText};
 ghost use Rattle.ps_grammar.specs.Words.{Word};
 ghost use Rattle.ps_parse.specs.Reads.{IsFirstFault, PassesGrammar, StandsInText};
-ghost use Rattle.ps_parse.specs.Texts.{IsProgram};
 ghost use Rattle.ps_parse.specs.declared.read_refusal.ReadRefusal.{ReadRefusal};
 
 /// Words are one program at most.
