@@ -5,7 +5,7 @@ ghost use Rattle.ps_graph.specs.Examples.Executions.{CounterPasses, LocalsAreOwn
 ghost use Rattle.ps_graph.specs.Examples.Keeping.{AllAreKept, BodyBroken, ChoiceBroken, EntryBroken, ErrorBroken, NameBroken, PicksBroken};
 ghost use Rattle.ps_graph.specs.Examples.Starts.{DeclaredValues, InitialLocals, InitialRelations, InitialStates, LocalsNamed, StatesOfSetting, UndeclaredValues};
 ghost use Rattle.ps_graph.specs.Examples.Steps.{AtomicPartly, EndedThreadsStay, FalseAssertFails, FalseAssumeStops, GuessFails, GuessPasses, HavocTakesAny, IfWithoutElse, NoSuchChoice, SkipTakesNone, TestsTakeOne, TooFewChoices, TooManyChoices};
-ghost use Rattle.ps_graph.specs.Examples.Traces.{CounterIsInfeasible, CounterTraces, ErrorStandsLast, OnceBodies, PathsAreJoined, RaceIsFeasible, TracesFromEntry};
+ghost use Rattle.ps_graph.specs.Examples.Traces.{CounterIsInfeasible, CounterTraces, ErrorStandsLast, LettersOfSteps, OnceBodies, PathsAreJoined, RaceIsFeasible, TracesFromEntry};
 ghost use Rattle.ps_graph.specs.Examples.Ways.{PathsOfAssert, PathsOfAssume, PathsOfAtomic, PicksOfPath};
 
 /// What sums and conditions are worth, and the alternatives of a condition, in order.
@@ -97,4 +97,5 @@ pub fn traces()
     ensures once { OnceBodies }
     ensures infeasible { CounterIsInfeasible }
     ensures race { RaceIsFeasible }
+    ensures letters { LettersOfSteps }
 {}

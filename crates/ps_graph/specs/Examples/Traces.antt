@@ -3,10 +3,12 @@ use Rattle.std.specs.Prelude.{◌≡◌, ℕ, ℤ, pos, negsuc, true, false, Lis
 use Rattle.ps_command.specs.declared.command.Command.{Command}
 use Rattle.ps_command.specs.declared.op.Op.TheVariants.{Assume, Assign}
 use Rattle.ps_graph.specs.ErrorTrace.{is_path, edges_of, error_at_last, IsErrorTrace, IsFeasible}
+use Rattle.ps_graph.specs.Errors.{AreLettersOf}
 use Rattle.ps_graph.specs.Examples.{x, t}
 use Rattle.ps_graph.specs.Examples.Connections.{edge, counter_commands, counter_edges}
 use Rattle.ps_graph.specs.Examples.Starts.{row_of}
 use Rattle.ps_graph.specs.declared.edge.Edge.{Edge}
+use Rattle.ps_graph.specs.declared.edge.Pick.TheVariants.{Star as StarPick, Value}
 use Rattle.ps_graph.specs.declared.graph.Graph.{Graph}
 use Rattle.ps_term.specs.declared.term.Term.{Term}
 
@@ -89,3 +91,19 @@ abbrev pub RaceIsFeasible : Type 0
 RaceIsFeasible =
     let letters : List (ℕ × ℕ) = (0, 0) ∷ (0, 1) ∷ (1, 0) ∷ (1, 1) ∷ (0, 4) ∷ [] in
     (graph : Graph) → HasParts race_commands race_edges 0 1 None graph → IsErrorTrace graph letters × IsFeasible graph letters
+
+-- an edge by the choice of a `*` and a value
+abbrev pub picking : List Edge
+picking = record { source = 0; target = 2; command = 0; picks = StarPick true ∷ Value ∷ [] } ∷ []
+
+-- a step of thread 1 along it with the choices 1 and 7 is the letter of thread 1 with the havoc value 7; not that of
+-- another thread or edge, not with another value, not with a choice that doesn't fit, and not none
+abbrev pub LettersOfSteps : Type 0
+LettersOfSteps =
+    let steps : ℤ → List (ℕ × List ℤ) = λ z. (1, z ∷ pos 7 ∷ []) ∷ [] in
+    AreLettersOf picking (steps (pos 1)) ((1, 0) ∷ []) ((pos 7 ∷ []) ∷ [])
+    × (AreLettersOf picking (steps (pos 1)) ((0, 0) ∷ []) ((pos 7 ∷ []) ∷ []) → ⊥)
+    × (AreLettersOf picking (steps (pos 1)) ((1, 1) ∷ []) ((pos 7 ∷ []) ∷ []) → ⊥)
+    × (AreLettersOf picking (steps (pos 1)) ((1, 0) ∷ []) ((pos 6 ∷ []) ∷ []) → ⊥)
+    × (AreLettersOf picking (steps (pos 0)) ((1, 0) ∷ []) ((pos 7 ∷ []) ∷ []) → ⊥)
+    × (AreLettersOf picking (steps (pos 1)) [] [] → ⊥)

@@ -97,12 +97,15 @@ pub returns-clause-bodies : goal.returns-clause-bodies
 unfolding names_exist entries_owned error_is_final picks_fit stay_in_bodies
 returns-clause-bodies c = (refl, alone _ _)
 
+one_is_not_two : pos 1 ≡ pos 2 → ⊥
+one_is_not_two e = cc
+
 values_differ : IsDeterministic one_edge.commands (edge 0 2 0 ∷ edge 0 2 1 ∷ []) → ⊥
 unfolding IsDeterministic
 values_differ one =
     let q : (2 ≡ 2) × (seeing (pos 1) ≡ seeing (pos 2)) =
     one (edge 0 2 0) (edge 0 2 1) (0, omega arith, refl) (1, omega arith, refl) refl (seeing (pos 0)) (seeing (pos 1)) (seeing (pos 2)) [] refl refl in
-    let no_such : pos 1 ≡ pos 2 = ap (λ (v : Values). slice_index_or v.globals 0 (pos 0)) q.1 in (let none : ⊥ = cc in none)
+    one_is_not_two (ap (λ (v : Values). slice_index_or v.globals 0 (pos 0)) q.1)
 
 targets_differ : IsDeterministic one_edge.commands (edge 0 2 0 ∷ edge 0 1 0 ∷ []) → ⊥
 unfolding IsDeterministic
