@@ -34,12 +34,7 @@ pub fn can_run(command: &Command, state: &State, thread: u32) -> bool
 fn names_declared(ops: &[Op], globals: usize, locals: usize) -> bool
     ensures { result ≡ list_all (is_declared_op globals locals) ops.now }
 {
-    for op in ops {
-        if !is_declared_op(op, globals, locals) {
-            return false;
-        }
-    }
-    true
+    ops.iter().all(|op| is_declared_op(op, globals, locals))
 }
 
 fn is_declared_op(op: &Op, globals: usize, locals: usize) -> bool
@@ -55,12 +50,10 @@ fn is_declared_op(op: &Op, globals: usize, locals: usize) -> bool
 fn is_declared_term(term: &Term, globals: usize, locals: usize) -> bool
     ensures { result ≡ is_declared_term globals locals term.now }
 {
-    for pair in term.pairs.as_slice() {
-        if !is_declared(pair.0, globals, locals) {
-            return false;
-        }
-    }
-    true
+    term.pairs
+        .as_slice()
+        .iter()
+        .all(|pair| is_declared(pair.0, globals, locals))
 }
 
 fn is_declared(variable: Var, globals: usize, locals: usize) -> bool
