@@ -1,5 +1,7 @@
+pub mod Adding
 pub mod Canonical
 pub mod Ceilings
+pub mod Comparing
 pub mod Divisions
 pub mod ExactTerms
 mod Examples

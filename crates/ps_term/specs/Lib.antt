@@ -1,3 +1,4 @@
+pub mod Accumulated
 pub mod Bound
 pub mod Evaluation
 pub mod Exact

@@ -1,6 +1,7 @@
 //! Linear terms over whole numbers, and the rows `term <= 0` that are made of them.
 #![tactic(auto)]
 
+mod accumulation;
 mod bound;
 pub mod exact;
 mod front;

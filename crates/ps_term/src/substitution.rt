@@ -1,23 +1,29 @@
 //! Terms put for variables.
-ghost use Rattle.std.specs.Prelude.{◌≡◌, ◌+ℤ◌, ◌*ℤ◌, ℤ, IfOk, OnOk, IsErrOf};
+ghost use Rattle.std.specs.Prelude.{◌≡◌, ◌+ℤ◌, ◌*ℤ◌, ℤ, IfOk, MatchOption, OnOk, IsErrOf};
 ghost use Rattle.ps_term.specs.declared.var.Var.{Var};
-ghost use Rattle.ps_term.specs.Pairs.{coefficient, IsCanonical};
+ghost use Rattle.ps_term.specs.Accumulated.{IsRising};
+ghost use Rattle.ps_term.specs.Pairs.{IsCanonical, pairs_value};
 ghost use Rattle.ps_term.specs.Substitution.{replacement, SubstitutionFits, values_after};
-ghost use Rattle.ps_term.specs.Sums.{TermFits};
-ghost use Rattle.ps_term.specs.Term.{value};
+ghost use Rattle.ps_term.specs.Sums.{PairsFit, ScaledFits};
+ghost use Rattle.ps_term.specs.Term.{value, variable_term};
 
-use crate::sums::add_scaled;
+use crate::accumulation::{add_pairs, pairs_of};
+use crate::sums::scaled_sum;
 use crate::term::{Term, TermEnd};
 use crate::var::{Var, is_same};
 use std::alloc::Global;
+use std::collections::BTreeMap;
 
 /// The term `a` with the term of `after` put for each variable that `after` names; the others stay. No
 /// variable is to stand twice in `after`; where one does, its first pair counts.
 ///
 /// From the term 0, the terms that are put are scaled by the coefficients and added in the order of the
 /// pairs of `a`, and its constant is added last. It is `Past128` where a product or a partial sum in
-/// this order lies outside `i128`. The time is that of the pairs of `a` times those of `after` and of
-/// the result.
+/// this order lies outside `i128`.
+///
+/// The sums are kept in a map and made a term once, so each pair of a term that is put takes one search
+/// among the variables of the result; finding that term takes one pass over `after` for each pair of `a`.
+/// The memory is that of the result, twice.
 pub fn substitute(alloc: Global, a: &Term, after: &[(Var, Term)]) -> Result<Term, TermEnd>
     ensures worth { IfOk result (λ term. (values : Var → ℤ)
         → value values term ≡ value (values_after values after.now) a.now) }
@@ -25,44 +31,76 @@ pub fn substitute(alloc: Global, a: &Term, after: &[(Var, Term)]) -> Result<Term
     ensures fits { OnOk result (SubstitutionFits after.now a.now) }
     ensures past { IsErrOf result TermEnd.Past128 → ¬ SubstitutionFits after.now a.now }
 {
-    let mut sum = Term::from_constant(alloc, 0);
+    let mut sums = BTreeMap::new(alloc);
+    let mut constant = 0;
     for pair in a.pairs.as_slice() {
-        sum = add_replaced(alloc, &sum, pair.1, pair.0, after)?;
+        constant = add_replaced(&mut sums, constant, pair.1, pair.0, after)?;
     }
-    let constant = sum
-        .constant
-        .checked_add(a.constant)
-        .ok_or(TermEnd::Past128)?;
+    let whole = constant.checked_add(a.constant).ok_or(TermEnd::Past128)?;
+    let pairs = pairs_of(alloc, sums)?;
     Ok(Term {
-        pairs: sum.pairs,
-        constant,
+        pairs,
+        constant: whole,
     })
 }
 
-// The sum with `by` times what stands for the variable.
+// Adds to the sums, and to the constant that it answers, `by` times what stands for the variable.
 fn add_replaced(
-    alloc: Global,
-    sum: &Term,
+    sums: &mut BTreeMap<Var, i128>,
+    constant: i128,
     by: i128,
     variable: Var,
     after: &[(Var, Term)],
-) -> Result<Term, TermEnd>
-    ensures worth { IfOk result (λ term. (values : Var → ℤ) → value values term
-        ≡ (value values sum.now +ℤ (by *ℤ values_after values after.now variable))) }
-    ensures coefficients { IfOk result (λ term. (x : Var) → coefficient x term.pairs
-        ≡ (coefficient x sum.now.pairs +ℤ (by *ℤ coefficient x (replacement after.now variable).pairs))) }
-    ensures constant { IfOk result (λ term. term.constant
-        ≡ (sum.now.constant +ℤ (by *ℤ (replacement after.now variable).constant))) }
-    ensures canonical { IfOk result (λ term. IsCanonical term.pairs) }
-    ensures fits { OnOk result (TermFits sum.now by (replacement after.now variable)) }
+) -> Result<i128, TermEnd>
+    requires { IsRising sums.old.entries }
+    ensures rising { OnOk result (IsRising sums.new.entries) }
+    ensures worth { OnOk result ((values : Var → ℤ) → pairs_value values sums.new.entries
+        ≡ (pairs_value values sums.old.entries +ℤ (by *ℤ pairs_value values (replacement after.now variable).pairs))) }
+    ensures constant { IfOk result (λ sum. sum
+        ≡ (constant +ℤ (by *ℤ (replacement after.now variable).constant))) }
+    ensures pairs_fit { OnOk result (PairsFit sums.old.entries by (replacement after.now variable).pairs) }
+    ensures constant_fits { OnOk result (ScaledFits constant by (replacement after.now variable).constant) }
     ensures past { IsErrOf result TermEnd.Past128
-        → ¬ TermFits sum.now by (replacement after.now variable) }
+        → ¬ (PairsFit sums.old.entries by (replacement after.now variable).pairs
+        × ScaledFits constant by (replacement after.now variable).constant) }
+{
+    match replacing(after, variable) {
+        Some(term) => add_parts(sums, constant, by, term.pairs.as_slice(), term.constant),
+        None => add_parts(sums, constant, by, &[(variable, 1)], 0),
+    }
+}
+
+fn add_parts(
+    sums: &mut BTreeMap<Var, i128>,
+    constant: i128,
+    by: i128,
+    pairs: &[(Var, i128)],
+    last: i128,
+) -> Result<i128, TermEnd>
+    requires canonical { IsCanonical pairs.now }
+    requires rising { IsRising sums.old.entries }
+    ensures rising { OnOk result (IsRising sums.new.entries) }
+    ensures worth { OnOk result ((values : Var → ℤ) → pairs_value values sums.new.entries
+        ≡ (pairs_value values sums.old.entries +ℤ (by *ℤ pairs_value values pairs.now))) }
+    ensures constant { IfOk result (λ sum. sum ≡ (constant +ℤ (by *ℤ last))) }
+    ensures pairs_fit { OnOk result (PairsFit sums.old.entries by pairs.now) }
+    ensures constant_fits { OnOk result (ScaledFits constant by last) }
+    ensures past { IsErrOf result TermEnd.Past128
+        → ¬ (PairsFit sums.old.entries by pairs.now × ScaledFits constant by last) }
+{
+    add_pairs(sums, by, pairs)?;
+    scaled_sum(constant, by, last).ok_or(TermEnd::Past128)
+}
+
+// The term that the list gives for the variable, if it names it.
+fn replacing(after: &[(Var, Term)], variable: Var) -> Option<&Term>
+    ensures { MatchOption result (variable_term variable ≡ replacement after.now variable)
+        (λ term. term.now ≡ replacement after.now variable) }
 {
     for pair in after {
         if is_same(variable, pair.0) {
-            return add_scaled(alloc, sum, by, &pair.1);
+            return Some(&pair.1);
         }
     }
-    let itself = Term::from_variable(alloc, variable).map_err(TermEnd::Memory)?;
-    add_scaled(alloc, sum, by, &itself)
+    None
 }

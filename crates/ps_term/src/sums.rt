@@ -95,7 +95,8 @@ fn sum_in_front(
     scaled_sum(in_front(variable, left), by, in_front(variable, right))
 }
 
-fn keep(list: &mut Vec<(Var, i128)>, variable: Var, coefficient: i128) -> Result<(), AllocError>
+// Adds the pair, unless its coefficient is 0.
+pub(crate) fn keep(list: &mut Vec<(Var, i128)>, variable: Var, coefficient: i128) -> Result<(), AllocError>
     ensures { OnOk result (list.new.items ≡ list.old.items ++ kept_pair variable coefficient) }
 {
     if coefficient == 0 {

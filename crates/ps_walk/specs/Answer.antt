@@ -1,9 +1,8 @@
 -- The answer of a walk.
-use Rattle.std.specs.Prelude.{◌≡◌, ◌<ℤ◌, ◌⊎◌, ℕ, ℤ, List, [], ◌∷◌, All, IsTrue}
+use Rattle.std.specs.Prelude.{◌≡◌, ◌<ℤ◌, ◌⊎◌, ℕ, ℤ, List, All}
 use Rattle.ps_elim.specs.declared.stage.Stage.{Stage}
 use Rattle.ps_term.specs.declared.row.Row.{Row}
 use Rattle.ps_term.specs.declared.var.Var.{Var}
-use Rattle.ps_term.specs.Var.{var_lt}
 use Rattle.ps_walk.specs.Bounds.{IsLower, IsUpper, StageFits}
 use Rattle.ps_walk.specs.Values.{value_in}
 use Rattle.ps_walk.specs.Rows.{Fails, FirstAt, IsPast, Passes}
@@ -41,8 +40,3 @@ OnValues (Values values) fact = fact values
 OnValues (NoInteger x lower upper) fact = Unit {0}
 OnValues (Misses row) fact = Unit {0}
 OnValues Past128 fact = Unit {0}
-
--- each variable comes before all later ones
-abbrev pub Ascend : List Var → Type 0
-Ascend [] = Unit {0}
-Ascend (x ∷ xs) = All (λ y. IsTrue (var_lt x y)) xs × Ascend xs

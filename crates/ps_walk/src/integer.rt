@@ -1,7 +1,8 @@
 //! The integer walk.
 ghost use Rattle.std.specs.Prelude.{◌≡◌, ◌<◌, ◌^◌, All, IfOk, length, map};
 ghost use Rattle.ps_term.specs.Row.{Holds};
-ghost use Rattle.ps_walk.specs.Answer.{Ascend, IsWalk, OnValues};
+ghost use Rattle.ps_elim.specs.Ascending.{Ascend};
+ghost use Rattle.ps_walk.specs.Answer.{IsWalk, OnValues};
 ghost use Rattle.ps_walk.specs.Values.{value_in};
 
 use crate::answer::Walk;

@@ -1,6 +1,6 @@
 use Rattle.std.proofs.Common.{drop}
-use Rattle.ps_term.proofs.Substitutions.{Substituted}
+use Rattle.ps_term.proofs.Substitutions.{Substituted, sum_of}
 use Rattle.ps_term.proofs.substitution.substitute.Given as goal
 
 abbrev pub invariant-loop-pair : goal.invariant-loop-pair
-invariant-loop-pair l = Substituted l.after l.a.pairs l.a.constant l.sum (drop l.pair-index l.pair-items)
+invariant-loop-pair l = Substituted l.after l.a.pairs l.a.constant (sum_of l.sums.entries l.constant) (drop l.pair-index l.pair-items)

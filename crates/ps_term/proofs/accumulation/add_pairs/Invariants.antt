@@ -1,0 +1,6 @@
+use Rattle.std.proofs.Common.{drop}
+use Rattle.ps_term.proofs.Adding.{Added}
+use Rattle.ps_term.proofs.accumulation.add_pairs.Given as goal
+
+abbrev pub invariant-loop-pair : goal.invariant-loop-pair
+invariant-loop-pair l = Added l.by l.initial.sums.entries l.pairs l.sums.entries (drop l.pair-index l.pairs)
