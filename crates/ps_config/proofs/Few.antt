@@ -1,9 +1,10 @@
 -- How few threads a configuration has.
-use Rattle.std.proofs.Common.{◌≡◌, ◌<◌, ◌≤◌, ◌+◌, ℕ, List, [], ◌∷◌, ◌++◌, length, map, get_or, refl, sym, ap, ap₂, ◌∙◌, subst, inl, inr, Contains, arith}
+use Rattle.std.proofs.Common.{◌≡◌, ◌<◌, ◌≤◌, ◌+◌, ℕ, List, [], ◌∷◌, ◌++◌, length, map, get_or, refl, sym, ap, ap₂, ◌∙◌, subst, inl, inr, Contains, arith, Some}
 use Rattle.std.proofs.lemmas.Bool.{cases_lt}
 use Rattle.std.specs.List.{range_with_len}
 use Rattle.std.specs.List.Sorted.{IsStrictlyIncreasing, IsStrictlySortedBy}
 use Rattle.std.specs.Ordering.{nat_cmp}
+use Rattle.std.proofs.lemmas.List.{length_push}
 use Rattle.std.proofs.lemmas.List.FromFn.{length-range_with_len, get_or-range_with_len}
 use Rattle.std.proofs.lemmas.Map.Keys.{sorted_from_strictly_increasing}
 use Rattle.ps_atom.specs.Atoms.{atom_cmp}
@@ -12,6 +13,8 @@ use Rattle.ps_config.specs.Configurations.{Configuration, threads_at}
 use Rattle.ps_config.specs.Forms.{IsConfig, start}
 use Rattle.ps_config.specs.declared.config.TheConstants.{MOST_THREADS}
 use Rattle.ps_config.proofs.Comparing.{atom_not_less, number_not_less}
+use Rattle.ps_config.proofs.Nexts.{Listed, listed_more}
+use Rattle.ps_config.specs.Next.{IsNext}
 use Rattle.ps_config.proofs.Once.{IsOnce, no_longer, once_sorted, once_from_mapped}
 
 pub once_ascending : (xs : List ℕ) → IsStrictlyIncreasing xs → IsOnce xs
@@ -78,3 +81,13 @@ start_lists at none atoms threads nobody places is first is_nobody is_none =
     let atom : List ℕ → Atom = λ ts. record { predicate = 0; threads = ts } in
     let only : atoms ≡ start.atoms = is ∙ (ap (λ (qs : List Atom). qs ++ atom threads ∷ []) first ∙ ap (λ (ts : List ℕ). atom ts ∷ []) (is_nobody ∙ is_none)) in
     start_from (record { at = at; atoms = atoms }) (ap₂ (λ (ps : List (ℕ × ℕ)) (qs : List Atom). let c : Configuration = record { at = ps; atoms = qs } in c) places only)
+
+-- ---- threads listed one after another
+
+-- there is room for one more thread
+pub listed_few : (c : Configuration) → IsConfig c → (from m : ℕ) (list : List ℕ) → Listed (threads_at c) from list → IsNext (threads_at c) from (Some m) → length list < MOST_THREADS
+listed_few c is from m list l next =
+    let more = listed_more (threads_at c) from m list (list ++ m ∷ []) l next refl in
+    let long : length (list ++ m ∷ []) ≡ length list + 1 = length_push list m in
+    let le : length (list ++ m ∷ []) ≤ MOST_THREADS = few_threads c is (list ++ m ∷ []) more.ascend (λ t h. (more.below t h).0) in
+    omega (arith, long, le)

@@ -1,8 +1,9 @@
-pub mod Lists
-pub mod Occurring
-pub mod Covering
-pub mod Sent
-pub mod Nexts
-pub mod Once
 pub mod Comparing
+pub mod Covering
 pub mod Few
+pub mod Forming
+pub mod Lists
+pub mod Nexts
+pub mod Occurring
+pub mod Once
+pub mod Sent

@@ -3,6 +3,7 @@ ghost use Rattle.std.specs.Prelude.{◌≡◌, ◌↔◌, IfOk, IsTrue};
 ghost use Rattle.ps_config.specs.Configurations.{Configuration};
 ghost use Rattle.ps_config.specs.Forms.{IsConfig, IsFresh, config_cmp, start};
 
+use crate::form::is_in_form;
 use crate::order::{compare_atoms, compare_places};
 use crate::threads::fresh_thread;
 use ps_atom::Atom;
@@ -37,6 +38,14 @@ impl Model for Config {
 }
 
 impl Config {
+    /// Whether the lists are those of a configuration: both ascend and are within the limits. In a pass
+    /// over both for each thread.
+    pub fn is_in_form(at: &[(u32, u32)], atoms: &[Atom]) -> bool
+        ensures { IsTrue result ↔ IsConfig (record { at = at.now; atoms = atoms.now }) }
+    {
+        is_in_form(at, atoms)
+    }
+
     /// Takes the lists as they are; the call needs no memory.
     pub fn new(at: Vec<(u32, u32)>, atoms: Vec<Atom>) -> Config
         requires { IsConfig (record { at = at.items; atoms = atoms.items }) }

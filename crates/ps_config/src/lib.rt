@@ -2,6 +2,7 @@
 #![tactic(auto)]
 
 mod config;
+mod form;
 pub mod laws;
 mod limits;
 mod order;
