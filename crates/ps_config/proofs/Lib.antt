@@ -1,0 +1,9 @@
+pub mod Comparing
+pub mod Covering
+pub mod Few
+pub mod Forming
+pub mod Lists
+pub mod Nexts
+pub mod Occurring
+pub mod Once
+pub mod Sent

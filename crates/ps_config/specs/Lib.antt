@@ -1,0 +1,5 @@
+pub mod Configurations
+pub mod Forms
+pub mod Next
+pub mod Sent
+pub mod inner
