@@ -17,7 +17,7 @@ use Rattle.ps_print.specs.Printed.{stmts_text, unplaced_kind, unplaced_rest}
 use Rattle.ps_grammar.specs.Spelling.{Mark, cond_pieces, rest_pieces, stmt_pieces, sum_pieces, test_pieces}
 use Rattle.ps_grammar.specs.Trees.{block_trees, cond_tree, stmt_tree, sum_tree, test_tree}
 use Rattle.ps_print.proofs.BlockPieces.{block_is}
-use Rattle.ps_print.specs.ReadBack.{AreSpelled}
+use Rattle.ps_print.specs.ReadBack.{ArePieces}
 use Rattle.ps_print.proofs.Spelled.{joined, left, right}
 use Rattle.ps_print.proofs.SumsBack.{known_again, name_again, sum_good, variable_again}
 use Rattle.ps_print.proofs.CondsBack.{GoodTest, cond_good, test_good}
@@ -47,19 +47,19 @@ unplaced_while t b = ap (stmt.While t) (unplaced_block b)
 
 pub record GoodStmt (names : Names) (n : ℕ) (inside : Bool) (k : StmtKind) : Type 0 where
   pub fits : StmtFits names n inside (stmt_text names k)
-  pub spelled : AreSpelled (stmt_pieces (stmt_text names k))
+  pub spelled : ArePieces (stmt_pieces (stmt_text names k))
   pub back : (places : List Place) → unplaced_kind (stmt_tree names (stmt_text names k) places) ≡ unplaced_kind k
 
 pub record GoodBlock (names : Names) (n : ℕ) (inside : Bool) (b : List Stmt) : Type 0 where
   pub fits : RestFits names n inside (stmts_text names b)
-  pub spelled : AreSpelled (rest_pieces (stmts_text names b))
+  pub spelled : ArePieces (rest_pieces (stmts_text names b))
   pub back : (places : List Place) → map without_place (block_trees names (stmts_text names b) places) ≡ map without_place b
 
-by_text : (names : Names) (n : ℕ) (inside : Bool) (k : StmtKind) (t : StmtText) → stmt_text names k ≡ t → StmtFits names n inside t → AreSpelled (stmt_pieces t)
+by_text : (names : Names) (n : ℕ) (inside : Bool) (k : StmtKind) (t : StmtText) → stmt_text names k ≡ t → StmtFits names n inside t → ArePieces (stmt_pieces t)
     → ((places : List Place) → unplaced_kind (stmt_tree names t places) ≡ unplaced_kind k) → GoodStmt names n inside k
 by_text names n inside k t e fits spelled back = record {
   fits = subst (StmtFits names n inside) (sym e) fits;
-  spelled = subst (λ (s : StmtText). AreSpelled (stmt_pieces s)) (sym e) spelled;
+  spelled = subst (λ (s : StmtText). ArePieces (stmt_pieces s)) (sym e) spelled;
   back = λ places. ap (λ (s : StmtText). unplaced_kind (stmt_tree names s places)) e ∙ back places;
 }
 
@@ -101,7 +101,7 @@ if_good names n inside t a (s ∷ b) g some h k =
 -- ---- the statements of texts
 
 mutual
-  pub stmt_good : (names : Names) (n : ℕ) (inside : Bool) (s : StmtText) → StmtFits names n inside s → AreSpelled (stmt_pieces s) → (places : List Place) → GoodStmt names n inside (stmt_tree names s places)
+  pub stmt_good : (names : Names) (n : ℕ) (inside : Bool) (s : StmtText) → StmtFits names n inside s → ArePieces (stmt_pieces s) → (places : List Place) → GoodStmt names n inside (stmt_tree names s places)
   stmt_good names n inside (assign x s) fit h places =
       let g = sum_good names s fit.1 (left (sum_pieces s) (Mark kind.Semicolon ∷ []) h.1.1) in
       record {
@@ -138,7 +138,7 @@ mutual
       while_good names n inside (test_tree names t) (block_trees names b places_b) fit.0 (test_good names n t fit.1 (left (test_pieces t) (Mark kind.OpenBrace ∷ rest_pieces b) h.1)) fit.2
       (block_good names (n - 1) inside b fit.3 (right (test_pieces t) (Mark kind.OpenBrace ∷ rest_pieces b) h.1).1 places_b)
 
-  pub block_good : (names : Names) (n : ℕ) (inside : Bool) (b : BlockText) → RestFits names n inside b → AreSpelled (rest_pieces b) → (places : List Place) → GoodBlock names n inside (block_trees names b places)
+  pub block_good : (names : Names) (n : ℕ) (inside : Bool) (b : BlockText) → RestFits names n inside b → ArePieces (rest_pieces b) → (places : List Place) → GoodBlock names n inside (block_trees names b places)
   block_good names n inside block_end fit h places = record { fits = tt; spelled = (tt, tt); back = λ others. refl }
   block_good names n inside (block_more s b) fit h places =
       let further = drop (length (stmt_pieces s)) places in

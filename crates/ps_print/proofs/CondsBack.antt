@@ -13,7 +13,7 @@ use Rattle.ps_grammar.specs.Fits.{CondFits, ConjFits, TestFits, UnaryFits}
 use Rattle.ps_grammar.specs.Grammar.{CondText, last_conj, or_else, ConjText, last_unary, and_also, UnaryText, negation, in_parens, relation, TestText, either, condition}
 use Rattle.ps_grammar.specs.Spelling.{Mark, cond_pieces, conj_pieces, test_pieces, unary_pieces}
 use Rattle.ps_grammar.specs.Trees.{cond_members, cond_tree, conj_members, gathered, test_tree, unary_tree}
-use Rattle.ps_print.specs.ReadBack.{AreSpelled}
+use Rattle.ps_print.specs.ReadBack.{ArePieces}
 use Rattle.ps_print.proofs.Spelled.{joined, left, right}
 use Rattle.ps_print.proofs.SumsBack.{relation_good}
 
@@ -40,31 +40,31 @@ mutual
 
 pub record GoodCond (names : Names) (n : ℕ) (c : Cond) : Type 0 where
   pub fits : CondFits names n (cond_text names c)
-  pub spelled : AreSpelled (cond_pieces (cond_text names c))
+  pub spelled : ArePieces (cond_pieces (cond_text names c))
   pub back : cond_tree names (cond_text names c) ≡ c
 
 pub record GoodConj (names : Names) (n : ℕ) (c : Cond) : Type 0 where
   pub fits : ConjFits names n (conj_text names c)
-  pub spelled : AreSpelled (conj_pieces (conj_text names c))
+  pub spelled : ArePieces (conj_pieces (conj_text names c))
   pub back : gathered cond.And (conj_members names (conj_text names c)) ≡ c
 
 pub record GoodUnary (names : Names) (n : ℕ) (c : Cond) : Type 0 where
   pub fits : UnaryFits names n (unary_text names c)
-  pub spelled : AreSpelled (unary_pieces (unary_text names c))
+  pub spelled : ArePieces (unary_pieces (unary_text names c))
   pub back : unary_tree names (unary_text names c) ≡ c
 
 -- in parentheses
 enclosed : (names : Names) (n : ℕ) (c : Cond) → 1 ≤ n → unary_text names c ≡ in_parens (cond_text names c) → GoodCond names (n - 1) c → GoodUnary names n c
 enclosed names n c some e g = record {
   fits = subst (UnaryFits names n) (sym e) (some, g.fits);
-  spelled = subst (λ (u : UnaryText). AreSpelled (unary_pieces u)) (sym e) (tt, joined (cond_pieces (cond_text names c)) (Mark kind.CloseParen ∷ []) g.spelled (tt, tt));
+  spelled = subst (λ (u : UnaryText). ArePieces (unary_pieces u)) (sym e) (tt, joined (cond_pieces (cond_text names c)) (Mark kind.CloseParen ∷ []) g.spelled (tt, tt));
   back = ap (unary_tree names) e ∙ g.back;
 }
 
 opened : (names : Names) (n : ℕ) (c : Cond) → conj_text names c ≡ last_unary (in_parens (cond_text names c)) → GoodConj names n c → GoodCond names n c
 opened names n c e g =
     let fits = subst (ConjFits names n) e g.fits in
-    let spelled = subst (λ (u : ConjText). AreSpelled (conj_pieces u)) e g.spelled in
+    let spelled = subst (λ (u : ConjText). ArePieces (conj_pieces u)) e g.spelled in
     record {
       fits = cond_more names (n - 1) n (omega arith) (cond_text names c) fits.1;
       spelled = left (cond_pieces (cond_text names c)) (Mark kind.CloseParen ∷ []) spelled.1;
@@ -75,28 +75,28 @@ opened names n c e g =
 same_cond : (names : Names) (n : ℕ) (c : Cond) → cond_text names c ≡ last_conj (conj_text names c) → GoodConj names n c → GoodCond names n c
 same_cond names n c e g = record {
   fits = subst (CondFits names n) (sym e) g.fits;
-  spelled = subst (λ (t : CondText). AreSpelled (cond_pieces t)) (sym e) g.spelled;
+  spelled = subst (λ (t : CondText). ArePieces (cond_pieces t)) (sym e) g.spelled;
   back = ap (cond_tree names) e ∙ g.back;
 }
 
 same_conj : (names : Names) (n : ℕ) (c : Cond) → conj_text names c ≡ last_unary (unary_text names c) → GoodUnary names n c → GoodConj names n c
 same_conj names n c e g = record {
   fits = subst (ConjFits names n) (sym e) g.fits;
-  spelled = subst (λ (t : ConjText). AreSpelled (conj_pieces t)) (sym e) g.spelled;
+  spelled = subst (λ (t : ConjText). ArePieces (conj_pieces t)) (sym e) g.spelled;
   back = ap (λ (t : ConjText). gathered cond.And (conj_members names t)) e ∙ g.back;
 }
 
 same_unary : (names : Names) (n : ℕ) (c : Cond) → conj_text names c ≡ last_unary (unary_text names c) → GoodConj names (n - 1) c → GoodUnary names n c
 same_unary names n c e g = record {
   fits = unary_more names (n - 1) n (omega arith) (unary_text names c) (subst (ConjFits names (n - 1)) e g.fits);
-  spelled = subst (λ (t : ConjText). AreSpelled (conj_pieces t)) e g.spelled;
+  spelled = subst (λ (t : ConjText). ArePieces (conj_pieces t)) e g.spelled;
   back = sym (ap (λ (t : ConjText). gathered cond.And (conj_members names t)) e) ∙ g.back;
 }
 
 unclosed : (names : Names) (n : ℕ) (c : Cond) → unary_text names c ≡ in_parens (last_conj (conj_text names c)) → GoodUnary names n c → GoodConj names n c
 unclosed names n c e g =
     let fits = subst (UnaryFits names n) e g.fits in
-    let spelled = subst (λ (u : UnaryText). AreSpelled (unary_pieces u)) e g.spelled in
+    let spelled = subst (λ (u : UnaryText). ArePieces (unary_pieces u)) e g.spelled in
     record {
       fits = conj_more names (n - 1) n (omega arith) (conj_text names c) fits.1;
       spelled = left (conj_pieces (conj_text names c)) (Mark kind.CloseParen ∷ []) spelled.1;
@@ -169,7 +169,7 @@ cond_or names cs = some_row names (hidden-the_row-Cond-1 cs) ∙ ap (some_list n
 
 record GoodAll (names : Names) (n : ℕ) (c : Cond) (cs : List Cond) : Type 0 where
   fits : ConjFits names n (all_text names c cs)
-  spelled : AreSpelled (conj_pieces (all_text names c cs))
+  spelled : ArePieces (conj_pieces (all_text names c cs))
   back : conj_members names (all_text names c cs) ≡ c ∷ cs
 
 all_good : (names : Names) (n : ℕ) (c : Cond) (cs : List Cond) → GoodUnary names n c → AllGood (GoodUnary names n) cs → GoodAll names n c cs
@@ -184,7 +184,7 @@ all_good names n c (d ∷ ds) g gs =
 
 record GoodSome (names : Names) (n : ℕ) (c : Cond) (cs : List Cond) : Type 0 where
   fits : CondFits names n (some_text names c cs)
-  spelled : AreSpelled (cond_pieces (some_text names c cs))
+  spelled : ArePieces (cond_pieces (some_text names c cs))
   back : cond_members names (some_text names c cs) ≡ c ∷ cs
 
 some_good : (names : Names) (n : ℕ) (c : Cond) (cs : List Cond) → GoodConj names n c → AllGood (GoodConj names n) cs → GoodSome names n c cs
@@ -204,7 +204,7 @@ and_good names n c d ds gs =
     let e = conj_and names (c ∷ d ∷ ds) in
     record {
       fits = subst (ConjFits names n) (sym e) g.fits;
-      spelled = subst (λ (t : ConjText). AreSpelled (conj_pieces t)) (sym e) g.spelled;
+      spelled = subst (λ (t : ConjText). ArePieces (conj_pieces t)) (sym e) g.spelled;
       back = ap (λ (t : ConjText). gathered cond.And (conj_members names t)) e ∙ ap (gathered cond.And) g.back;
     }
 
@@ -214,7 +214,7 @@ or_good names n c d ds gs =
     let e = cond_or names (c ∷ d ∷ ds) in
     record {
       fits = subst (CondFits names n) (sym e) g.fits;
-      spelled = subst (λ (t : CondText). AreSpelled (cond_pieces t)) (sym e) g.spelled;
+      spelled = subst (λ (t : CondText). ArePieces (cond_pieces t)) (sym e) g.spelled;
       back = ap (cond_tree names) e ∙ ap (gathered cond.Or) g.back;
     }
 
@@ -245,14 +245,14 @@ record GoodMembers (P : Cond → Type 0) (cs : List Cond) : Type 0 where
   good : AllGood P (first ∷ further)
 
 mutual
-  pub unary_good : (names : Names) (n : ℕ) (u : UnaryText) → UnaryFits names n u → AreSpelled (unary_pieces u) → GoodUnary names n (unary_tree names u)
+  pub unary_good : (names : Names) (n : ℕ) (u : UnaryText) → UnaryFits names n u → ArePieces (unary_pieces u) → GoodUnary names n (unary_tree names u)
   unary_good names n (negation u) fit h = not_good names n (unary_tree names u) fit.0 (unary_good names (n - 1) u fit.1 h.1)
   unary_good names n (in_parens c) fit h =
       let m = cond_members_good names (n - 1) c fit.1 (left (cond_pieces c) (Mark kind.CloseParen ∷ []) h.1) in
       subst (λ (cs : List Cond). GoodUnary names n (gathered cond.Or cs)) (sym m.is) (gathered_unary names n m.first m.further fit.0 m.good)
   unary_good names n (relation r) fit h = let g = relation_good names r fit h in record { fits = g.fits; spelled = g.spelled; back = ap cond.Rel g.back }
 
-  conj_members_good : (names : Names) (n : ℕ) (c : ConjText) → ConjFits names n c → AreSpelled (conj_pieces c) → GoodMembers (GoodUnary names n) (conj_members names c)
+  conj_members_good : (names : Names) (n : ℕ) (c : ConjText) → ConjFits names n c → ArePieces (conj_pieces c) → GoodMembers (GoodUnary names n) (conj_members names c)
   conj_members_good names n (last_unary u) fit h = record { first = unary_tree names u; further = []; is = refl; good = (unary_good names n u fit h, tt) }
   conj_members_good names n (and_also u rest) fit h =
       let m = conj_members_good names n rest fit.1 (right (unary_pieces u) (Mark kind.And ∷ conj_pieces rest) h).1 in
@@ -263,7 +263,7 @@ mutual
         good = (unary_good names n u fit.0 (left (unary_pieces u) (Mark kind.And ∷ conj_pieces rest) h), m.good);
       }
 
-  cond_members_good : (names : Names) (n : ℕ) (c : CondText) → CondFits names n c → AreSpelled (cond_pieces c) → GoodMembers (GoodConj names n) (cond_members names c)
+  cond_members_good : (names : Names) (n : ℕ) (c : CondText) → CondFits names n c → ArePieces (cond_pieces c) → GoodMembers (GoodConj names n) (cond_members names c)
   cond_members_good names n (last_conj c) fit h =
       let m = conj_members_good names n c fit h in
       record { first = gathered cond.And (conj_members names c); further = []; is = refl; good = (subst (λ (cs : List Cond). GoodConj names n (gathered cond.And cs)) (sym m.is) (gathered_conj names n m.first m.further m.good), tt) }
@@ -277,17 +277,17 @@ mutual
         good = (subst (λ (cs : List Cond). GoodConj names n (gathered cond.And cs)) (sym m.is) (gathered_conj names n m.first m.further m.good), r.good);
       }
 
-pub cond_good : (names : Names) (n : ℕ) (c : CondText) → CondFits names n c → AreSpelled (cond_pieces c) → GoodCond names n (cond_tree names c)
+pub cond_good : (names : Names) (n : ℕ) (c : CondText) → CondFits names n c → ArePieces (cond_pieces c) → GoodCond names n (cond_tree names c)
 cond_good names n c fit h =
     let m = cond_members_good names n c fit h in
     subst (λ (cs : List Cond). GoodCond names n (gathered cond.Or cs)) (sym m.is) (gathered_cond names n m.first m.further m.good)
 
 pub record GoodTest (names : Names) (n : ℕ) (t : Test) : Type 0 where
   pub fits : TestFits names n (test_text names t)
-  pub spelled : AreSpelled (test_pieces (test_text names t))
+  pub spelled : ArePieces (test_pieces (test_text names t))
   pub back : test_tree names (test_text names t) ≡ t
 
-pub test_good : (names : Names) (n : ℕ) (t : TestText) → TestFits names n t → AreSpelled (test_pieces t) → GoodTest names n (test_tree names t)
+pub test_good : (names : Names) (n : ℕ) (t : TestText) → TestFits names n t → ArePieces (test_pieces t) → GoodTest names n (test_tree names t)
 test_good names n either fit h = record { fits = fit; spelled = h; back = refl }
 test_good names n (condition c) fit h =
     let g = cond_good names (n - 1) c fit.1 (left (cond_pieces c) (Mark kind.CloseParen ∷ []) h.1) in

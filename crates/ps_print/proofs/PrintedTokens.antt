@@ -11,7 +11,7 @@ use Rattle.ps_token.specs.declared.token_kind.TokenKind.TheVariants as kind
 use Rattle.ps_token.proofs.WrittenWords.{words_are_tokens}
 use Rattle.ps_tree.specs.declared.program.Program.{Program}
 use Rattle.ps_print.specs.Printed.{byte_after, piece_text, printed, printed_program, program_text}
-use Rattle.ps_print.specs.ReadBack.{AreSpelled, IsMark, IsSpelled, IsTreeOfText, ReadsBack, token_piece}
+use Rattle.ps_print.specs.ReadBack.{ArePieces, IsMark, IsPiece, IsTreeOfText, ReadsBack, token_piece}
 use Rattle.ps_grammar.specs.Spelling.{Piece, NamePiece, NumberPiece, Mark, piece_of_kind, program_pieces}
 use Rattle.ps_grammar.specs.Trees.{program_tree}
 use Rattle.ps_print.proofs.ProgramBack.{PrintedBack, program_back}
@@ -65,20 +65,20 @@ mark_written kind.OpenBrace h = record { bytes = refl; word = refl; piece = refl
 mark_written kind.CloseBrace h = record { bytes = refl; word = refl; piece = refl }
 mark_written kind.Semicolon h = record { bytes = refl; word = refl; piece = refl }
 
-piece_written : (p : Piece) → IsSpelled p → Written_as p
+piece_written : (p : Piece) → IsPiece p → Written_as p
 piece_written (NamePiece x) h = record { bytes = refl; word = h; piece = refl }
 piece_written (NumberPiece n) h = record { bytes = refl; word = h; piece = refl }
 piece_written (Mark k) h = mark_written k h
 
-all_bytes : (ps : List Piece) → AreSpelled ps → printed ps ≡ flat_map word_bytes (map written ps)
+all_bytes : (ps : List Piece) → ArePieces ps → printed ps ≡ flat_map word_bytes (map written ps)
 all_bytes [] h = refl
 all_bytes (p ∷ ps) h = ap₂ (λ (a b : List ℕ). a ++ b) (piece_written p h.0).bytes (all_bytes ps h.1)
 
-all_words : (ps : List Piece) → AreSpelled ps → All IsWritten (map written ps)
+all_words : (ps : List Piece) → ArePieces ps → All IsWritten (map written ps)
 all_words [] h = All-nil IsWritten
 all_words (p ∷ ps) h = All-cons IsWritten (written p) (map written ps) (piece_written p h.0).word (all_words ps h.1)
 
-all_pieces : (ps : List Piece) → AreSpelled ps → map piece_of (map word_parts (map written ps)) ≡ ps
+all_pieces : (ps : List Piece) → ArePieces ps → map piece_of (map word_parts (map written ps)) ≡ ps
 all_pieces [] h = refl
 all_pieces (p ∷ ps) h = ap₂ (λ (q : Piece) (qs : List Piece). q ∷ qs) (piece_written p h.0).piece (all_pieces ps h.1)
 

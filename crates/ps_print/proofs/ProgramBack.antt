@@ -23,7 +23,7 @@ use Rattle.ps_print.specs.Printed.{global_item, init_item, program_text, unplace
 use Rattle.ps_grammar.specs.Spelling.{NumberPiece, Mark, item_pieces, minus_pieces, more_relations, program_pieces, relation_pieces, rest_pieces, value_pieces}
 use Rattle.ps_grammar.specs.Numbers.{signed}
 use Rattle.ps_grammar.specs.Trees.{block_trees, program_tree, relation_tree, rows_of_relations, value_of, with_item, with_items}
-use Rattle.ps_print.specs.ReadBack.{AreSpelled}
+use Rattle.ps_print.specs.ReadBack.{ArePieces}
 use Rattle.ps_print.proofs.Spelled.{abs_signed, decimal_spelled, decimal_value, joined, left, right, signed_abs, value_below}
 use Rattle.ps_print.proofs.SumsBack.{GoodRelation, minus_spelled, relation_good}
 use Rattle.ps_print.proofs.BlocksBack.{block_good, without_place}
@@ -37,7 +37,7 @@ names_in gs = map (λ (g : GlobalDecl). g.name) gs
 record InitOk (names : Names) (r : Relation) : Type 0 where
   text : RelationText
   fits : RelationFits names text
-  spelled : AreSpelled (relation_pieces text)
+  spelled : ArePieces (relation_pieces text)
   is : r ≡ relation_tree names text
   sign : text.sign ≢ sign.NotEqual
 
@@ -108,14 +108,14 @@ record Fine (d : Declared) : Type 0 where
   rows : d.rows ≡ value_rows d.globals + sign_rows d.inits
   few : d.rows ≤ most_rows
 
-value_ok : (v : Option ValueText) → AreSpelled (value_pieces v) → ValueOk (value_of v)
+value_ok : (v : Option ValueText) → ArePieces (value_pieces v) → ValueOk (value_of v)
 value_ok None h = tt
 value_ok (Some v) h =
     let small = value_below v.digits (right (minus_pieces v.negative) (NumberPiece v.digits ∷ []) h.1).0 in
     let is = abs_signed v.negative (digits_value 10 v.digits) None in
     omega (arith, is, small)
 
-fine_global : (d : Declared) (x : List ℕ) (v : Option ValueText) → ItemFits d (global x v) → AreSpelled (item_pieces (global x v)) → Fine d → Fine (with_item d (global x v))
+fine_global : (d : Declared) (x : List ℕ) (v : Option ValueText) → ItemFits d (global x v) → ArePieces (item_pieces (global x v)) → Fine d → Fine (with_item d (global x v))
 fine_global d x v fit h f =
     let g : GlobalDecl = record { name = x; value = value_of v } in
     let new = new_from (names_of d) x fit.0 in
@@ -132,7 +132,7 @@ fine_global d x v fit h f =
       few = fit.2;
     }
 
-fine_local : (d : Declared) (x : List ℕ) → ItemFits d (local x) → AreSpelled (item_pieces (local x)) → Fine d → Fine (with_item d (local x))
+fine_local : (d : Declared) (x : List ℕ) → ItemFits d (local x) → ArePieces (item_pieces (local x)) → Fine d → Fine (with_item d (local x))
 fine_local d x fit h f =
     let new = new_from (names_of d) x fit.0 in
     let apart = subst Apart (append_assoc (names_in d.globals) d.locals (x ∷ [])) (apart_insert x (names_in d.globals ++ d.locals) [] (not_in_both x (names_in d.globals) d.locals new.0 new.1) tt (subst Apart (sym (append-nil (names_in d.globals ++ d.locals))) f.apart)) in
@@ -150,7 +150,7 @@ fine_local d x fit h f =
 abbrev RelationOk : Names → RelationText → Type 0
 RelationOk names s = RelationFits names s × (s.sign ≢ sign.NotEqual)
 
-inits_read : (names : Names) (ts : List RelationText) → All (RelationOk names) ts → AreSpelled (more_relations ts) → AllInits names (map (relation_tree names) ts)
+inits_read : (names : Names) (ts : List RelationText) → All (RelationOk names) ts → ArePieces (more_relations ts) → AllInits names (map (relation_tree names) ts)
 inits_read names [] fit h = tt
 inits_read names (t ∷ ts) fit h =
     let one = All-head (RelationOk names) t ts fit in (
@@ -158,7 +158,7 @@ inits_read names (t ∷ ts) fit h =
       inits_read names ts (All-tail (RelationOk names) t ts fit) (right (relation_pieces t) (more_relations ts) h.1),
     )
 
-fine_init : (d : Declared) (r : RelationText) (rs : List RelationText) → ItemFits d (init r rs) → AreSpelled (item_pieces (init r rs)) → Fine d → Fine (with_item d (init r rs))
+fine_init : (d : Declared) (r : RelationText) (rs : List RelationText) → ItemFits d (init r rs) → ArePieces (item_pieces (init r rs)) → Fine d → Fine (with_item d (init r rs))
 fine_init d r rs fit h f =
     let words = left (relation_pieces r) (more_relations rs ++ Mark kind.Semicolon ∷ []) h.1 in
     let further = left (more_relations rs) (Mark kind.Semicolon ∷ []) (right (relation_pieces r) (more_relations rs ++ Mark kind.Semicolon ∷ []) h.1) in
@@ -173,12 +173,12 @@ fine_init d r rs fit h f =
       few = fit.1;
     }
 
-fine_item : (d : Declared) (i : ItemText) → ItemFits d i → AreSpelled (item_pieces i) → Fine d → Fine (with_item d i)
+fine_item : (d : Declared) (i : ItemText) → ItemFits d i → ArePieces (item_pieces i) → Fine d → Fine (with_item d i)
 fine_item d (global x v) fit h f = fine_global d x v fit h f
 fine_item d (local x) fit h f = fine_local d x fit h f
 fine_item d (init r rs) fit h f = fine_init d r rs fit h f
 
-fine_items : (d : Declared) (is : List ItemText) → ItemsFit d is → AreSpelled (flat_map item_pieces is) → Fine d → Fine (with_items d is)
+fine_items : (d : Declared) (is : List ItemText) → ItemsFit d is → ArePieces (flat_map item_pieces is) → Fine d → Fine (with_items d is)
 fine_items d [] fit h f = f
 fine_items d (i ∷ is) fit h f =
     fine_items (with_item d i) is fit.1 (right (item_pieces i) (flat_map item_pieces is) h) (fine_item d i fit.0 (left (item_pieces i) (flat_map item_pieces is) h) f)
@@ -192,12 +192,12 @@ state gs ls rs = record { globals = gs; locals = ls; inits = rs; rows = value_ro
 record LeadsTo (from to : Declared) (is : List ItemText) : Type 0 where
   fits : ItemsFit from is
   with_all : with_items from is ≡ to
-  spelled : AreSpelled (flat_map item_pieces is)
+  spelled : ArePieces (flat_map item_pieces is)
 
 leads_none : (from to : Declared) → from ≡ to → LeadsTo from to []
 leads_none from to e = record { fits = tt; with_all = e; spelled = tt }
 
-leads_more : (from next to : Declared) (i : ItemText) (is : List ItemText) → ItemFits from i → with_item from i ≡ next → AreSpelled (item_pieces i) → LeadsTo next to is → LeadsTo from to (i ∷ is)
+leads_more : (from next to : Declared) (i : ItemText) (is : List ItemText) → ItemFits from i → with_item from i ≡ next → ArePieces (item_pieces i) → LeadsTo next to is → LeadsTo from to (i ∷ is)
 leads_more from next to i is fit e h l = record {
   fits = (fit, subst (λ (d : Declared). ItemsFit d is) (sym e) l.fits);
   with_all = ap (λ (d : Declared). with_items d is) e ∙ l.with_all;
@@ -212,7 +212,7 @@ leads_join from next to (i ∷ is) js l m =
 
 -- ---- globals
 
-value_good : (v : Option ℤ) → ValueOk v → (value_of (value_text v) ≡ v) × AreSpelled (value_pieces (value_text v))
+value_good : (v : Option ℤ) → ValueOk v → (value_of (value_text v) ≡ v) × ArePieces (value_pieces (value_text v))
 value_good None h = (refl, tt)
 value_good (Some z) h = (
   ap (λ (m : ℤ). Some (signed (is_negative z) (m, None)).0) (decimal_value (unsigned_abs z) h) ∙ ap (λ (p : ℤ × Option Var). Some p.0) (signed_abs z None),
@@ -285,7 +285,7 @@ inits_again gs ls all before (r ∷ rs) e ok rows =
 -- what is printed of a program fits, is spelled from words, and is read as the program, but for places
 pub record PrintedBack (p : Program) (others : List Place) : Type 0 where
   pub fits : ProgramFits (program_text p)
-  pub spelled : AreSpelled (program_pieces (program_text p))
+  pub spelled : ArePieces (program_pieces (program_text p))
   pub back : unplaced (program_tree (program_text p) others) ≡ unplaced p
 
 fine_nothing : Fine nothing_declared
@@ -294,7 +294,7 @@ fine_nothing = record { apart = tt; globals = tt; locals = tt; inits = tt; many_
 abbrev placeless : Declared → List Stmt → Program
 placeless d body = record { globals = d.globals; locals = d.locals; inits = d.inits; body = map without_place body }
 
-pub program_back : (t : ProgramText) (places others : List Place) → ProgramFits t → AreSpelled (program_pieces t) → PrintedBack (program_tree t places) others
+pub program_back : (t : ProgramText) (places others : List Place) → ProgramFits t → ArePieces (program_pieces t) → PrintedBack (program_tree t places) others
 program_back t places others fit h =
     let d = with_items nothing_declared t.items in
     let p = program_tree t places in

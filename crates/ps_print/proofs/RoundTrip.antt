@@ -9,14 +9,14 @@ use Rattle.ps_token.specs.declared.token_kind.TokenKind.{TokenKind}
 use Rattle.ps_token.specs.declared.token_kind.TokenKind.TheVariants as kind
 use Rattle.ps_token.proofs.OneCut.{each_token}
 use Rattle.ps_tree.specs.declared.program.Program.{Program}
-use Rattle.ps_print.specs.ReadBack.{AreSpelled, IsSpelled, IsTreeOfText, ReadsBack, token_piece}
+use Rattle.ps_print.specs.ReadBack.{ArePieces, IsPiece, IsTreeOfText, ReadsBack, token_piece}
 use Rattle.ps_grammar.specs.Spelling.{Piece, piece_of_kind, pieces}
 use Rattle.ps_grammar.specs.Programs.{IsProgram}
 use Rattle.ps_print.specs.ReadBack.{IsSameProgram}
 use Rattle.ps_grammar.specs.Trees.{program_tree}
 use Rattle.ps_grammar.specs.Words.{Word, words_of}
 
-piece_spelled : (k : TokenKind) (text : List ℕ) → lexing.IsSpelled k text → IsSpelled (piece_of_kind k text)
+piece_spelled : (k : TokenKind) (text : List ℕ) → lexing.IsSpelled k text → IsPiece (piece_of_kind k text)
 piece_spelled kind.Name text h = h
 piece_spelled kind.Number text h = h
 piece_spelled kind.Global text h = tt
@@ -51,7 +51,7 @@ piece_spelled kind.OpenBrace text h = tt
 piece_spelled kind.CloseBrace text h = tt
 piece_spelled kind.Semicolon text h = tt
 
-all_spelled : (bytes : List ℕ) (ts : List Token) → AllByRecursion (IsTokenOf bytes) ts → AreSpelled (pieces (words_of bytes ts))
+all_spelled : (bytes : List ℕ) (ts : List Token) → AllByRecursion (IsTokenOf bytes) ts → ArePieces (pieces (words_of bytes ts))
 all_spelled bytes [] h = tt
 all_spelled bytes (t ∷ ts) h = (piece_spelled t.kind _ h.0.text.spelled, all_spelled bytes ts h.1)
 
@@ -60,7 +60,7 @@ tree_of_text bytes p h = record {
   text = h.is.text;
   places = map (λ (w : Word). w.place) (words_of bytes h.tokens);
   fits = h.is.fits;
-  spelled = subst AreSpelled h.is.spelled (all_spelled bytes h.tokens (recursion_from_All (IsTokenOf bytes) h.tokens (each_token bytes h.tokens h.cut)));
+  spelled = subst ArePieces h.is.spelled (all_spelled bytes h.tokens (recursion_from_All (IsTokenOf bytes) h.tokens (each_token bytes h.tokens h.cut)));
   tree = h.is.tree;
 }
 

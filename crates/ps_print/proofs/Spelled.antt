@@ -18,19 +18,19 @@ use Rattle.ps_grammar.specs.Names.{Names, first_of, position_from}
 use Rattle.ps_print.specs.Canonical.{is_negative, name_of}
 use Rattle.ps_grammar.specs.Fits.{IsKnown}
 use Rattle.ps_grammar.specs.Spelling.{Piece}
-use Rattle.ps_print.specs.ReadBack.{AreSpelled}
+use Rattle.ps_print.specs.ReadBack.{ArePieces}
 use Rattle.ps_grammar.specs.Numbers.{number_value, signed}
 use Rattle.ps_grammar.specs.Trees.{variable_named, variable_or_first}
 
-pub joined : (ps qs : List Piece) → AreSpelled ps → AreSpelled qs → AreSpelled (ps ++ qs)
+pub joined : (ps qs : List Piece) → ArePieces ps → ArePieces qs → ArePieces (ps ++ qs)
 joined [] qs h k = k
 joined (p ∷ ps) qs h k = (h.0, joined ps qs h.1 k)
 
-pub left : (ps qs : List Piece) → AreSpelled (ps ++ qs) → AreSpelled ps
+pub left : (ps qs : List Piece) → ArePieces (ps ++ qs) → ArePieces ps
 left [] qs h = tt
 left (p ∷ ps) qs h = (h.0, left ps qs h.1)
 
-pub right : (ps qs : List Piece) → AreSpelled (ps ++ qs) → AreSpelled qs
+pub right : (ps qs : List Piece) → ArePieces (ps ++ qs) → ArePieces qs
 right [] qs h = h
 right (p ∷ ps) qs h = right ps qs h.1
 

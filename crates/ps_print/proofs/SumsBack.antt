@@ -16,7 +16,7 @@ use Rattle.ps_grammar.specs.Grammar.{ProductText, name, name_number, number, num
 use Rattle.ps_grammar.specs.Spelling.{further_pieces, minus_pieces, plus_or_minus, product_pieces, relation_pieces, sign_kind, sum_pieces}
 use Rattle.ps_grammar.specs.Numbers.{number_value, signed}
 use Rattle.ps_grammar.specs.Trees.{product_tree, relation_tree, sum_tree, variable_named}
-use Rattle.ps_print.specs.ReadBack.{AreSpelled, IsMark}
+use Rattle.ps_print.specs.ReadBack.{ArePieces, IsMark}
 use Rattle.ps_print.proofs.Spelled.{abs_signed, decimal_spelled, decimal_value, joined, left, named, right, signed_abs, value_below}
 
 -- ---- products
@@ -24,7 +24,7 @@ use Rattle.ps_print.proofs.Spelled.{abs_signed, decimal_spelled, decimal_value, 
 -- what is printed of the product fits, is spelled from words, and is read as the product
 pub record GoodProduct (names : Names) (p : ℤ × Option Var) : Type 0 where
   pub fits : ProductFits names (product_of names p)
-  pub spelled : AreSpelled (product_pieces (product_of names p))
+  pub spelled : ArePieces (product_pieces (product_of names p))
   pub back : signed (is_negative p.0) (product_tree names (product_of names p)) ≡ p
 
 number_good : (names : Names) (z : ℤ) → unsigned_abs z < 10 ^ 18 → GoodProduct names (z, None)
@@ -48,15 +48,15 @@ one_is m e = grind (arith, e)
 
 times_by : (names : Names) (z : ℤ) (x : List ℕ) → unsigned_abs z < 10 ^ 18 → IsKnown names x → IsName x → (t : Bool) → (unsigned_abs z == 1) ≡ t
     → (p : ProductText) → p ≡ (if t then name (name_of names (variable_named names x)) else number_name (decimal (unsigned_abs z)) (name_of names (variable_named names x)))
-    → ProductFits names p × AreSpelled (product_pieces p) × (signed (is_negative z) (product_tree names p) ≡ (z, Some (variable_named names x)))
+    → ProductFits names p × ArePieces (product_pieces p) × (signed (is_negative z) (product_tree names p) ≡ (z, Some (variable_named names x)))
 times_by names z x small known is true one p e =
-    subst (λ (q : ProductText). ProductFits names q × AreSpelled (product_pieces q) × (signed (is_negative z) (product_tree names q) ≡ (z, Some (variable_named names x)))) (sym e) (
+    subst (λ (q : ProductText). ProductFits names q × ArePieces (product_pieces q) × (signed (is_negative z) (product_tree names q) ≡ (z, Some (variable_named names x)))) (sym e) (
       known_again names x known,
       (name_again names x known is, tt),
       ap₂ (λ (m : ℕ) (v : Var). signed (is_negative z) (pos m, Some v)) (sym (one_is (unsigned_abs z) one)) (variable_again names x known) ∙ signed_abs z (Some (variable_named names x)),
     )
 times_by names z x small known is false other p e =
-    subst (λ (q : ProductText). ProductFits names q × AreSpelled (product_pieces q) × (signed (is_negative z) (product_tree names q) ≡ (z, Some (variable_named names x)))) (sym e) (
+    subst (λ (q : ProductText). ProductFits names q × ArePieces (product_pieces q) × (signed (is_negative z) (product_tree names q) ≡ (z, Some (variable_named names x)))) (sym e) (
       known_again names x known,
       (decimal_spelled (unsigned_abs z) small, (tt, (name_again names x known is, tt))),
       ap₂ (λ (m : ℤ) (v : Var). signed (is_negative z) (m, Some v)) (decimal_value (unsigned_abs z) small) (variable_again names x known) ∙ signed_abs z (Some (variable_named names x)),
@@ -70,7 +70,7 @@ times_good names z x small known is =
 signed_small : (b : Bool) (n : ℕ) (o : Option Var) → n < 10 ^ 18 → unsigned_abs (signed b (pos n, o)).0 < 10 ^ 18
 signed_small b n o small = omega (arith, abs_signed b n o, small)
 
-pub product_good : (names : Names) (b : Bool) (t : ProductText) → ProductFits names t → AreSpelled (product_pieces t) → GoodProduct names (signed b (product_tree names t))
+pub product_good : (names : Names) (b : Bool) (t : ProductText) → ProductFits names t → ArePieces (product_pieces t) → GoodProduct names (signed b (product_tree names t))
 product_good names false (number n) fit h = number_good names (number_value n) (value_below n h.0)
 product_good names true (number n) fit h = number_good names (signed true (number_value n, None)).0 (signed_small true (digits_value 10 n) None (value_below n h.0))
 product_good names false (name x) fit h = times_good names (pos 1) x (omega arith) fit h.0
@@ -93,7 +93,7 @@ terms_of names fs = map (λ (p : Bool × ProductText). signed p.0 (product_tree 
 
 pub record GoodFurther (names : Names) (ps : List Term) : Type 0 where
   pub fits : All (λ (p : Bool × ProductText). ProductFits names p.1) (further_text names ps)
-  pub spelled : AreSpelled (further_pieces (further_text names ps))
+  pub spelled : ArePieces (further_pieces (further_text names ps))
   pub back : terms_of names (further_text names ps) ≡ ps
 
 sum_mark : (b : Bool) → IsMark (plus_or_minus b)
@@ -108,7 +108,7 @@ sign_mark sign.GreaterEq = tt
 sign_mark sign.Equal = tt
 sign_mark sign.NotEqual = tt
 
-further_good : (names : Names) (fs : List (Bool × ProductText)) → All (λ (p : Bool × ProductText). ProductFits names p.1) fs → AreSpelled (further_pieces fs) → GoodFurther names (terms_of names fs)
+further_good : (names : Names) (fs : List (Bool × ProductText)) → All (λ (p : Bool × ProductText). ProductFits names p.1) fs → ArePieces (further_pieces fs) → GoodFurther names (terms_of names fs)
 further_good names [] fit h = record { fits = All-nil (λ (p : Bool × ProductText). ProductFits names p.1); spelled = tt; back = refl }
 further_good names (f ∷ fs) fit h =
     let p = product_good names f.0 f.1 (All-head (λ (p : Bool × ProductText). ProductFits names p.1) f fs fit) (left (product_pieces f.1) (further_pieces fs) h.1) in
@@ -121,14 +121,14 @@ further_good names (f ∷ fs) fit h =
 
 pub record GoodSum (names : Names) (s : Sum) : Type 0 where
   pub fits : SumFits names (sum_text names s)
-  pub spelled : AreSpelled (sum_pieces (sum_text names s))
+  pub spelled : ArePieces (sum_pieces (sum_text names s))
   pub back : sum_tree names (sum_text names s) ≡ s
 
-pub minus_spelled : (b : Bool) → AreSpelled (minus_pieces b)
+pub minus_spelled : (b : Bool) → ArePieces (minus_pieces b)
 minus_spelled true = (tt, tt)
 minus_spelled false = tt
 
-pub sum_good : (names : Names) (s : SumText) → SumFits names s → AreSpelled (sum_pieces s) → GoodSum names (sum_tree names s)
+pub sum_good : (names : Names) (s : SumText) → SumFits names s → ArePieces (sum_pieces s) → GoodSum names (sum_tree names s)
 sum_good names s fit h =
     let rest = right (minus_pieces s.negative) (product_pieces s.first ++ further_pieces s.further) h in
     let p = product_good names s.negative s.first fit.0 (left (product_pieces s.first) (further_pieces s.further) rest) in
@@ -144,10 +144,10 @@ sum_good names s fit h =
 
 pub record GoodRelation (names : Names) (r : Relation) : Type 0 where
   pub fits : RelationFits names (relation_text names r)
-  pub spelled : AreSpelled (relation_pieces (relation_text names r))
+  pub spelled : ArePieces (relation_pieces (relation_text names r))
   pub back : relation_tree names (relation_text names r) ≡ r
 
-pub relation_good : (names : Names) (r : RelationText) → RelationFits names r → AreSpelled (relation_pieces r) → GoodRelation names (relation_tree names r)
+pub relation_good : (names : Names) (r : RelationText) → RelationFits names r → ArePieces (relation_pieces r) → GoodRelation names (relation_tree names r)
 relation_good names r fit h =
     let a = sum_good names r.left fit.0 (left (sum_pieces r.left) _ h) in
     let b = sum_good names r.right fit.1 (right (sum_pieces r.left) _ h).1 in

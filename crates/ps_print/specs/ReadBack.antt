@@ -20,21 +20,21 @@ IsMark kind.Number = ⊥
 IsMark k = Unit {0}
 
 -- a name is a word that isn't reserved, and a number has 1 to 18 digits
-abbrev pub IsSpelled : Piece → Type 0
-IsSpelled (NamePiece x) = IsName x
-IsSpelled (NumberPiece n) = IsNumber n
-IsSpelled (Mark k) = IsMark k
+abbrev pub IsPiece : Piece → Type 0
+IsPiece (NamePiece x) = IsName x
+IsPiece (NumberPiece n) = IsNumber n
+IsPiece (Mark k) = IsMark k
 
-abbrev pub AreSpelled : List Piece → Type 0
-AreSpelled [] = Unit {0}
-AreSpelled (p ∷ ps) = IsSpelled p × AreSpelled ps
+abbrev pub ArePieces : List Piece → Type 0
+ArePieces [] = Unit {0}
+ArePieces (p ∷ ps) = IsPiece p × ArePieces ps
 
 -- The program is the tree of a text of the grammar that fits.
 pub record IsTreeOfText (p : Program) : Type 0 where
   pub text : ProgramText
   pub places : List Place
   pub fits : ProgramFits text
-  pub spelled : AreSpelled (program_pieces text)
+  pub spelled : ArePieces (program_pieces text)
   pub tree : p ≡ program_tree text places
 
 abbrev pub token_piece : List ℕ → Token → Piece
