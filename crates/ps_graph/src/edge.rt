@@ -13,8 +13,8 @@ pub enum Pick {
     Value,
 }
 
-/// A step from one location to another: the command of this number, with the picks that its choices
-/// have to fit.
+/// An edge from one control location to another: a step along it runs the command of this number, with
+/// choices that fit the picks.
 #[derive(Debug, Drop)]
 pub struct Edge {
     pub source: u32,

@@ -7,7 +7,7 @@ use ps_command::Setting;
 use ps_list::Sequence;
 use std::alloc::{AllocError, Global};
 
-/// Locations and the edges between them. Location 1 is the error.
+/// Control locations and the edges between them, by number. Location 1 is the error.
 #[derive(Debug, Drop)]
 pub struct Graph {
     pub locations: u32,
