@@ -1,4 +1,5 @@
 pub mod Alike
+pub mod Between
 pub mod Building
 pub mod Evaluating
 pub mod Forms
