@@ -1,0 +1,9 @@
+pub mod Counted
+pub mod Firsts
+pub mod Fitting
+pub mod Sorting
+pub mod Swapping
+pub mod Testing
+pub mod Turns
+pub mod Ways
+pub mod Whole

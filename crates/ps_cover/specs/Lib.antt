@@ -1,0 +1,4 @@
+pub mod Coverings
+pub mod Within
+pub mod Zeros
+pub mod inner

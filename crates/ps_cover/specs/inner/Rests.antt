@@ -1,0 +1,63 @@
+-- What the search finds from the images so far.
+use Rattle.std.specs.Prelude.{◌≡◌, ◌≢◌, ℕ, Bool, true, false, List, [], ◌∷◌, ◌++◌, map, length, drop, slice_index, Contains, Option, Some, None}
+use Rattle.std.specs.Bool.{MatchBool}
+use Rattle.std.specs.Cmp.Lexicographic.{slice_cmp}
+use Rattle.std.specs.Ordering.{nat_cmp}
+use Rattle.std.specs.declared.cmp.Ordering.TheVariants.{Greater}
+use Rattle.ps_atom.specs.Atoms.{IsInjectiveOn, renamed}
+use Rattle.ps_atom.specs.declared.atom.Atom.{Atom}
+use Rattle.ps_config.specs.Configurations.{Configuration, IsAt, threads_at, Embeds}
+use Rattle.ps_config.specs.Sent.{sent}
+use Rattle.ps_cover.specs.declared.partial.Partial.{Partial}
+use Rattle.ps_cover.specs.declared.search.Trial.{Trial}
+use Rattle.ps_cover.specs.declared.search.Trial.TheVariants.{Found, Failed, Unfit}
+use Rattle.ps_cover.specs.inner.Tests.{can_go}
+
+abbrev pub large_of : List (ℕ × ℕ) → List Atom → Configuration
+large_of at atoms = record { at = at; atoms = atoms }
+
+-- so far these threads go to these images: those located, and the atoms with no other threads
+pub record Fits (small large : Configuration) (threads to : List ℕ) : Type 0 where
+  pub long : length to ≡ length threads
+  pub apart : IsInjectiveOn (sent threads to) threads
+  pub located : (t l : ℕ) → Contains threads t → IsAt small t l → IsAt large (sent threads to t) l
+  pub atoms : (q : Atom) → Contains small.atoms q → ((t : ℕ) → Contains q.threads t → Contains threads t) → Contains large.atoms (renamed (sent threads to) q)
+
+-- no embedding takes the threads to these images
+abbrev pub NoWay : Configuration → Configuration → List ℕ → List ℕ → Type 0
+NoWay small large threads to = (f : ℕ → ℕ) → Embeds small large f → map f threads ≡ to → ⊥
+
+-- of the ways to go on the first, for the threads that are left
+pub record IsFirstRest (small large : Configuration) (threads to left rest : List ℕ) : Type 0 where
+  pub fits : Fits small large (threads ++ left) (to ++ rest)
+  pub first : (other : List ℕ) → Fits small large (threads ++ left) (to ++ other) → slice_cmp nat_cmp rest other ≢ Greater
+
+-- the images so far and the first way to go on, or none where there is no way
+abbrev pub IsAnswer : Configuration → Configuration → Partial → List ℕ → Option (List ℕ) → Type 0
+IsAnswer small large p left None = NoWay small large p.threads p.to
+IsAnswer small large p left (Some all) = (rest : List ℕ) × (all ≡ p.to ++ rest) × IsFirstRest small large p.threads p.to left rest
+
+-- the first of the threads that are left goes to the image too
+abbrev pub one_more : Partial → List ℕ → ℕ → Partial
+one_more p left image = record { threads = p.threads ++ slice_index left 0 ∷ []; to = p.to ++ image ∷ [] }
+
+-- with the image the search goes on, or there is no way
+abbrev pub IsTrial : Configuration → Configuration → Partial → List ℕ → ℕ → Trial → Type 0
+IsTrial small large p left image (Found all) = IsAnswer small large (one_more p left image) (drop 1 left) (Some all)
+IsTrial small large p left image Failed = IsAnswer small large (one_more p left image) (drop 1 left) None × (¬ Contains p.to image)
+IsTrial small large p left image Unfit = IsAnswer small large (one_more p left image) (drop 1 left) None
+
+-- none of these images has a way, and none is a thread's so far
+abbrev pub HaveFailed : Configuration → Configuration → Partial → List ℕ → List ℕ → Type 0
+HaveFailed small large p left failed = (w : ℕ) → Contains failed w → IsAnswer small large (one_more p left w) (drop 1 left) None × (¬ Contains p.to w)
+
+-- these threads have images, and the later ones none; all of them occur
+pub record AreLeft (small : Configuration) (threads later : List ℕ) : Type 0 where
+  pub occur : (s : ℕ) → Contains threads s → Contains (threads_at small) s
+  pub wait : (s : ℕ) → Contains later s → Contains (threads_at small) s × (¬ Contains threads s)
+
+-- the thread can go to some thread, or to none
+abbrev pub HasImage : Configuration → Configuration → Partial → ℕ → Bool → Type 0
+HasImage small large p thread result = MatchBool result
+    ((v : ℕ) × Contains (threads_at large) v × (can_go small.at small.atoms large.at large.atoms p.threads p.to thread v ≡ true))
+    ((v : ℕ) → Contains (threads_at large) v → can_go small.at small.atoms large.at large.atoms p.threads p.to thread v ≡ false)

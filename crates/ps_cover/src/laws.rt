@@ -1,0 +1,20 @@
+//! Facts about coverings that callers cite: each function does no work, and its clause is the fact.
+ghost use Rattle.std.specs.Prelude.{ℕ, List, map};
+ghost use Rattle.ps_config.specs.Configurations.{Configuration, Covers};
+ghost use Rattle.ps_cover.specs.Coverings.{IsFirstInjection};
+ghost use Rattle.ps_cover.specs.Within.{IsWithin};
+
+use ps_config::Config;
+
+/// What has a first injection into a configuration is covered by it.
+pub fn an_injection_covers()
+    ensures { (small large : Configuration) (to : List ℕ) → IsFirstInjection small large to → Covers small large }
+{}
+
+/// The locations of what is covered are within those of what covers it, each as often.
+pub fn locations_are_within(small: &Config)
+    ensures { (large : Configuration) → Covers small.now large
+        → IsWithin (map (λ p. p.1) small.now.at) (map (λ p. p.1) large.at) }
+{
+    let _places = small.at();
+}

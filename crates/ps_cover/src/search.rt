@@ -1,0 +1,138 @@
+//! The search for the first injection.
+ghost use Rattle.std.specs.Prelude.{◌≡◌, ◌++◌, ◌≤◌, ◌<◌, ◌+◌, drop, length};
+ghost use Rattle.std.specs.Bool.{OnFalse};
+ghost use Rattle.ps_config.specs.Configurations.{Configuration};
+ghost use Rattle.ps_config.specs.Forms.{AreThreads};
+ghost use Rattle.ps_cover.specs.inner.Rests.{AreLeft, Fits, HaveFailed, IsAnswer, IsTrial, NoWay, HasImage, large_of};
+
+use crate::few::Few;
+use crate::fits::fits;
+use crate::partial::Partial;
+use crate::swaps::is_like_failed;
+use ps_atom::Atom;
+use ps_config::{Config, MOST_THREADS, next_thread};
+
+/// What comes of an image for the next thread.
+#[derive(Drop)]
+pub(crate) enum Trial {
+    /// All threads have images.
+    Found(Few),
+    /// The thread can go there, but then some other one can go nowhere.
+    Failed,
+    /// The thread can't go there, or the image is like one that failed.
+    Unfit,
+}
+
+/// The first way to go on from the images so far, or none.
+#[cycle(search)]
+pub(crate) fn search(
+    small: &Config,
+    at: &[(u32, u32)],
+    atoms: &[Atom],
+    partial: &Partial,
+    left: &[u32],
+) -> Option<Few>
+    requires threads { AreThreads small.now (partial.now.threads ++ left.now) }
+    requires few { length partial.now.threads + length left.now ≤ MOST_THREADS }
+    requires fits { Fits small.now (large_of at.now atoms.now) partial.now.threads partial.now.to }
+    ensures { IsAnswer small.now (large_of at.now atoms.now) partial.now left.now result }
+{
+    if left.is_empty() {
+        return Some(partial.to.copied());
+    }
+    if !may_go_on(small, at, atoms, partial, after_first(left)) {
+        return None;
+    }
+    let mut failed = Few::none();
+    let mut from: u64 = 0;
+    while let Some(image) = next_thread(at, atoms, from) {
+        from = u64::from(image) + 1;
+        match attempt(small, at, atoms, partial, left, &failed, image) {
+            Trial::Found(all) => return Some(all),
+            Trial::Failed => failed = failed.noted(image),
+            Trial::Unfit => {}
+        }
+    }
+    None
+}
+
+/// The first way to go on with this image for the next thread, or none.
+#[cycle(search)]
+fn attempt(
+    small: &Config,
+    at: &[(u32, u32)],
+    atoms: &[Atom],
+    partial: &Partial,
+    left: &[u32],
+    failed: &Few,
+    image: u32,
+) -> Trial
+    requires threads { AreThreads small.now (partial.now.threads ++ left.now) }
+    requires few { length partial.now.threads + length left.now ≤ MOST_THREADS }
+    requires fits { Fits small.now (large_of at.now atoms.now) partial.now.threads partial.now.to }
+    requires some { 0 < length left.now }
+    requires failed { HaveFailed small.now (large_of at.now atoms.now) partial.now left.now failed.now }
+    ensures { IsTrial small.now (large_of at.now atoms.now) partial.now left.now image result }
+{
+    let thread = left[0];
+    if !fits(small, at, atoms, partial, thread, image) {
+        return Trial::Unfit;
+    }
+    if is_like_failed(at, atoms, failed.as_slice(), image) {
+        return Trial::Unfit;
+    }
+    match search(small, at, atoms, &partial.with(thread, image), after_first(left)) {
+        Some(all) => Trial::Found(all),
+        None => Trial::Failed,
+    }
+}
+
+fn after_first(threads: &[u32]) -> &[u32]
+    requires { 0 < length threads.now }
+    ensures { result.now ≡ drop 1 threads.now }
+{
+    &threads[1..]
+}
+
+/// Whether each of the later threads can go somewhere.
+fn may_go_on(
+    small: &Config,
+    at: &[(u32, u32)],
+    atoms: &[Atom],
+    partial: &Partial,
+    later: &[u32],
+) -> bool
+    requires left { AreLeft small.now partial.now.threads later.now }
+    requires long { length partial.now.threads ≡ length partial.now.to }
+    requires few { length partial.now.threads < MOST_THREADS }
+    ensures { OnFalse result (NoWay small.now (large_of at.now atoms.now) partial.now.threads partial.now.to) }
+{
+    for thread in later {
+        if !goes_somewhere(small, at, atoms, partial, *thread) {
+            return false;
+        }
+    }
+    true
+}
+
+/// Whether the thread can go to some thread of the larger configuration.
+fn goes_somewhere(
+    small: &Config,
+    at: &[(u32, u32)],
+    atoms: &[Atom],
+    partial: &Partial,
+    thread: u32,
+) -> bool
+    requires long { length partial.now.threads ≡ length partial.now.to }
+    requires few { length partial.now.threads < MOST_THREADS }
+    ensures { HasImage small.now (large_of at.now atoms.now) partial.now thread result }
+{
+    let mut from: u64 = 0;
+    while let Some(image) = next_thread(at, atoms, from) {
+        if fits(small, at, atoms, partial, thread, image) {
+            return true;
+        }
+        from = u64::from(image) + 1;
+    }
+    false
+}
