@@ -1,6 +1,8 @@
 -- Lemmas on marks.
-use Rattle.std.proofs.Common.{◌≡◌, ℕ, ◌+◌, ◌≤◌, List, ◌++◌, length, take, drop, sym, ap, ◌∙◌, arith, length-drop, length-append, length-take-le, take-append-drop, drop-drop}
-use Rattle.ps_parts.specs.Cuts.{IsMark, IsFirstMark, IsCut}
+use Rattle.std.proofs.Common.{◌≡◌, ℕ, ◌+◌, ◌≤◌, List, [], ◌++◌, cond, length, take, drop, refl, sym, ap, ◌∙◌, arith, append_assoc, length-drop, length-append, length-take-le, take-append-drop, drop-drop}
+use Rattle.std.specs.Prelude.{◌==◌, count_by}
+use Rattle.std.proofs.lemmas.List.Sums.{sum_by-append}
+use Rattle.ps_parts.specs.Cuts.{AreThreeParts, IsMark, IsFirstMark, IsCut, IsNumbered, program_of}
 use Rattle.ps_parts.specs.declared.mark.TheConstants.{MARK}
 
 -- a mark stands inside the input
@@ -22,3 +24,30 @@ cut_at input place first =
       whole = sym (take-append-drop place input) ∙ ap (λ xs. take place input ++ xs) rest;
       first = rw long first;
     }
+
+-- the whole input begins at line 1
+pub numbered_whole : (input : List ℕ) → IsNumbered input input 1
+numbered_whole input = ([], refl, refl)
+
+-- how many line feeds there are in two texts, one after the other
+feeds-append : (xs ys : List ℕ) → count_by (λ b. b == 10) (xs ++ ys) ≡ count_by (λ b. b == 10) xs + count_by (λ b. b == 10) ys
+feeds-append xs ys = sum_by-append (λ (b : ℕ). cond (b == 10) 1 0) xs ys
+
+-- what comes after a mark begins at the line after it
+pub numbered_after : (input rest before after : List ℕ) (n line : ℕ) → IsNumbered input rest n → IsCut rest before after
+    → line ≡ n + count_by (λ b. b == 10) before + 1 → IsNumbered input after line
+numbered_after input rest before after n line numbered cut e =
+    let front = numbered.0 in
+    let marked = before ++ MARK.now in
+    let here : rest ≡ marked ++ after = cut.whole ∙ sym (append_assoc before MARK.now after) in
+    let counted = feeds-append front marked in
+    let more = feeds-append before MARK.now in (
+      front ++ marked,
+      numbered.1 ∙ ap (λ xs. front ++ xs) here ∙ sym (append_assoc front marked after),
+      omega (arith, e, numbered.2, counted, more),
+    )
+
+-- two cuts, one after the other, make three parts
+pub cut_again : (input before rest program middle last : List ℕ) → IsCut input before rest → program ≡ program_of before
+    → IsCut rest middle last → AreThreeParts input program middle last
+cut_again input before rest program middle last cut e next = (rest, (before, cut, e), next)
