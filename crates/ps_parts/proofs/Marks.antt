@@ -1,5 +1,6 @@
 -- Lemmas on marks.
-use Rattle.std.proofs.Common.{◌≡◌, ℕ, ◌+◌, ◌≤◌, List, [], ◌++◌, cond, length, take, drop, refl, sym, ap, ◌∙◌, arith, append_assoc, length-drop, length-append, length-take-le, take-append-drop, drop-drop}
+use Rattle.std.proofs.Common.{◌≡◌, ℕ, ◌+◌, ◌≤◌, List, [], ◌∷◌, ◌++◌, cond, length, take, drop, refl, sym, ap, ◌∙◌, arith, append_assoc, length-drop, length-append, length-take-le, take-append-drop, drop-drop}
+use Rattle.std.proofs.Math.Seq.{take-append_seam}
 use Rattle.std.specs.Prelude.{◌==◌, count_by}
 use Rattle.std.proofs.lemmas.List.Sums.{sum_by-append}
 use Rattle.ps_parts.specs.Cuts.{AreThreeParts, IsMark, IsFirstMark, IsCut, IsNumbered, program_of}
@@ -51,3 +52,22 @@ numbered_after input rest before after n line numbered cut e =
 pub cut_again : (input before rest program middle last : List ℕ) → IsCut input before rest → program ≡ program_of before
     → IsCut rest middle last → AreThreeParts input program middle last
 cut_again input before rest program middle last cut e next = (rest, (before, cut, e), next)
+
+drop_front : (xs ys : List ℕ) → drop (length xs) (xs ++ ys) ≡ ys
+drop_front [] ys = refl
+drop_front (x ∷ xs) ys = drop_front xs ys
+
+-- an input is cut in one way
+pub one_cut : (input before after front rest : List ℕ) → IsCut input before after → IsCut input front rest
+    → (before ≡ front) × (after ≡ rest)
+one_cut input before after front rest cut other =
+    let long : length before ≡ length front =
+    omega (arith, cut.first.first (length front) other.first.mark, other.first.first (length before) cut.first.mark) in
+    let same : before ++ (MARK.now ++ after) ≡ front ++ (MARK.now ++ rest) = sym cut.whole ∙ other.whole in
+    let ends : MARK.now ++ after ≡ MARK.now ++ rest =
+    sym (drop_front before (MARK.now ++ after)) ∙ (ap (drop (length before)) same
+    ∙ (ap (λ n. drop n (front ++ (MARK.now ++ rest))) long ∙ drop_front front (MARK.now ++ rest))) in (
+      sym (take-append_seam before (MARK.now ++ after)) ∙ (ap (take (length before)) same
+          ∙ (ap (λ n. take n (front ++ (MARK.now ++ rest))) long ∙ take-append_seam front (MARK.now ++ rest))),
+      ap (drop 3) ends,
+    )

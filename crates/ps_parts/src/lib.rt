@@ -4,6 +4,7 @@
 #![tactic(auto)]
 
 mod cut;
+pub mod laws;
 mod mark;
 mod parts;
 
