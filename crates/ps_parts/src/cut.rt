@@ -1,6 +1,6 @@
 //! The cut of an input into what stands before its first mark and what comes after it.
-ghost use Rattle.std.specs.Prelude.{◌≡◌, ◌==◌, ℕ, ◌+◌, ◌-◌, ◌^◌, ◌<◌, take, length, count_by, IfSome, MatchOption};
-ghost use Rattle.ps_parts.specs.Cuts.{IsCut, IsMark};
+ghost use Rattle.std.specs.Prelude.{◌≡◌, ◌==◌, ◌+◌, ◌^◌, ◌<◌, length, count_by, IfSome, MatchOption};
+ghost use Rattle.ps_parts.specs.Cuts.{HasNoMark, IsCut, program_of};
 
 use crate::mark::{MARK, first_mark};
 
@@ -19,7 +19,7 @@ pub struct Cut<'a> {
 /// bytes before the mark, and one to count their lines.
 pub fn cut_at_mark(input: &[u8], line: u32) -> Option<Cut<'_>>
     requires { line + length input.now < 2 ^ 32 }
-    ensures cut { MatchOption result ((place : ℕ) → ¬ IsMark input.now place)
+    ensures cut { MatchOption result (HasNoMark input.now)
         (λ cut. IsCut input.now cut.before.now cut.after.now) }
     ensures line { IfSome result (λ cut. cut.line ≡ line + count_by (λ b. b == 10) cut.before.now + 1) }
     ensures room { IfSome result (λ cut. cut.line + length cut.after.now < 2 ^ 32) }
@@ -35,7 +35,7 @@ pub fn cut_at_mark(input: &[u8], line: u32) -> Option<Cut<'_>>
 
 /// The program that stands before a mark: all bytes but the line feed that ends its last line.
 pub fn program_part(before: &[u8]) -> &[u8]
-    ensures { result.now ≡ take (length before.now - 1) before.now }
+    ensures { result.now ≡ program_of before.now }
 {
     &before[..before.len().saturating_sub(1)]
 }

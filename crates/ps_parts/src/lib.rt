@@ -4,7 +4,13 @@
 #![tactic(auto)]
 
 mod cut;
+pub mod laws;
 mod mark;
+mod parts;
 
 pub use cut::{Cut, cut_at_mark, program_part};
 pub use mark::MARK;
+pub use parts::{
+    MOST_PROGRAM, MOST_PROOF, MOST_WITNESS, Part, PartsEnd, ThreeParts, TwoParts, three_parts,
+    two_parts,
+};

@@ -1,6 +1,6 @@
 //! The first mark of an input.
-ghost use Rattle.std.specs.Prelude.{◌↔◌, ℕ, ◌+◌, ◌≤◌, length, IsTrue, IfSome, MatchOption};
-ghost use Rattle.ps_parts.specs.Cuts.{IsFirstMark, IsLineStart, IsMark};
+ghost use Rattle.std.specs.Prelude.{◌↔◌, ◌+◌, ◌≤◌, length, IsTrue, IfSome, MatchOption};
+ghost use Rattle.ps_parts.specs.Cuts.{HasNoMark, IsFirstMark, IsLineStart, IsMark};
 
 /// The line between two parts.
 pub const MARK: &str = "%%\n";
@@ -9,7 +9,7 @@ pub const MARK: &str = "%%\n";
 #[tactic(auto, using(crate::proofs::Marks::mark_inside))]
 pub(crate) fn first_mark(input: &[u8]) -> Option<usize>
     ensures inside { IfSome result (λ place. place + 3 ≤ length input.now) }
-    ensures first { MatchOption result ((place : ℕ) → ¬ IsMark input.now place) (λ place. IsFirstMark input.now place) }
+    ensures first { MatchOption result (HasNoMark input.now) (λ place. IsFirstMark input.now place) }
 {
     for place in 0..input.len() {
         if is_mark(input, place) {
