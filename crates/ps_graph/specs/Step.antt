@@ -10,7 +10,7 @@ use Rattle.ps_tree.specs.declared.stmt.Stmt.{Stmt}
 use Rattle.ps_tree.specs.declared.stmt.StmtKind.{StmtKind, Assign, Havoc, Assume, Assert, Skip, Atomic', If', While', Row_of-Stmt, end_of-Stmt, more_of-Stmt, items-the_row-Stmt}
 
 -- How statements that are run in one go end: normally, with values and the choices that are left, by an assertion that
--- fails, with the same, or not at all, where an assumption blocks them.
+-- fails, with the same, or not at all, where an `assume` blocks them.
 pub data Completion : Type 0 where
   Normal : Values → List ℤ → Completion
   Failing : Values → List ℤ → Completion
