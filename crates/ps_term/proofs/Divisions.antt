@@ -9,10 +9,12 @@ use Rattle.std.proofs.Math.Nat.{eq-one_of_dvd-one, eq-zero_of_zero-dvd, mul-dvd-
 use Rattle.ps_term.specs.declared.var.Var.{Var}
 use Rattle.ps_term.specs.Factors.{AreDivided, DividesAll, IsCommonFactor}
 use Rattle.ps_term.specs.Pairs.{IsBelow, IsCanonical, coefficient, pairs_value}
+use Rattle.ps_term.specs.Tightened.{IsTightened}
 use Rattle.ps_term.specs.Var.{var_eq}
+use Rattle.ps_term.specs.declared.row.Row.{Row}
 use Rattle.ps_term.specs.Whole.{IsCeiling}
 use Rattle.ps_term.proofs.Ceilings.{times_mono}
-use Rattle.ps_term.proofs.Ring.{distribute, assoc, mul-zero}
+use Rattle.ps_term.proofs.Ring.{distribute, assoc, mul-zero, one-mul}
 
 -- ---- the common factor
 all_front : {X : Type 0} (P : X → Type 0) (xs : List X) (x : X) → All P (xs ++ x ∷ []) → All P xs × P x
@@ -133,3 +135,16 @@ minus f p =
 pub same_solutions : (f : ℕ) (old new constant ceiling : ℤ) → old ≡ (pos f *ℤ new) → IsCeiling constant (pos f) ceiling → ((new +ℤ ceiling) ≤ℤ pos 0) ↔ ((old +ℤ constant) ≤ℤ pos 0)
 same_solutions f old new constant ceiling e c =
     (λ h. (let up : (pos f *ℤ (new +ℤ ceiling)) ≤ℤ (pos f *ℤ pos 0) = times_mono f (new +ℤ ceiling) (pos 0) h in omega (arith, ints, up, mul-zero (pos f), distribute (pos f) new ceiling, c.reaches, e)), λ h. (let low : ceiling ≤ℤ neg_ℤ new = c.least (neg_ℤ new) (omega (arith, ints, minus f new, e, h)) in omega (arith, ints, low)))
+
+-- ---- nothing in common
+pub tight_itself : (row : Row) → IsCommonFactor row.term.pairs 1 → IsTightened row row
+tight_itself row c = record {
+  factor = 1;
+  positive = omega arith;
+  coefficients = λ x. sym (one-mul (coefficient x row.term.pairs));
+  coprime = λ d all. eq-one_of_dvd-one (c.greatest d all);
+  constant = record {
+    reaches = omega (arith, ints, one-mul row.term.constant);
+    least = λ m h. omega (arith, ints, one-mul m, h);
+  };
+}

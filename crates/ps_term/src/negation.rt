@@ -12,7 +12,7 @@ use std::alloc::Global;
 
 /// The row `1 - t <= 0` of a row `t <= 0`, which whole numbers satisfy exactly where they do not
 /// satisfy that one. It is `Past128` where -1 times a coefficient or the constant, or 1 with the latter
-/// added, lies outside `i128`.
+/// added, lies outside `i128`. In time and memory of the pairs.
 pub fn negate(alloc: Global, row: &Row) -> Result<Row, TermEnd>
     ensures negates { IfOk result (λ new. (values : Var → ℤ)
         → Holds values new ↔ ¬ Holds values row.now) }

@@ -15,6 +15,7 @@ use std::alloc::{AllocError, Global};
 
 /// The row divided by the greatest common divisor of its coefficients, its constant rounded up. The
 /// same whole numbers satisfy it. A row without variables stays as it is. No value leaves 128 bits.
+/// In time of one common divisor for each pair, and memory of the pairs; nothing is divided by 1.
 pub fn tighten(alloc: Global, row: &Row) -> Result<Row, AllocError>
     ensures tightened { IfOk result (λ new.
         row.now.term.pairs ≢ [] → IsTightened row.now new) }
@@ -27,7 +28,22 @@ pub fn tighten(alloc: Global, row: &Row) -> Result<Row, AllocError>
     if factor == 0 {
         return row.copy(alloc);
     }
+    if factor == 1 {
+        return tight_copy(alloc, row);
+    }
     divided_row(alloc, row, factor)
+}
+
+// A row whose coefficients have nothing in common is tight as it is.
+fn tight_copy(alloc: Global, row: &Row) -> Result<Row, AllocError>
+    requires { IsCommonFactor row.now.term.pairs 1 }
+    ensures tightened { IfOk result (IsTightened row.now) }
+    ensures same { IfOk result (λ new. (values : Var → ℤ)
+        → Holds values new ↔ Holds values row.now) }
+    ensures canonical { IfOk result (λ new. IsCanonical new.term.pairs) }
+{
+    let _pairs = row.term.pairs.as_slice();
+    row.copy(alloc)
 }
 
 fn divided_row(alloc: Global, row: &Row, factor: u128) -> Result<Row, AllocError>
