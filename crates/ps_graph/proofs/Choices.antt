@@ -10,7 +10,8 @@ use Rattle.ps_command.specs.declared.op.Op.{Op}
 use Rattle.ps_command.specs.declared.op.Op.TheVariants.{Assume, Assign, Havoc}
 use Rattle.ps_graph.proofs.Agreement.{gives}
 use Rattle.ps_graph.specs.Alternatives.{bound_holds}
-use Rattle.ps_graph.specs.Facts.{ops_of, after_edge}
+use Rattle.ps_graph.specs.Facts.{after_edge}
+use Rattle.ps_command.specs.Commands.{ops_of}
 use Rattle.ps_graph.specs.Follows.{Says, Realises}
 use Rattle.ps_graph.specs.Paths.{Act, Guards, Assigns, Havocs, Chooses, Fails, picks_of}
 use Rattle.ps_graph.specs.Picks.{choice_of, fit, if_all_used, run_with}

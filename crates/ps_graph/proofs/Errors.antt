@@ -17,7 +17,8 @@ use Rattle.ps_graph.proofs.Strides.{state_of, place_of, AreThreads, Strides, Str
 use Rattle.ps_graph.specs.ErrorTrace.{HavocsFit, after_letters, edge_ops, enters_error, error_at_last}
 use Rattle.ps_graph.specs.Errors.{AreLettersOf}
 use Rattle.ps_graph.specs.Execution.{is_failed, at_error, fails_at_last}
-use Rattle.ps_graph.specs.Facts.{ops_of, after_edge}
+use Rattle.ps_graph.specs.Facts.{after_edge}
+use Rattle.ps_command.specs.Commands.{ops_of}
 use Rattle.ps_graph.specs.Follows.{ThreadIsAt, along, StepsAreEdges}
 use Rattle.ps_graph.specs.Picks.{values_in}
 use Rattle.ps_graph.specs.Step.{Thread, Runs, Failed, step}

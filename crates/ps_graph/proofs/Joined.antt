@@ -17,7 +17,8 @@ use Rattle.ps_graph.proofs.Strides.{state_of, place_of, threads_among, length_ma
 use Rattle.ps_graph.specs.ErrorTrace.{IsErrorTrace, IsFeasible, RunsFrom, RunsBody, after_letters, edges_of, is_path, error_at_last}
 use Rattle.ps_graph.specs.Errors.{IsGraphOf, AreLettersOf, ErrorsAreTraces, IsSafeExactly}
 use Rattle.ps_graph.specs.Execution.{threads_with, started, bodies_of, is_failed, at_error, NeverFails, fails_at_last, reaches}
-use Rattle.ps_graph.specs.Facts.{ops_of, error_is_final, owner_of, is_same_body}
+use Rattle.ps_graph.specs.Facts.{error_is_final, owner_of, is_same_body}
+use Rattle.ps_command.specs.Commands.{ops_of}
 use Rattle.ps_graph.specs.Follows.{RestBeginsAt, leaving, StepsAreEdges}
 use Rattle.ps_graph.specs.Initial.{is_initial}
 use Rattle.ps_graph.specs.Picks.{values_in}

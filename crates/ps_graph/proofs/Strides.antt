@@ -14,7 +14,8 @@ use Rattle.ps_graph.proofs.Letters.{moved_to, Located}
 use Rattle.ps_graph.proofs.Members.{IsIn}
 use Rattle.ps_graph.proofs.OneThread.{along_is, along_parts}
 use Rattle.ps_graph.specs.ErrorTrace.{edge_ops}
-use Rattle.ps_graph.specs.Facts.{ops_of, after_edge, picks_fit}
+use Rattle.ps_graph.specs.Facts.{after_edge, picks_fit}
+use Rattle.ps_command.specs.Commands.{ops_of}
 use Rattle.ps_graph.specs.Follows.{along}
 use Rattle.ps_graph.specs.Picks.{havocs_of, values_in}
 use Rattle.ps_graph.specs.Threads.{Seat, World, Stepping, step_at}

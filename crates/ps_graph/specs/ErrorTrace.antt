@@ -6,7 +6,7 @@ use Rattle.ps_command.specs.Run.{run_by, havocs_in}
 use Rattle.ps_command.specs.declared.command.Command.{Command}
 use Rattle.ps_command.specs.declared.op.Op.{Op}
 use Rattle.ps_command.specs.declared.state.State.{State}
-use Rattle.ps_graph.specs.Facts.{ops_of}
+use Rattle.ps_command.specs.Commands.{ops_of}
 use Rattle.ps_graph.specs.declared.edge.Edge.{Edge}
 use Rattle.ps_graph.specs.declared.graph.Graph.{Graph}
 

@@ -1,16 +1,12 @@
 -- The facts that a graph keeps.
 use Rattle.std.specs.Prelude.{◌≡◌, ℕ, suc, ℤ, Bool, true, false, not, ◌&&◌, ◌||◌, ◌==◌, nat_lt, List, [], ◌∷◌, length, slice_index_or, slice_get, Option, Some, None, option_map, unwrap_or, Contains}
 use Rattle.std.specs.List.{list_all}
+use Rattle.ps_command.specs.Commands.{ops_of}
 use Rattle.ps_command.specs.Run.{havocs_in}
 use Rattle.ps_command.specs.Values.{Values}
 use Rattle.ps_command.specs.declared.command.Command.{Command}
-use Rattle.ps_command.specs.declared.op.Op.{Op}
 use Rattle.ps_graph.specs.Picks.{values_in, run_with}
 use Rattle.ps_graph.specs.declared.edge.Edge.{Edge}
-
--- the ops of the command of a number
-abbrev pub ops_of : List Command → ℕ → List Op
-ops_of commands n = unwrap_or (option_map (λ (c : Command). c.ops) (slice_get commands n)) []
 
 -- the body of a location; past the list there is none
 abbrev pub owner_of : List (Option ℕ) → ℕ → Option ℕ

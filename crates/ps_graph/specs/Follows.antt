@@ -5,7 +5,8 @@ use Rattle.ps_command.specs.declared.command.Command.{Command}
 use Rattle.ps_command.specs.declared.op.Op.{Op}
 use Rattle.ps_command.specs.declared.op.Op.TheVariants.{Assume, Assign, Havoc}
 use Rattle.ps_graph.specs.Alternatives.{bound_value}
-use Rattle.ps_graph.specs.Facts.{ops_of, after_edge}
+use Rattle.ps_graph.specs.Facts.{after_edge}
+use Rattle.ps_command.specs.Commands.{ops_of}
 use Rattle.ps_graph.specs.Paths.{Act, Guards, Assigns, Havocs, Chooses, Fails, is_failing, picks_of, paths, ways}
 use Rattle.ps_graph.specs.Step.{Thread, Runs, Failed, step}
 use Rattle.ps_graph.specs.declared.edge.Edge.{Edge}

@@ -12,7 +12,8 @@ use Rattle.ps_graph.proofs.Members.{in_of_contains}
 use Rattle.ps_graph.specs.Examples.{seeing}
 use Rattle.ps_graph.specs.Examples.Connections.{edge}
 use Rattle.ps_graph.specs.Examples.Keeping.{one_edge}
-use Rattle.ps_graph.specs.Facts.{names_exist, entries_owned, error_is_final, picks_fit, stay_in_bodies, ops_of, after_edge, IsDeterministic}
+use Rattle.ps_graph.specs.Facts.{names_exist, entries_owned, error_is_final, picks_fit, stay_in_bodies, after_edge, IsDeterministic}
+use Rattle.ps_command.specs.Commands.{ops_of}
 use Rattle.ps_graph.specs.Picks.{choice_of, fit, if_all_used, run_with}
 use Rattle.ps_graph.specs.declared.edge.Edge.{Edge}
 use Rattle.ps_graph.specs.declared.edge.Pick.{Pick}
