@@ -1,6 +1,6 @@
 -- A form that is made op by op: what is done, with what is left, is all.
-use Rattle.std.proofs.Common.{◌≡◌, ◌≤◌, ◌<◌, ◌+◌, ℕ, List, [], ◌∷◌, length, get_or, drop, refl, sym, ◌∙◌, subst, arith}
-use Rattle.std.proofs.lemmas.List.{drop_more, drop_all}
+use Rattle.std.proofs.Common.{◌≡◌, ◌≤◌, ◌<◌, ◌+◌, ℕ, List, [], ◌∷◌, length, get_or, drop, refl, sym, subst, arith}
+use Rattle.std.proofs.lemmas.List.{drop_more}
 use Rattle.ps_command.specs.Form.{with_op, form_from, form_of, empty_form, OpFits, FormFitsFrom, FormFits}
 use Rattle.ps_command.specs.declared.op.Op.{Op}
 use Rattle.ps_command.specs.declared.symbolic_form.SymbolicForm.{SymbolicForm}

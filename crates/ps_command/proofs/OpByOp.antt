@@ -1,6 +1,6 @@
 -- A run op by op: what is left of the ops, from the values so far, is all.
-use Rattle.std.proofs.Common.{◌≡◌, refl, sym, ap, ap₂, ◌∙◌, subst, subst₂, Bool, true, false, ◌&&◌, ℕ, ◌<◌, ◌+◌, ℤ, pos, List, [], ◌∷◌, length, get_or, if◌then◌else◌, IsTrue, arith}
-use Rattle.std.specs.Prelude.{slice_index_or, Option, Some, None, drop}
+use Rattle.std.proofs.Common.{◌≡◌, refl, sym, ap, ap₂, ◌∙◌, subst, subst₂, Bool, true, false, ℕ, ◌<◌, ◌+◌, ℤ, pos, List, [], ◌∷◌, length, get_or, if◌then◌else◌}
+use Rattle.std.specs.Prelude.{slice_index_or, Some, None, drop}
 use Rattle.std.specs.List.{list_all}
 use Rattle.std.proofs.lemmas.Bool.{and_parts, false≢true}
 use Rattle.std.proofs.lemmas.List.{drop_more}
@@ -8,7 +8,7 @@ use Rattle.ps_term.specs.Term.{value}
 use Rattle.ps_command.specs.Named.{is_declared_op}
 use Rattle.ps_command.specs.Run.{run}
 use Rattle.ps_command.specs.RunFits.{RunFits}
-use Rattle.ps_command.specs.Values.{Values, value_at, with_value}
+use Rattle.ps_command.specs.Values.{Values, value_at}
 use Rattle.ps_command.specs.inner.View.{after_op, goes_on, havocs_left, OpRunFits}
 use Rattle.ps_command.specs.declared.op.Op.{Op}
 use Rattle.ps_command.specs.declared.op.Op.TheVariants.{Assume, Assign, Havoc}
@@ -83,9 +83,10 @@ running_step ops v hs w new left less op rest all e r f on is n =
 pub running_fails : (ops : List Op) (v : Values) (hs : List ℤ) (w : Values) (left : List ℤ) (op : Op) (rest all : List Op) → all ≡ op ∷ rest → IsRunning ops v hs w left all →
     OpRunFits w op → goes_on w op ≡ false → (run ops v hs ≡ None) × RunFits ops v hs
 running_fails ops v hs w left op rest all e r f off =
-    let here : IsRunning ops v hs w left (op ∷ rest) = subst (λ (os : List Op). IsRunning ops v hs w left os) e r in
-    (sym here.same ∙ (run_op op rest w left ∙ ap (λ (b : Bool). if b then run rest (after_op w op (slice_index_or left 0 (pos 0))) (havocs_left op left) else None) off),
-    here.fits (fits_op op rest w left f (λ on. absurd (false≢true (sym off ∙ on)))))
+    let here : IsRunning ops v hs w left (op ∷ rest) = subst (λ (os : List Op). IsRunning ops v hs w left os) e r in (
+      sym here.same ∙ (run_op op rest w left ∙ ap (λ (b : Bool). if b then run rest (after_op w op (slice_index_or left 0 (pos 0))) (havocs_left op left) else None) off),
+      here.fits (fits_op op rest w left f (λ on. absurd (false≢true (sym off ∙ on)))),
+    )
 
 pub running_past : (ops : List Op) (v : Values) (hs : List ℤ) (w : Values) (left : List ℤ) (op : Op) (rest all : List Op) → all ≡ op ∷ rest → IsRunning ops v hs w left all →
     ¬ OpRunFits w op → ¬ RunFits ops v hs

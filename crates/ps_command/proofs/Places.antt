@@ -1,9 +1,9 @@
 -- The place of a variable in a list of terms whose variables ascend.
-use Rattle.std.proofs.Common.{◌≡◌, ◌≤◌, ◌⊎◌, ℕ, suc, zero, ◌<◌, ◌+◌, Bool, true, false, not, ◌&&◌, List, [], ◌∷◌, ◌++◌, length, get_or, take, drop, if◌then◌else◌, refl, sym, ap, ◌∙◌, subst, inl, inr, arith}
+use Rattle.std.proofs.Common.{◌≡◌, ◌≤◌, ℕ, suc, zero, ◌<◌, Bool, true, false, not, ◌&&◌, List, [], ◌∷◌, length, get_or, drop, if◌then◌else◌, refl, sym, ap, ◌∙◌, subst, arith}
 use Rattle.std.specs.Prelude.{slice_set, insert}
 use Rattle.std.specs.List.{list_all}
 use Rattle.std.specs.List.Sorted.{IsPartitionedBy, IsPartitionPoint}
-use Rattle.std.proofs.lemmas.Bool.{true≢false, false≢true, cases_eq, and_parts}
+use Rattle.std.proofs.lemmas.Bool.{false≢true, and_parts}
 use Rattle.ps_term.specs.declared.term.Term.{Term}
 use Rattle.ps_term.specs.declared.var.Var.{Var}
 use Rattle.ps_term.specs.Substitution.{replacement}

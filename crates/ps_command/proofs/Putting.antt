@@ -1,11 +1,9 @@
 -- The sum of all replaced terms is the substituted term.
-use Rattle.std.proofs.Common.{◌≡◌, ℤ, pos, ◌+ℤ◌, List, [], subst, arith}
+use Rattle.std.proofs.Common.{◌≡◌, ℤ, ◌+ℤ◌, List, [], subst, arith}
 use Rattle.std.proofs.lemmas.Int.{ints}
 use Rattle.ps_term.proofs.ExactTerms.{put_is}
 use Rattle.ps_term.proofs.Substitutions.{Substituted}
 use Rattle.ps_term.specs.Exact.{substituted}
-use Rattle.ps_term.specs.Substitution.{values_after}
-use Rattle.ps_term.specs.Term.{value}
 use Rattle.ps_term.specs.declared.term.Term.{Term}
 use Rattle.ps_term.specs.declared.var.Var.{Var}
 

@@ -16,7 +16,8 @@ pub fn is_sized(setting: &Setting, state: &State) -> bool
     ensures { IsTrue result ↔ IsSized setting.now state.now }
 {
     state.globals.as_slice().len() == setting.globals as usize
-        && state.locals.as_slice().iter().all(|locals| locals.as_slice().len() == setting.locals as usize)
+        && state.locals.as_slice().iter().all(|locals| locals.as_slice().len()
+            == setting.locals as usize)
 }
 
 /// Whether the state has the thread and each variable that the command names, in time of the command's pairs. It takes no
@@ -25,7 +26,11 @@ pub fn can_run(command: &Command, state: &State, thread: u32) -> bool
     ensures { IsTrue result ↔ CanRun thread command.now.ops state.now }
 {
     match state.locals.as_slice().get(thread as usize) {
-        Some(locals) => names_declared(command.ops.as_slice(), state.globals.as_slice().len(), locals.as_slice().len()),
+        Some(locals) => names_declared(
+            command.ops.as_slice(),
+            state.globals.as_slice().len(),
+            locals.as_slice().len(),
+        ),
         None => false,
     }
 }
@@ -42,7 +47,8 @@ fn is_declared_op(op: &Op, globals: usize, locals: usize) -> bool
 {
     match op {
         Op::Assume(row) => is_declared_term(&row.term, globals, locals),
-        Op::Assign(variable, term) => is_declared(*variable, globals, locals) && is_declared_term(term, globals, locals),
+        Op::Assign(variable, term) => is_declared(*variable, globals, locals)
+            && is_declared_term(term, globals, locals),
         Op::Havoc(variable) => is_declared(*variable, globals, locals),
     }
 }

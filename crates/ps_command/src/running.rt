@@ -100,7 +100,9 @@ fn state_after(alloc: Global, state: &State, thread: usize, view: View) -> Resul
     let all = state.locals.as_slice();
     let mut locals = Vec::with_capacity(alloc, all.len())?;
     append_copies(alloc, &mut locals, &all[..thread])?;
-    locals.push(Sequence::from_list(view.locals)).map_err(|_| AllocError)?;
+    locals
+        .push(Sequence::from_list(view.locals))
+        .map_err(|_| AllocError)?;
     append_copies(alloc, &mut locals, &all[thread + 1..])?;
     Ok(State {
         globals: Sequence::from_list(view.globals),

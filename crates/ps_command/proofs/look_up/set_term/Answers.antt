@@ -1,5 +1,5 @@
 use Rattle.std.proofs.Common.{◌≡◌, List, rules, sym, subst, ◌∙◌, IsTrue}
-use Rattle.std.specs.Prelude.{insert, slice_set}
+use Rattle.std.specs.Prelude.{insert}
 use Rattle.ps_term.specs.declared.term.Term.{Term}
 use Rattle.ps_term.specs.declared.var.Var.{Var}
 use Rattle.ps_command.specs.Assignments.{ascends}

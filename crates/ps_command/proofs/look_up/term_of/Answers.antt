@@ -1,6 +1,4 @@
-use Rattle.std.proofs.Common.{◌≡◌, ◌<◌, length, sym, ap, ◌∙◌}
-use Rattle.ps_term.specs.declared.term.Term.{Term}
-use Rattle.ps_term.specs.declared.var.Var.{Var}
+use Rattle.std.proofs.Common.{sym, ◌∙◌}
 use Rattle.ps_command.proofs.Places.{is_place, found_at_place, missing_at_place, stands_within}
 use Rattle.ps_command.proofs.look_up.term_of.Goals as goal
 

@@ -1,4 +1,4 @@
-use Rattle.std.proofs.Common.{◌≡◌, ℤ, Bool, true, Option, IsSome, SomeIff, FitsSigned, drop, ◌+◌, refl, rules, arith, sym, ap, subst, ◌∙◌}
+use Rattle.std.proofs.Common.{◌≡◌, ℤ, Bool, true, Option, IsSome, SomeIff, FitsSigned, drop, ◌+◌, refl, rules, sym, ap, subst, ◌∙◌}
 use Rattle.std.specs.Int.{w128}
 use Rattle.std.proofs.lemmas.Int.{to_z-of_z}
 use Rattle.ps_command.specs.inner.View.{after_op, goes_on, OpRunFits, seen}

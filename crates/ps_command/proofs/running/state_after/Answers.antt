@@ -15,7 +15,7 @@ returns c =
     let rest : c.append_copies-2.new.list.items ≡ (c.push.new.self.items ++ take (length all - (k + 1)) (drop (k + 1) all)) = search rules in
     let joined : (c.append_copies.new.list.items ++ c.from_list.result ∷ []) ≡ (take k all ++ own ∷ []) = ap₂ (λ (xs : List (List ℤ)) (x : List ℤ). xs ++ x ∷ []) first c.from_list.ensures in
     let whole : c.append_copies-2.new.list.items ≡ slice_set all k own =
-        rest ∙ (ap (λ (xs : List (List ℤ)). xs ++ take (length all - (k + 1)) (drop (k + 1) all)) (put ∙ joined)
-        ∙ between all k own (subst (λ (xs : List (List ℤ)). k < length xs) (sym is) c.requires)) in
+    rest ∙ (ap (λ (xs : List (List ℤ)). xs ++ take (length all - (k + 1)) (drop (k + 1) all)) (put ∙ joined)
+    ∙ between all k own (subst (λ (xs : List (List ℤ)). k < length xs) (sym is) c.requires)) in
     let make : List ℤ → List (List ℤ) → State = λ globals locals. record { globals = globals; locals = locals } in
     ap₂ make c.from_list-2.ensures (c.from_list-3.ensures ∙ (whole ∙ ap (λ (xs : List (List ℤ)). slice_set xs k own) is))
