@@ -1,0 +1,13 @@
+//! Tests of configurations and of covering, by cases that are text, and against a slow search.
+#![tactic(auto)]
+
+#[cfg(test)]
+mod configs;
+#[cfg(test)]
+mod coverings;
+#[cfg(test)]
+mod slow;
+#[cfg(test)]
+mod table;
+#[cfg(test)]
+mod text;
