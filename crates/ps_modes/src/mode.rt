@@ -7,7 +7,7 @@ ghost use Rattle.ps_modes.specs.declared.mode.Mode.{Mode};
 pub const REFUTE: &str = "refute";
 
 /// A mode that is built.
-#[derive(Clone, Copy, Debug, PartialEq, Eq)]
+#[derive(Clone, Copy)]
 pub enum Mode {
     /// Whether multipliers refute rows.
     Refute,

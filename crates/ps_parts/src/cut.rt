@@ -5,7 +5,7 @@ ghost use Rattle.ps_parts.specs.Cuts.{HasNoMark, IsCut, program_of};
 use crate::mark::{MARK, first_mark};
 
 /// An input that is cut at its first mark.
-#[derive(Clone, Copy, Debug)]
+#[derive(Clone, Copy)]
 pub struct Cut<'a> {
     /// The lines before the mark.
     pub before: &'a [u8],

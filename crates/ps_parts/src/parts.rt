@@ -14,21 +14,21 @@ pub const MOST_PROOF: usize = 268_435_456;
 pub const MOST_WITNESS: usize = 16_777_216;
 
 /// A part after a mark, and the number of its first line.
-#[derive(Clone, Copy, Debug)]
+#[derive(Clone, Copy)]
 pub struct Part<'a> {
     pub bytes: &'a [u8],
     pub line: u32,
 }
 
 /// A program, and what stands after the first mark.
-#[derive(Clone, Copy, Debug)]
+#[derive(Clone, Copy)]
 pub struct TwoParts<'a> {
     pub program: &'a [u8],
     pub last: Part<'a>,
 }
 
 /// A program, what stands between the first two marks, and what stands after them.
-#[derive(Clone, Copy, Debug)]
+#[derive(Clone, Copy)]
 pub struct ThreeParts<'a> {
     pub program: &'a [u8],
     pub middle: Part<'a>,
