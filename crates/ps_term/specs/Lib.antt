@@ -3,6 +3,7 @@ pub mod Bound
 pub mod Factors
 pub mod Front
 pub mod Lookup
+pub mod Named
 pub mod Negation
 pub mod Pairs
 pub mod Row

@@ -6,6 +6,7 @@ mod bound;
 mod front;
 pub mod laws;
 mod lookup;
+mod naming;
 mod negation;
 mod pairs;
 mod place;
