@@ -9,6 +9,7 @@ pub mod Lookups
 pub mod Merging
 pub mod Negations
 pub mod Ring
+pub mod Searching
 pub mod Substitutions
 pub mod Uniqueness
 pub mod Variables

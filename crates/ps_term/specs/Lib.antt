@@ -5,6 +5,7 @@ pub mod Exact
 pub mod Factors
 pub mod Front
 pub mod Lookup
+pub mod Named
 pub mod Negation
 pub mod Pairs
 pub mod Row

@@ -7,6 +7,7 @@ pub mod exact;
 mod front;
 pub mod laws;
 mod lookup;
+mod naming;
 mod negation;
 mod pairs;
 mod place;

@@ -1,16 +1,18 @@
 //! Terms put for variables.
-ghost use Rattle.std.specs.Prelude.{◌≡◌, ◌+ℤ◌, ◌*ℤ◌, ℤ, IfOk, MatchOption, OnOk, IsErrOf};
+ghost use Rattle.std.specs.Prelude.{◌≡◌, ◌+ℤ◌, ◌*ℤ◌, ℤ, IfOk, IsTrue, OnOk, IsErrOf};
 ghost use Rattle.ps_term.specs.declared.var.Var.{Var};
 ghost use Rattle.ps_term.specs.Accumulated.{IsRising};
+ghost use Rattle.ps_term.specs.Named.{AreRising};
 ghost use Rattle.ps_term.specs.Pairs.{IsCanonical, pairs_value};
 ghost use Rattle.ps_term.specs.Substitution.{replacement, SubstitutionFits, values_after};
 ghost use Rattle.ps_term.specs.Sums.{PairsFit, ScaledFits};
-ghost use Rattle.ps_term.specs.Term.{value, variable_term};
+ghost use Rattle.ps_term.specs.Term.{value};
 
 use crate::accumulation::{add_pairs, pairs_of};
+use crate::naming::{ascends, replacing};
 use crate::sums::scaled_sum;
 use crate::term::{Term, TermEnd};
-use crate::var::{Var, is_same};
+use crate::var::Var;
 use std::alloc::Global;
 use std::collections::BTreeMap;
 
@@ -22,8 +24,9 @@ use std::collections::BTreeMap;
 /// this order lies outside `i128`.
 ///
 /// The sums are kept in a map and made a term once, so each pair of a term that is put takes one search
-/// among the variables of the result; finding that term takes one pass over `after` for each pair of `a`.
-/// The memory is that of the result, twice.
+/// among the variables of the result. Finding that term takes a binary search in `after` for each pair of
+/// `a` where the variables of `after` ascend, which one pass tells first, and else one pass over `after`
+/// for each. The memory is that of the result, twice.
 pub fn substitute(alloc: Global, a: &Term, after: &[(Var, Term)]) -> Result<Term, TermEnd>
     ensures worth { IfOk result (λ term. (values : Var → ℤ)
         → value values term ≡ value (values_after values after.now) a.now) }
@@ -31,10 +34,11 @@ pub fn substitute(alloc: Global, a: &Term, after: &[(Var, Term)]) -> Result<Term
     ensures fits { OnOk result (SubstitutionFits after.now a.now) }
     ensures past { IsErrOf result TermEnd.Past128 → ¬ SubstitutionFits after.now a.now }
 {
+    let rising = ascends(after);
     let mut sums = BTreeMap::new(alloc);
     let mut constant = 0;
     for pair in a.pairs.as_slice() {
-        constant = add_replaced(&mut sums, constant, pair.1, pair.0, after)?;
+        constant = add_replaced(&mut sums, constant, pair.1, pair.0, after, rising)?;
     }
     let whole = constant.checked_add(a.constant).ok_or(TermEnd::Past128)?;
     let pairs = pairs_of(alloc, sums)?;
@@ -51,8 +55,10 @@ fn add_replaced(
     by: i128,
     variable: Var,
     after: &[(Var, Term)],
+    rising: bool,
 ) -> Result<i128, TermEnd>
-    requires { IsRising sums.old.entries }
+    requires rising { IsRising sums.old.entries }
+    requires after_rises { IsTrue rising → AreRising after.now }
     ensures rising { OnOk result (IsRising sums.new.entries) }
     ensures worth { OnOk result ((values : Var → ℤ) → pairs_value values sums.new.entries
         ≡ (pairs_value values sums.old.entries +ℤ (by *ℤ pairs_value values (replacement after.now variable).pairs))) }
@@ -64,7 +70,7 @@ fn add_replaced(
         → ¬ (PairsFit sums.old.entries by (replacement after.now variable).pairs
         × ScaledFits constant by (replacement after.now variable).constant) }
 {
-    match replacing(after, variable) {
+    match replacing(after, rising, variable) {
         Some(term) => add_parts(sums, constant, by, term.pairs.as_slice(), term.constant),
         None => add_parts(sums, constant, by, &[(variable, 1)], 0),
     }
@@ -90,17 +96,4 @@ fn add_parts(
 {
     add_pairs(sums, by, pairs)?;
     scaled_sum(constant, by, last).ok_or(TermEnd::Past128)
-}
-
-// The term that the list gives for the variable, if it names it.
-fn replacing(after: &[(Var, Term)], variable: Var) -> Option<&Term>
-    ensures { MatchOption result (variable_term variable ≡ replacement after.now variable)
-        (λ term. term.now ≡ replacement after.now variable) }
-{
-    for pair in after {
-        if is_same(variable, pair.0) {
-            return Some(&pair.1);
-        }
-    }
-    None
 }

@@ -2,7 +2,7 @@ use Rattle.std.proofs.Common.{sym, ap, ◌∙◌}
 use Rattle.std.proofs.lemmas.List.{drop_all}
 use Rattle.ps_term.specs.Substitution.{replacement}
 use Rattle.ps_term.proofs.Substitutions.{replacement-found}
-use Rattle.ps_term.proofs.substitution.replacing.Goals as goal
+use Rattle.ps_term.proofs.naming.first_named.Goals as goal
 
 pub returns-then-is_same : goal.returns-then-is_same
 returns-then-is_same c =
