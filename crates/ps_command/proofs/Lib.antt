@@ -5,5 +5,4 @@ pub mod Evaluating
 pub mod Forms
 pub mod OpByOp
 pub mod Places
-pub mod Putting
 pub mod Sizes

@@ -142,18 +142,6 @@ none_above x (p ∷ ps) b a =
     let parts : (is_before_all p.0 ps ≡ true) × (ascends ps ≡ true) = and_parts (is_before_all p.0 ps) (ascends ps) a in
     ap (λ (c : Bool). if c then p.1 else replacement ps x) (var_lt-var_eq x p.0 b) ∙ none_above x ps (before_trans x p.0 ps b parts.0) parts.1
 
-pub found_at_place : (x : Var) (ps : List (Var × Term)) (i : ℕ) (d : Var × Term) → IsPlace x ps i → i < length ps → is_first x (drop i ps) ≡ true → replacement ps x ≡ (get_or ps i d).1
-found_at_place x [] i d w h e = absurd (omega arith)
-found_at_place x (p ∷ ps) zero d w h e = ap (λ (b : Bool). if b then p.1 else replacement ps x) e
-found_at_place x (p ∷ ps) (suc i) d w h e =
-    ap (λ (b : Bool). if b then p.1 else replacement ps x) (var_gt-var_eq p.0 x (front_before x p ps i w)) ∙ found_at_place x ps i d (next_place x p ps i w) (omega arith) e
-
-pub missing_at_place : (x : Var) (ps : List (Var × Term)) (i : ℕ) → ascends ps ≡ true → IsPlace x ps i → is_first x (drop i ps) ≡ false → replacement ps x ≡ variable_term x
-missing_at_place x [] i a w e = refl
-missing_at_place x (p ∷ ps) zero a w e = none_above x (p ∷ ps) (front_beyond x p ps w e) a
-missing_at_place x (p ∷ ps) (suc i) a w e =
-    ap (λ (b : Bool). if b then p.1 else replacement ps x) (var_gt-var_eq p.0 x (front_before x p ps i w))
-    ∙ missing_at_place x ps i (and_parts (is_before_all p.0 ps) (ascends ps) a).1 (next_place x p ps i w) e
 
 -- a place at which the variable stands is one of the list
 pub stands_within : (x : Var) (ps : List (Var × Term)) (i : ℕ) → is_first x (drop i ps) ≡ true → i < length ps

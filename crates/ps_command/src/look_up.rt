@@ -1,11 +1,9 @@
 // Look-ups in lists of pairs of a variable and a term whose variables ascend.
-ghost use Rattle.std.specs.Prelude.{◌≡◌, ◌≤◌, true, false, drop, length, IsTrue, MatchOption, OnErr, OnOk};
+ghost use Rattle.std.specs.Prelude.{◌≡◌, ◌≤◌, true, false, drop, length, IsTrue, OnErr, OnOk};
 ghost use Rattle.std.specs.List.Sorted.{IsPartitionPoint};
 ghost use Rattle.ps_command.specs.Assignments.{ascends};
 ghost use Rattle.ps_command.specs.Form.{with_term};
 ghost use Rattle.ps_command.specs.inner.First.{is_first};
-ghost use Rattle.ps_term.specs.Substitution.{replacement};
-ghost use Rattle.ps_term.specs.Term.{variable_term};
 ghost use Rattle.ps_term.specs.Var.{var_lt};
 
 use ps_term::{Term, Var, is_before, is_same};
@@ -31,21 +29,6 @@ fn stands_at(after: &[(Var, Term)], place: usize, variable: Var) -> bool
     match after.get(place) {
         Some(pair) => is_same(variable, pair.0),
         None => false,
-    }
-}
-
-// The term that the list gives for the variable, if it names it.
-pub(crate) fn term_of(after: &[(Var, Term)], variable: Var) -> Option<&Term>
-    requires { IsTrue (ascends after.now) }
-    ensures { MatchOption result
-        (replacement after.now variable ≡ variable_term variable)
-        (λ term. replacement after.now variable ≡ term.now) }
-{
-    let place = place_of(after, variable);
-    if stands_at(after, place, variable) {
-        Some(&after[place].1)
-    } else {
-        None
     }
 }
 
