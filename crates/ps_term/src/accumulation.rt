@@ -32,12 +32,7 @@ pub(crate) fn add_pairs(
     Ok(())
 }
 
-fn add_one(
-    sums: &mut BTreeMap<Var, i128>,
-    variable: Var,
-    by: i128,
-    n: i128,
-) -> Result<(), TermEnd>
+fn add_one(sums: &mut BTreeMap<Var, i128>, variable: Var, by: i128, n: i128) -> Result<(), TermEnd>
     requires { IsRising sums.old.entries }
     ensures put { OnOk result (sums.new.entries
         ≡ put variable (coefficient variable sums.old.entries +ℤ (by *ℤ n)) sums.old.entries) }

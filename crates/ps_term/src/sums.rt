@@ -96,7 +96,11 @@ fn sum_in_front(
 }
 
 // Adds the pair, unless its coefficient is 0.
-pub(crate) fn keep(list: &mut Vec<(Var, i128)>, variable: Var, coefficient: i128) -> Result<(), AllocError>
+pub(crate) fn keep(
+    list: &mut Vec<(Var, i128)>,
+    variable: Var,
+    coefficient: i128,
+) -> Result<(), AllocError>
     ensures { OnOk result (list.new.items ≡ list.old.items ++ kept_pair variable coefficient) }
 {
     if coefficient == 0 {
