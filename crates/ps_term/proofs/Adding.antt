@@ -1,5 +1,5 @@
 -- Sums by variable: what was added, with what is left, is all.
-use Rattle.std.proofs.Common.{◌≡◌, ◌≢◌, ◌+◌, ◌<◌, ℕ, ℤ, pos, ◌+ℤ◌, ◌*ℤ◌, Bool, true, false, cond, if◌then◌else◌, Ordering, List, [], ◌∷◌, ◌++◌, length, get_or, drop, unwrap_or, Some, refl, sym, ap, ◌∙◌, subst, arith}
+use Rattle.std.proofs.Common.{◌≡◌, ◌+◌, ◌<◌, ℕ, ℤ, pos, ◌+ℤ◌, ◌*ℤ◌, Bool, true, false, cond, if◌then◌else◌, Ordering, List, [], ◌∷◌, ◌++◌, length, get_or, drop, unwrap_or, Some, refl, sym, ap, ◌∙◌, subst, arith}
 use Rattle.std.specs.BTreeMap.{insert_entry, is_at}
 use Rattle.std.specs.List.{AllByRecursion}
 use Rattle.std.specs.Map.{lookup}
@@ -9,12 +9,11 @@ use Rattle.std.proofs.lemmas.Bool.Decides.{Decides-int_eq}
 use Rattle.std.proofs.lemmas.Int.{ints}
 use Rattle.std.proofs.lemmas.List.{drop_more}
 use Rattle.ps_term.specs.Accumulated.{IsRising, found_sum, put, standing, var_cmp}
-use Rattle.ps_term.specs.Front.{kept_pair}
 use Rattle.ps_term.specs.Pairs.{IsBelow, IsCanonical, coefficient, pairs_value}
 use Rattle.ps_term.specs.Sums.{ScaledFits}
 use Rattle.ps_term.specs.Var.{var_eq, var_lt}
 use Rattle.ps_term.specs.declared.var.Var.{Var}
-use Rattle.ps_term.proofs.Canonical.{IsBelowAll, IsBelowAll-canonical, IsBelow_trans, coefficient-below, coefficient-other}
+use Rattle.ps_term.proofs.Canonical.{IsBelowAll, IsBelowAll-canonical, IsBelow_trans, coefficient-below}
 use Rattle.ps_term.proofs.Comparing.{by_order, cmp_is, eq_is}
 use Rattle.ps_term.proofs.Ring.{assoc, distribute, distribute_right, mul-zero, zero-mul}
 use Rattle.ps_term.proofs.Uniqueness.{pairs_value-unit_at, unit_at}

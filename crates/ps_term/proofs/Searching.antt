@@ -1,5 +1,5 @@
 -- Searches in ascending lists of variables with terms.
-use Rattle.std.proofs.Common.{◌≡◌, ◌⊎◌, ℕ, zero, suc, ◌+◌, ◌-◌, ◌<◌, ◌≤◌, Bool, true, false, IsTrue, if◌then◌else◌, List, [], ◌∷◌, length, get_or, ltb, drop, refl, sym, ap, ◌∙◌, subst, inl, inr, arith}
+use Rattle.std.proofs.Common.{◌≡◌, ◌⊎◌, ℕ, zero, suc, ◌+◌, ◌-◌, ◌<◌, ◌≤◌, Bool, true, false, IsTrue, List, [], ◌∷◌, length, get_or, ltb, drop, refl, sym, ap, ◌∙◌, subst, inl, inr, arith}
 use Rattle.std.specs.List.Sorted.{IsPartitionedBy, IsPartitionPoint}
 use Rattle.std.proofs.lemmas.Bool.{true≢false, cases_eq}
 use Rattle.std.proofs.lemmas.Bool.Decides.{nat_tests}
@@ -11,7 +11,7 @@ use Rattle.ps_term.specs.Var.{var_eq, var_lt}
 use Rattle.ps_term.specs.declared.term.Term.{Term}
 use Rattle.ps_term.specs.declared.var.Var.{Var}
 use Rattle.ps_term.proofs.Substitutions.{replacement-found}
-use Rattle.ps_term.proofs.Variables.{var_eq-true, var_gt-var_eq, var_lt-var_eq, var_lt_or_gt, var_lt_trans}
+use Rattle.ps_term.proofs.Variables.{var_gt-var_eq, var_lt-var_eq, var_lt_or_gt, var_lt_trans}
 
 -- one more neighbour is in order
 pub rising_more : (after : List (Var × Term)) (at : ℕ) (p q : Var × Term) → 0 < at → at < length after

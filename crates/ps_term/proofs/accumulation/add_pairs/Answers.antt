@@ -1,4 +1,4 @@
-use Rattle.std.proofs.Common.{ℤ, pos, List, [], FitsSigned, get_or, drop, rules, sym, subst}
+use Rattle.std.proofs.Common.{ℤ, pos, FitsSigned, get_or, drop, rules, subst}
 use Rattle.std.specs.Int.{w128}
 use Rattle.std.proofs.lemmas.Int.{to_z-of_z}
 use Rattle.std.proofs.lemmas.List.{drop_all}

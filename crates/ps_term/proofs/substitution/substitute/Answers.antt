@@ -1,4 +1,4 @@
-use Rattle.std.proofs.Common.{◌≡◌, ℤ, pos, ◌+ℤ◌, List, [], FitsSigned, SomeIff, Option, Result, Err, get_or, drop, to_z, of_z, rules, ap, subst}
+use Rattle.std.proofs.Common.{◌≡◌, ℤ, pos, ◌+ℤ◌, List, [], FitsSigned, SomeIff, Option, Result, Err, get_or, to_z, of_z, rules, ap, subst}
 use Rattle.std.specs.Int.{w128}
 use Rattle.std.proofs.lemmas.Int.{to_z-of_z}
 use Rattle.std.proofs.lemmas.List.{drop_all}
