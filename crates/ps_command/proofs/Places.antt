@@ -142,7 +142,6 @@ none_above x (p ∷ ps) b a =
     let parts : (is_before_all p.0 ps ≡ true) × (ascends ps ≡ true) = and_parts (is_before_all p.0 ps) (ascends ps) a in
     ap (λ (c : Bool). if c then p.1 else replacement ps x) (var_lt-var_eq x p.0 b) ∙ none_above x ps (before_trans x p.0 ps b parts.0) parts.1
 
-
 -- a place at which the variable stands is one of the list
 pub stands_within : (x : Var) (ps : List (Var × Term)) (i : ℕ) → is_first x (drop i ps) ≡ true → i < length ps
 stands_within x [] zero e = absurd (false≢true e)

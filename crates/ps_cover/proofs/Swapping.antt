@@ -96,8 +96,8 @@ keeps_atoms large w v h q c =
       | inl neither ↦
           let no : (is_listed q.threads w || is_listed q.threads v) ≡ true → ⊥ = not_or (is_listed q.threads w || is_listed q.threads v) true neither in
           subst (λ (r : Atom). Contains large.atoms r) (sym (renamed_stays (swapped w v) q (λ t k. swapped_third w v t
-              (λ e. no (or_left (is_listed q.threads w) (is_listed q.threads v) (has_to q.threads w (subst (λ (s : ℕ). Contains q.threads s) e k))))
-              (λ e. no (or_right (is_listed q.threads w) (is_listed q.threads v) (has_to q.threads v (subst (λ (s : ℕ). Contains q.threads s) e k))))))) c
+          (λ e. no (or_left (is_listed q.threads w) (is_listed q.threads v) (has_to q.threads w (subst (λ (s : ℕ). Contains q.threads s) e k))))
+          (λ e. no (or_right (is_listed q.threads w) (is_listed q.threads v) (has_to q.threads v (subst (λ (s : ℕ). Contains q.threads s) e k))))))) c
       | inr some ↦ (let r = any_from (swap_maps w v q) large.atoms some in subst (λ (r : Atom). Contains large.atoms r) (sym (swap_from w v q r.0 r.2)) r.1)
     ]
 

@@ -61,9 +61,11 @@ module _ (small large : Configuration) (p : Partial) (t : ℕ) (ts : List ℕ) (
   ]
 
   answer_found : (image : ℕ) (all : List ℕ) → NoneBelow small large p (t ∷ ts) image → IsAnswer small large (one_more p (t ∷ ts) image) ts (Some all) → IsAnswer small large p (t ∷ ts) (Some all)
-  answer_found image all none (rest, is, first) =
-      (image ∷ rest, is ∙ append_assoc us (image ∷ []) rest,
-      first_at small large ss us ts rest t image long first (λ v h. no_rest small large (ss ++ t ∷ []) (us ++ v ∷ []) ts are_moved (longer v) (none v h)))
+  answer_found image all none (rest, is, first) = (
+    image ∷ rest,
+    is ∙ append_assoc us (image ∷ []) rest,
+    first_at small large ss us ts rest t image long first (λ v h. no_rest small large (ss ++ t ∷ []) (us ++ v ∷ []) ts are_moved (longer v) (none v h)),
+  )
 
   answer_none : (from : ℕ) → NoneBelow small large p (t ∷ ts) from → IsNext (threads_at large) from None → NoWay small large ss us
   answer_none from none next f e is = none (f t) (next (f t) (image_occurs small large f e t occurs)) f e (map_push f ss us t (f t) is refl)

@@ -41,11 +41,11 @@ covers_allow small large once_at once_atoms c =
     and_from (list_all (place_counts small.at large.at) small.at) (list_all (atom_counts small.atoms large.atoms) small.atoms)
     (all_to (place_counts small.at large.at) small.at (λ p h. le_test (length (those_at p.1 small.at)) (length (those_at p.1 large.at)) (fewer_at small large c once_at p.1)))
     (all_to (atom_counts small.atoms large.atoms) small.atoms (λ q h.
-        and_from (nat_le (length (those_of q.predicate small.atoms)) (length (those_of q.predicate large.atoms))) (not (length q.threads == 0) || list_any (is_bare q.predicate) large.atoms)
-        (le_test (length (those_of q.predicate small.atoms)) (length (those_of q.predicate large.atoms)) (fewer_of small large c once_atoms q.predicate))
-        (unless_to (length q.threads == 0) (list_any (is_bare q.predicate) large.atoms) (λ e.
-            let none : q.threads ≡ [] = empty_from q.threads (eqb-true (length q.threads) 0 e) in
-            any_to (is_bare q.predicate) large.atoms q (bare_there small large c q h none) (and_from (q.predicate == q.predicate) (length q.threads == 0) (eq-eqb q.predicate q.predicate refl) e)))))
+    and_from (nat_le (length (those_of q.predicate small.atoms)) (length (those_of q.predicate large.atoms))) (not (length q.threads == 0) || list_any (is_bare q.predicate) large.atoms)
+    (le_test (length (those_of q.predicate small.atoms)) (length (those_of q.predicate large.atoms)) (fewer_of small large c once_atoms q.predicate))
+    (unless_to (length q.threads == 0) (list_any (is_bare q.predicate) large.atoms) (λ e.
+    let none : q.threads ≡ [] = empty_from q.threads (eqb-true (length q.threads) 0 e) in
+    any_to (is_bare q.predicate) large.atoms q (bare_there small large c q h none) (and_from (q.predicate == q.predicate) (length q.threads == 0) (eq-eqb q.predicate q.predicate refl) e)))))
 
 pub refused : (small large : Configuration) → IsOnce small.at → IsOnce small.atoms → counts_allow small.at small.atoms large.at large.atoms ≡ false → ¬ Covers small large
 refused small large once_at once_atoms e c = both_ways (counts_allow small.at small.atoms large.at large.atoms) e (covers_allow small large once_at once_atoms c)

@@ -8,7 +8,9 @@ pub fn row(alloc: Global, pairs: &[(Var, i128)], constant: i128) -> Result<Row, 
     let mut term = Term::from_constant(alloc, constant);
     for pair in pairs {
         let variable = Term::from_variable(alloc, pair.0)?;
-        term = add_scaled(alloc, &term, pair.1, &variable).ok().ok_or(AllocError)?;
+        term = add_scaled(alloc, &term, pair.1, &variable)
+            .ok()
+            .ok_or(AllocError)?;
     }
     Ok(Row { term })
 }
@@ -18,7 +20,9 @@ pub fn of_five_threads(alloc: Global) -> Result<Row, AllocError> {
     let mut term = Term::from_constant(alloc, 0);
     for thread in 0..5 {
         let variable = Term::from_variable(alloc, Var::Local(thread, 0))?;
-        term = add_scaled(alloc, &term, 1, &variable).ok().ok_or(AllocError)?;
+        term = add_scaled(alloc, &term, 1, &variable)
+            .ok()
+            .ok_or(AllocError)?;
     }
     Ok(Row { term })
 }
@@ -30,7 +34,8 @@ pub fn full_table(alloc: Global) -> Result<Predicates, AllocError> {
         let row = row(alloc, &[(Var::Global(0), 1)], i128::from(number))?;
         table
             .push(alloc, Predicate { arity: 0, row })
-            .ok().ok_or(AllocError)?;
+            .ok()
+            .ok_or(AllocError)?;
     }
     Ok(table)
 }

@@ -34,7 +34,9 @@ fn least(alloc: Global) -> Result<Term, AllocError> {
 }
 
 fn sum(alloc: Global) -> Result<Term, AllocError> {
-    let sum = add_scaled(alloc, &first(alloc)?, 2, &second(alloc)?).ok().ok_or(AllocError)?;
+    let sum = add_scaled(alloc, &first(alloc)?, 2, &second(alloc)?)
+        .ok()
+        .ok_or(AllocError)?;
     sum.copy(alloc)
 }
 

@@ -40,12 +40,16 @@ fn begins(reader: &mut Reader<'_>) -> bool {
 }
 
 fn goes_on_with_threes(alloc: Global, reader: &mut Reader<'_>) -> Result<bool, AllocError> {
-    let threes = while_lines::<Natural32>(alloc, b"3", 2, reader).ok().ok_or(AllocError)?;
+    let threes = while_lines::<Natural32>(alloc, b"3", 2, reader)
+        .ok()
+        .ok_or(AllocError)?;
     Ok(threes.as_slice() == [3, 3].as_slice())
 }
 
 fn goes_on_up_to_a_word(alloc: Global, reader: &mut Reader<'_>) -> Result<bool, AllocError> {
-    let last = list::<Integer>(alloc, &Until::Word(b"x"), reader).ok().ok_or(AllocError)?;
+    let last = list::<Integer>(alloc, &Until::Word(b"x"), reader)
+        .ok()
+        .ok_or(AllocError)?;
     Ok(last.as_slice() == [-4].as_slice())
 }
 

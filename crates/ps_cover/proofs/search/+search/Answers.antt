@@ -20,11 +20,16 @@ pub attempt-search-requires : goal.attempt-search-requires
 attempt-search-requires t c =
     let turn : IsTurn c.args.small.now (large_of c.args.at.now c.args.atoms.now) c.args.partial.now c.args.left.now = record { are = c.requires.threads; fits = c.requires.fits; some = c.requires.some } in
     let less : length (drop 1 c.args.left.now) ≡ length c.args.left.now - 1 = length-drop 1 c.args.left.now in
-    let same : length c.after_first.result.now ≡ length (drop 1 c.args.left.now) = ap length c.after_first.ensures in
-    (first_of (search rules, omega (arith, c.decreases, less, same, c.requires.some)),
-    (rw (c.with.ensures.threads, c.after_first.ensures) (turn_threads c.args.small.now (large_of c.args.at.now c.args.atoms.now) c.args.partial.now c.args.left.now turn c.args.image),
-    (few_left c.args.partial.now.threads c.args.left.now c.with.result.threads c.after_first.result.now (get_or c.args.left.now 0 0) MOST_THREADS c.requires.few c.requires.some c.with.ensures.threads c.after_first.ensures,
-    rw (c.with.ensures.threads, c.with.ensures.to) (turn_fits c.args.small.now (large_of c.args.at.now c.args.atoms.now) c.args.partial.now c.args.left.now turn c.args.image (sym c.fits.ensures ∙ c.if-not-fits.false)))))
+    let same : length c.after_first.result.now ≡ length (drop 1 c.args.left.now) = ap length c.after_first.ensures in (
+      first_of (search rules, omega (arith, c.decreases, less, same, c.requires.some)),
+      (
+        rw (c.with.ensures.threads, c.after_first.ensures) (turn_threads c.args.small.now (large_of c.args.at.now c.args.atoms.now) c.args.partial.now c.args.left.now turn c.args.image),
+        (
+          few_left c.args.partial.now.threads c.args.left.now c.with.result.threads c.after_first.result.now (get_or c.args.left.now 0 0) MOST_THREADS c.requires.few c.requires.some c.with.ensures.threads c.after_first.ensures,
+          rw (c.with.ensures.threads, c.with.ensures.to) (turn_fits c.args.small.now (large_of c.args.at.now c.args.atoms.now) c.args.partial.now c.args.left.now turn c.args.image (sym c.fits.ensures ∙ c.if-not-fits.false)),
+        ),
+      ),
+    )
 
 pub search-may_go_on-requires-clause-left : goal.search-may_go_on-requires-clause-left
 search-may_go_on-requires-clause-left t c =
