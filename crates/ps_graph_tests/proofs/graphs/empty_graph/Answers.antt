@@ -1,8 +1,9 @@
 -- The graph of no edges keeps all facts.
 use Rattle.std.proofs.Common.{◌≡◌, ℕ, List, [], ◌∷◌, refl, subst}
-use Rattle.std.specs.Prelude.{Option, None, IsTrue}
+use Rattle.std.specs.Prelude.{Contains, Option, None, IsTrue}
 use Rattle.ps_command.specs.declared.command.Command.{Command}
-use Rattle.ps_graph.specs.Facts.{IsIn, names_exist, entries_owned, error_is_final, picks_fit, stay_in_bodies, IsDeterministic}
+use Rattle.ps_list.proofs.Members.{nothing}
+use Rattle.ps_graph.specs.Facts.{names_exist, entries_owned, error_is_final, picks_fit, stay_in_bodies, IsDeterministic}
 use Rattle.ps_graph.specs.declared.edge.Edge.{Edge}
 use Rattle.ps_graph_tests.proofs.graphs.empty_graph.Goals as goal
 
@@ -57,7 +58,7 @@ invariant_of-result-clause-stays c =
 
 one_way : (commands : List Command) (edges : List Edge) → edges ≡ [] → IsDeterministic commands edges
 unfolding IsDeterministic
-one_way commands edges none d e h i s v w x cs f g = absurd (subst (λ (es : List Edge). IsIn d es) none h)
+one_way commands edges none d e h i s v w x cs f g = absurd (nothing d (subst (λ (es : List Edge). Contains es d) none h))
 
 pub invariant_of-result-clause-deterministic : goal.invariant_of-result-clause-deterministic
 invariant_of-result-clause-deterministic c =
