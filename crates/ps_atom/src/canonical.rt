@@ -23,7 +23,8 @@ pub(crate) struct Form {
 
 // The form of a tightened row: slots put for its threads in their order.
 pub(crate) fn form_of(alloc: Global, tight: &Row) -> Result<Form, PlaceEnd>
-    ensures form { IfOk result (λ form. IsInSlots tight.now form.predicate form.threads × (length form.threads ≤ 4)) }
+    ensures form { IfOk result
+        (λ form. IsInSlots tight.now form.predicate form.threads × (length form.threads ≤ 4)) }
     ensures end { IfErr result (IsFormEnd tight.now) }
 {
     let threads = match occurring(alloc, tight.term.pairs.as_slice()) {
@@ -52,7 +53,8 @@ fn form_with(alloc: Global, tight: &Row, threads: &[u32]) -> Result<Form, AllocE
     requires few { length threads.now ≤ 4 }
     requires ascending { IsStrictlyIncreasing threads.now }
     requires occurring { AreOccurring tight.now.term.pairs threads.now }
-    ensures { IfOk result (λ form. IsInSlots tight.now form.predicate form.threads × (length form.threads ≤ 4)) }
+    ensures { IfOk result
+        (λ form. IsInSlots tight.now form.predicate form.threads × (length form.threads ≤ 4)) }
 {
     let pairs = tight.term.pairs.as_slice();
     let shares = shares_in_order(alloc, pairs, threads)?;

@@ -21,7 +21,8 @@ use ps_term::Row;
 /// The place of a row says of all values what the row says: a canonical predicate with the threads in
 /// its slots, or that it holds always or never.
 pub fn says_the_same(list: &[Predicate], row: &Row, place: &Place128)
-    ensures { IsPlaceOf list.now row.now place.now → (values : Var → ℤ) → SaysAs list.now values row.now place.now }
+    ensures { IsPlaceOf list.now row.now place.now → (values : Var → ℤ)
+        → SaysAs list.now values row.now place.now }
 {
     let _pairs = row.term.pairs.as_slice();
 }
@@ -35,19 +36,22 @@ pub fn one_form(row: &Row, one: &Predicate, other: &Predicate)
 /// A row and a multiple of it have one canonical predicate, with the same threads.
 pub fn multiples_are_one(row: &Row, multiple: &Row, predicate: &Predicate)
     ensures { (by : ℕ) (threads : List ℕ) → IsMultiple by row.now multiple.now
-        → IsCanonicalOf row.now predicate.now threads → IsCanonicalOf multiple.now predicate.now threads }
+        → IsCanonicalOf row.now predicate.now threads
+        → IsCanonicalOf multiple.now predicate.now threads }
 {}
 
 /// A row and a renaming of it have one canonical predicate, also where some threads have like pairs.
 pub fn renamings_are_one(row: &Row, renaming: &Row, one: &Predicate, other: &Predicate)
-    ensures { (new_thread : ℕ → ℕ) (threads others : List ℕ) → IsRenaming new_thread row.now renaming.now
+    ensures { (new_thread : ℕ → ℕ) (threads others : List ℕ)
+        → IsRenaming new_thread row.now renaming.now
         → IsCanonicalOf row.now one.now threads → IsCanonicalOf renaming.now other.now others
         → one.now ≡ other.now }
 {}
 
 /// A canonical predicate is the canonical one of its own row, with its slots in order.
 pub fn is_its_own(row: &Row, predicate: &Predicate)
-    ensures { (threads : List ℕ) → IsCanonicalOf row.now predicate.now threads → IsCanonicalPredicate predicate.now }
+    ensures { (threads : List ℕ) → IsCanonicalOf row.now predicate.now threads
+        → IsCanonicalPredicate predicate.now }
 {}
 
 /// The canonical predicate of a row whose variables are all declared is in range, where at most four threads occur.

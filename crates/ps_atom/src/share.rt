@@ -33,7 +33,8 @@ fn shares_of(
     threads: &[u32],
 ) -> Result<Vec<Share>, AllocError>
     ensures each { IfOk result (λ shares. All (IsShare pairs.now) shares.items) }
-    ensures threads { IfOk result (λ shares. map (λ (share : Share). share.thread) shares.items ≡ threads.now) }
+    ensures threads { IfOk result
+        (λ shares. map (λ (share : Share). share.thread) shares.items ≡ threads.now) }
 {
     let mut shares = Vec::with_capacity(alloc, threads.len())?;
     for thread in threads {

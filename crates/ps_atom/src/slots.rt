@@ -13,7 +13,8 @@ pub(crate) fn placed(
     shares: &[Share],
 ) -> Result<Vec<(Var, i128)>, AllocError>
     requires { length shares.now < 2 ^ 32 }
-    ensures { IfOk result (λ list. list.items ≡ placed (map (λ share. share.pairs.items) shares.now) pairs.now) }
+    ensures { IfOk result
+        (λ list. list.items ≡ placed (map (λ share. share.pairs.items) shares.now) pairs.now) }
 {
     let mut list = Vec::with_capacity(alloc, pairs.len())?;
     push_globals(&mut list, pairs)?;
@@ -23,7 +24,8 @@ pub(crate) fn placed(
 }
 
 fn push_globals(list: &mut Vec<(Var, i128)>, pairs: &[(Var, i128)]) -> Result<(), AllocError>
-    ensures { OnOk result (list.new.items ≡ list.old.items ++ filter (λ pair. is_global pair.0) pairs.now) }
+    ensures { OnOk result
+        (list.new.items ≡ list.old.items ++ filter (λ pair. is_global pair.0) pairs.now) }
 {
     for pair in pairs {
         if is_global(pair.0) {
@@ -35,7 +37,9 @@ fn push_globals(list: &mut Vec<(Var, i128)>, pairs: &[(Var, i128)]) -> Result<()
 
 fn push_shares(list: &mut Vec<(Var, i128)>, shares: &[Share]) -> Result<(), AllocError>
     requires { length shares.now < 2 ^ 32 }
-    ensures { OnOk result (list.new.items ≡ list.old.items ++ in_slots 0 (map (λ share. share.pairs.items) shares.now)) }
+    ensures { OnOk result
+        (list.new.items ≡ list.old.items ++ in_slots 0
+        (map (λ share. share.pairs.items) shares.now)) }
 {
     let mut slot = 0;
     for share in shares {
@@ -55,7 +59,8 @@ fn push_share(list: &mut Vec<(Var, i128)>, slot: u32, own: &[(u32, i128)]) -> Re
 }
 
 fn push_havocs(list: &mut Vec<(Var, i128)>, pairs: &[(Var, i128)]) -> Result<(), AllocError>
-    ensures { OnOk result (list.new.items ≡ list.old.items ++ filter (λ pair. is_havoc pair.0) pairs.now) }
+    ensures { OnOk result
+        (list.new.items ≡ list.old.items ++ filter (λ pair. is_havoc pair.0) pairs.now) }
 {
     for pair in pairs {
         if is_havoc(pair.0) {

@@ -13,7 +13,8 @@ use std::alloc::AllocError;
 pub(crate) fn place_of(after: &[(Var, Term)], variable: Var) -> usize
     requires { IsTrue (ascends after.now) }
     ensures within { result ≤ length after.now }
-    ensures parts { IsPartitionPoint (λ p. var_lt p.0 variable ≡ true) (λ p. var_lt p.0 variable ≡ false) after.now result }
+    ensures parts { IsPartitionPoint (λ p. var_lt p.0 variable ≡ true)
+        (λ p. var_lt p.0 variable ≡ false) after.now result }
 {
     after.partition_point(
         |pair: &(Var, Term)| -> bool

@@ -56,9 +56,12 @@ fn view_of(alloc: Global, state: &State, thread: usize) -> Result<View, AllocErr
 
 // Runs the ops, and answers whether no assume fails.
 fn run_ops(view: &mut View, ops: &[Op], values: &[i128]) -> Result<bool, RunEnd>
-    requires named { IsTrue (list_all (is_declared_op (length view.old.globals.items) (length view.old.locals.items)) ops.now) }
+    requires named { IsTrue
+        (list_all (is_declared_op (length view.old.globals.items)
+        (length view.old.locals.items)) ops.now) }
     requires values { length values.now ≡ havocs_in ops.now }
-    ensures runs { IfOk result (λ on. IsRunTo on (run ops.now (seen view.old) values.now) (seen view.new)) }
+    ensures runs { IfOk result
+        (λ on. IsRunTo on (run ops.now (seen view.old) values.now) (seen view.new)) }
     ensures fits { OnOk result (RunFits ops.now (seen view.old) values.now) }
     ensures past { IsErrOf result RunEnd.Past128 → ¬ RunFits ops.now (seen view.old) values.now }
 {

@@ -18,7 +18,8 @@ pub(crate) struct View {
 
 impl View {
     pub(crate) fn value_of(&self, variable: Var) -> i128
-        requires { IsTrue (is_declared (length self.now.globals.items) (length self.now.locals.items) variable) }
+        requires { IsTrue (is_declared (length self.now.globals.items)
+            (length self.now.locals.items) variable) }
         ensures { result ≡ value_at (seen self.now) variable }
     {
         match variable {
@@ -29,7 +30,8 @@ impl View {
     }
 
     pub(crate) fn set(&mut self, variable: Var, value: i128)
-        requires { IsTrue (is_declared (length self.old.globals.items) (length self.old.locals.items) variable) }
+        requires { IsTrue (is_declared (length self.old.globals.items)
+            (length self.old.locals.items) variable) }
         ensures { seen self.new ≡ with_value (seen self.old) variable value }
     {
         match variable {
@@ -41,8 +43,10 @@ impl View {
 
     // The term's value, or `None` where a product or a sum lies outside `i128`.
     pub(crate) fn evaluate(&self, term: &Term) -> Option<i128>
-        requires { IsTrue (is_declared_term (length self.now.globals.items) (length self.now.locals.items) term.now) }
-        ensures { SomeIff result (EvaluationFits (value_at (seen self.now)) term.now) (value (value_at (seen self.now)) term.now) }
+        requires { IsTrue (is_declared_term (length self.now.globals.items)
+            (length self.now.locals.items) term.now) }
+        ensures { SomeIff result (EvaluationFits (value_at (seen self.now)) term.now)
+            (value (value_at (seen self.now)) term.now) }
     {
         let mut sum: i128 = 0;
         for pair in term.pairs.as_slice() {
@@ -54,8 +58,10 @@ impl View {
     // Takes one op with this havoc value, and answers whether it isn't an assume that fails, or `None` where a product or a
     // sum lies outside `i128`.
     pub(crate) fn take(&mut self, op: &Op, havoc: i128) -> Option<bool>
-        requires { IsTrue (is_declared_op (length self.old.globals.items) (length self.old.locals.items) op.now) }
-        ensures answer { SomeIff result (OpRunFits (seen self.old) op.now) (goes_on (seen self.old) op.now) }
+        requires { IsTrue (is_declared_op (length self.old.globals.items)
+            (length self.old.locals.items) op.now) }
+        ensures answer { SomeIff result (OpRunFits (seen self.old) op.now)
+            (goes_on (seen self.old) op.now) }
         ensures after { IsSome result → seen self.new ≡ after_op (seen self.old) op.now havoc }
     {
         match op {

@@ -16,7 +16,8 @@ use std::collections::BTreeSet;
 /// Takes the time of a sort of the pairs, and of a look-up in a tree for each of them.
 pub fn descendants(alloc: Global, parents: &[Pair], node: u64) -> Result<Vec<u64>, AllocError>
     ensures ascending { IfOk result (λ nodes. IsStrictlyIncreasing nodes.items) }
-    ensures exact { IfOk result (λ nodes. (n : ℕ) → Contains nodes.items n ↔ Leads parents.now n node) }
+    ensures exact { IfOk result
+        (λ nodes. (n : ℕ) → Contains nodes.items n ↔ Leads parents.now n node) }
 {
     let sorted = sorted_by_parent(alloc, parents)?;
     let mut found = BTreeSet::new(alloc);
@@ -39,7 +40,8 @@ fn visit(
     found: &mut BTreeSet<u64>,
     waiting: &mut Vec<u64>,
 ) -> Result<(), AllocError>
-    ensures { OnOk result (Visits children.now children.now found.old waiting.old.items found.new waiting.new.items) }
+    ensures { OnOk result
+        (Visits children.now children.now found.old waiting.old.items found.new waiting.new.items) }
 {
     for child in children {
         if !found.insert(child.node)? {

@@ -16,7 +16,8 @@ use std::collections::BTreeSet;
 /// Takes the time of a look-up in a tree for each link and for each dropped node.
 pub fn leaning(alloc: Global, links: &[Pair], dropped: &[u64]) -> Result<Vec<u64>, AllocError>
     ensures ascending { IfOk result (λ nodes. IsStrictlyIncreasing nodes.items) }
-    ensures exact { IfOk result (λ nodes. (n : ℕ) → Contains nodes.items n ↔ Leans links.now dropped.now n) }
+    ensures exact { IfOk result
+        (λ nodes. (n : ℕ) → Contains nodes.items n ↔ Leans links.now dropped.now n) }
 {
     let gone = set_of(alloc, dropped)?;
     let nodes = leaning_on(alloc, links, &gone)?;

@@ -84,9 +84,12 @@ fn with_pairs(
     ensures weighted { IfOk result (λ all. All (IsWeighted rows) all.items) }
     ensures vectors { IfOk result (λ all. vectors_of all.items ≡ vectors_of made.items
         ++ all_combined rows variable (vectors_of (pointed_to positives.now)) (vectors_of (pointed_to negatives.now))) }
-    ensures fits { OnOk result (AllPairsFit rows variable (vectors_of (pointed_to positives.now)) (vectors_of (pointed_to negatives.now))) }
+    ensures fits { OnOk result
+        (AllPairsFit rows variable (vectors_of (pointed_to positives.now))
+        (vectors_of (pointed_to negatives.now))) }
     ensures past { IsErrOf result TermEnd.Past128
-        → ¬ AllPairsFit rows variable (vectors_of (pointed_to positives.now)) (vectors_of (pointed_to negatives.now)) }
+        → ¬ AllPairsFit rows variable (vectors_of (pointed_to positives.now))
+        (vectors_of (pointed_to negatives.now)) }
 {
     let mut all = made;
     for positive in positives {
@@ -110,9 +113,11 @@ fn with_pairs_of(
     ensures weighted { IfOk result (λ all. All (IsWeighted rows) all.items) }
     ensures vectors { IfOk result (λ all. vectors_of all.items ≡ vectors_of made.items
         ++ map (combined rows variable positive.now.vector) (vectors_of (pointed_to negatives.now))) }
-    ensures fits { OnOk result (All (PairFits rows variable positive.now.vector) (vectors_of (pointed_to negatives.now))) }
+    ensures fits { OnOk result
+        (All (PairFits rows variable positive.now.vector) (vectors_of (pointed_to negatives.now))) }
     ensures past { IsErrOf result TermEnd.Past128
-        → ¬ All (PairFits rows variable positive.now.vector) (vectors_of (pointed_to negatives.now)) }
+        → ¬ All (PairFits rows variable positive.now.vector)
+        (vectors_of (pointed_to negatives.now)) }
 {
     let mut all = made;
     for negative in negatives {

@@ -34,7 +34,8 @@ pub(crate) fn combined(
     requires first { IsPairable rows Positive variable p.now }
     requires second { IsPairable rows Negative variable q.now }
     ensures weighted { IfOk result (IsWeighted rows) }
-    ensures vector { IfOk result (λ made. made.vector ≡ combined rows variable p.now.vector q.now.vector) }
+    ensures vector { IfOk result
+        (λ made. made.vector ≡ combined rows variable p.now.vector q.now.vector) }
     ensures fits { OnOk result (PairFits rows variable p.now.vector q.now.vector) }
     ensures past { IsErrOf result TermEnd.Past128
         → ¬ PairFits rows variable p.now.vector q.now.vector }
@@ -68,9 +69,11 @@ fn weighted_entries(
     q: &[u128],
 ) -> Result<Vec<u128>, TermEnd>
     requires { length p.now ≡ length q.now }
-    ensures entries { IfOk result (λ sum. sum.items ≡ weighted_entries weights.first p.now weights.second q.now) }
+    ensures entries { IfOk result
+        (λ sum. sum.items ≡ weighted_entries weights.first p.now weights.second q.now) }
     ensures small { IfOk result (λ sum. All (λ n. n < 2 ^ 127) sum.items) }
-    ensures fits { OnOk result (AllZip (λ i j. WeightedFits weights.first (pos i) weights.second (pos j)) p.now q.now) }
+    ensures fits { OnOk result
+        (AllZip (λ i j. WeightedFits weights.first (pos i) weights.second (pos j)) p.now q.now) }
     ensures past { IsErrOf result TermEnd.Past128
         → ¬ AllZip (λ i j. WeightedFits weights.first (pos i) weights.second (pos j)) p.now q.now }
 {
@@ -103,11 +106,14 @@ fn weighted_row(alloc: Global, weights: Weights, p: &Row, q: &Row) -> Result<Row
     requires positive { (x : Var) × (pos 0 <ℤ coefficient x p.now.term.pairs) }
     requires second { weights.second < 2 ^ 127 }
     ensures coefficients { IfOk result (λ sum. (x : Var) → coefficient x sum.term.pairs
-        ≡ ((pos weights.first *ℤ coefficient x p.now.term.pairs) +ℤ (pos weights.second *ℤ coefficient x q.now.term.pairs))) }
+        ≡ ((pos weights.first *ℤ coefficient x p.now.term.pairs) +ℤ
+        (pos weights.second *ℤ coefficient x q.now.term.pairs))) }
     ensures constant { IfOk result (λ sum. sum.term.constant
-        ≡ ((pos weights.first *ℤ p.now.term.constant) +ℤ (pos weights.second *ℤ q.now.term.constant))) }
+        ≡ ((pos weights.first *ℤ p.now.term.constant) +ℤ
+        (pos weights.second *ℤ q.now.term.constant))) }
     ensures fits { OnOk result (RowFits weights.first p.now weights.second q.now) }
-    ensures past { IsErrOf result TermEnd.Past128 → ¬ RowFits weights.first p.now weights.second q.now }
+    ensures past { IsErrOf result TermEnd.Past128
+        → ¬ RowFits weights.first p.now weights.second q.now }
 {
     let first = within_signed(weights.first).ok_or(TermEnd::Past128)? as i128;
     // The proof takes from these calls that each variable stands once.

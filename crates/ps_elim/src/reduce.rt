@@ -79,7 +79,8 @@ fn divided_row(alloc: Global, row: &Row, divisor: u128) -> Result<Row, AllocErro
     requires constant { divisor ∣ unsigned_abs row.now.term.constant }
     ensures coefficients { IfOk result (λ new. (x : Var) → coefficient x row.now.term.pairs
         ≡ (pos divisor *ℤ coefficient x new.term.pairs)) }
-    ensures constant { IfOk result (λ new. row.now.term.constant ≡ (pos divisor *ℤ new.term.constant)) }
+    ensures constant { IfOk result
+        (λ new. row.now.term.constant ≡ (pos divisor *ℤ new.term.constant)) }
 {
     let list = divided(alloc, row.term.pairs.as_slice(), divisor)?;
     let constant = ceil_div(row.term.constant, divisor as i128);

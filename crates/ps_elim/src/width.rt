@@ -37,7 +37,8 @@ fn width_of_rows(rows: &[Row], variable: Var) -> u64
 // How many rows have a coefficient of the sign.
 #[tactic(auto, using(crate::proofs::Widths::count_step))]
 fn count_of(rows: &[Row], variable: Var, sign: Sign) -> usize
-    ensures count { result ≡ length (filter (λ r. is_of sign (coefficient variable r.term.pairs)) rows.now) }
+    ensures count { result
+        ≡ length (filter (λ r. is_of sign (coefficient variable r.term.pairs)) rows.now) }
     ensures few { result ≤ length rows.now }
 {
     let mut count = 0;

@@ -24,9 +24,12 @@ pub(crate) struct Turn {
 // take constant time.
 pub(crate) fn visit(rows: &[Row], lambda: &[u128], variable: Var, start: usize) -> Option<Turn>
     requires { length lambda.now ≡ length rows.now }
-    ensures fits { IfSome result (λ v. SumsFit (λ t. coefficient variable t.pairs) (pos 0) rows.now lambda.now) }
-    ensures past { IfNone result (¬ SumsFit (λ t. coefficient variable t.pairs) (pos 0) rows.now lambda.now) }
-    ensures sum { IfSome result (λ v. v.sum ≡ weighted (λ t. coefficient variable t.pairs) rows.now lambda.now) }
+    ensures fits { IfSome result
+        (λ v. SumsFit (λ t. coefficient variable t.pairs) (pos 0) rows.now lambda.now) }
+    ensures past { IfNone result
+        (¬ SumsFit (λ t. coefficient variable t.pairs) (pos 0) rows.now lambda.now) }
+    ensures sum { IfSome result
+        (λ v. v.sum ≡ weighted (λ t. coefficient variable t.pairs) rows.now lambda.now) }
     ensures next { IfSome result (λ v. IsNext (Some variable) rows.now v.next) }
 {
     let mut sum: i128 = 0;

@@ -71,7 +71,8 @@ pub fn chosen_too(
     number: u32,
 ) -> Result<Vec<Cover>, AllocError>
     requires { length covers.now ≡ length sets.now }
-    ensures { IfOk result (λ after. after.items ≡ covers_with number (numbers_of sets.now) covers.now) }
+    ensures { IfOk result
+        (λ after. after.items ≡ covers_with number (numbers_of sets.now) covers.now) }
 {
     let mut after = Vec::with_capacity(alloc, sets.len())?;
     for (at, set) in sets.iter().enumerate() {

@@ -60,7 +60,8 @@ fn branch(
     requires node { IsNode (numbers_of sets.now) node.now }
     requires within { place < length sets.now }
     requires unmet { HoldsAt (λ cover. cover ≡ Cover.Unmet) node.now.covers.items place }
-    ensures { OnOk result (Branches (numbers_of sets.now) node.now (slice_index_or (numbers_of sets.now) place [])
+    ensures { OnOk result
+        (Branches (numbers_of sets.now) node.now (slice_index_or (numbers_of sets.now) place [])
         waiting.old.items waiting.new.items) }
 {
     let set = sets[place].as_slice();

@@ -82,7 +82,8 @@ impl Source for MemorySource {
         ensures last { IsTrue self.new.failed ↔ IsErr result }
 
         ensures fails { IsErr result ↔ IsListed self.old.failing self.old.calls }
-        ensures gives { IfOk result (λ n. n ≡ min (min (length self.old.left) self.old.piece) (length into.old)) }
+        ensures gives { IfOk result
+            (λ n. n ≡ min (min (length self.old.left) self.old.piece) (length into.old)) }
         ensures counts { self.new.calls ≡ min (self.old.calls + 1) (2 ^ 64 - 1) }
         ensures same_piece { self.new.piece ≡ self.old.piece }
         ensures same_failing { self.new.failing ≡ self.old.failing }

@@ -32,10 +32,13 @@ pub fn read_all<S: Source>(alloc: Global, source: &mut S, most: usize) -> Result
     ensures within { IfOk result (λ bytes. vec_len bytes ≤ most) }
 
     // It is too long exactly where more than `most` bytes came before the end or a fault.
-    ensures long { IsErrOf result ReadEnd.Long → GaveMore most (S.left source.old) (S.left source.new) }
-    ensures failed_within { IsErrOf result ReadEnd.Failed → GaveAtMost most (S.left source.old) (S.left source.new) }
+    ensures long { IsErrOf result ReadEnd.Long
+        → GaveMore most (S.left source.old) (S.left source.new) }
+    ensures failed_within { IsErrOf result ReadEnd.Failed
+        → GaveAtMost most (S.left source.old) (S.left source.new) }
 
-    ensures failed { IsErrOf result ReadEnd.Failed → Rose (S.faults source.old) (S.faults source.new) }
+    ensures failed { IsErrOf result ReadEnd.Failed
+        → Rose (S.faults source.old) (S.faults source.new) }
     ensures failed_last { IsErrOf result ReadEnd.Failed → IsTrue (S.failed source.new) }
     ensures stayed { ¬ IsErrOf result ReadEnd.Failed → S.faults source.new ≡ S.faults source.old }
     ensures later { S.faults source.old ≤ S.faults source.new }

@@ -53,7 +53,8 @@ fn push_digit(value: u128, digit: u8) -> Option<u128>
 /// The value of a run of digits, which may have leading zeros, or none past 128 bits. Looks at each byte once.
 pub fn read_digits(digits: &[u8]) -> Option<u128>
     requires { are_digits digits.now ≡ true }
-    ensures { result ≡ (if nat_lt (digits_value 10 digits.now) (2 ^ 128) then Some (digits_value 10 digits.now) else None) }
+    ensures { result ≡ (if nat_lt (digits_value 10 digits.now) (2 ^ 128) then Some
+        (digits_value 10 digits.now) else None) }
 {
     let mut value: u128 = 0;
     for byte in digits {
@@ -77,7 +78,8 @@ fn number_of(field: &[u8]) -> Option<u128>
 
 /// The number of which the field is the canonical decimal. Looks at each byte at most three times.
 pub fn read_u128(field: &[u8]) -> Option<u128>
-    ensures canonical { MatchOption result ((n : ℕ) → n < 2 ^ 128 → IsDecimal field.now n → ⊥) (λ n. (n < 2 ^ 128) × IsDecimal field.now n) }
+    ensures canonical { MatchOption result ((n : ℕ) → n < 2 ^ 128 → IsDecimal field.now n → ⊥)
+        (λ n. (n < 2 ^ 128) × IsDecimal field.now n) }
     ensures function { result ≡ u128_of field.now }
 {
     number_of(field)
@@ -100,7 +102,8 @@ fn short_number_of(field: &[u8]) -> Option<u32>
 
 /// The number below 2 ^ 32 of which the field is the canonical decimal. Looks at each byte at most three times.
 pub fn read_u32(field: &[u8]) -> Option<u32>
-    ensures canonical { MatchOption result ((n : ℕ) → n < 2 ^ 32 → IsDecimal field.now n → ⊥) (λ n. (n < 2 ^ 32) × IsDecimal field.now n) }
+    ensures canonical { MatchOption result ((n : ℕ) → n < 2 ^ 32 → IsDecimal field.now n → ⊥)
+        (λ n. (n < 2 ^ 32) × IsDecimal field.now n) }
     ensures function { result ≡ u32_of field.now }
 {
     short_number_of(field)
@@ -143,7 +146,8 @@ fn signed_number_of(field: &[u8]) -> Option<i128>
 
 /// The signed number of which the field is the canonical decimal. Looks at each byte at most three times.
 pub fn read_i128(field: &[u8]) -> Option<i128>
-    ensures canonical { MatchOption result ((z : ℤ) → FitsSigned w128 z → IsSignedDecimal field.now z → ⊥) (λ z. FitsSigned w128 z × IsSignedDecimal field.now z) }
+    ensures canonical { MatchOption result ((z : ℤ) → FitsSigned w128 z
+        → IsSignedDecimal field.now z → ⊥) (λ z. FitsSigned w128 z × IsSignedDecimal field.now z) }
     ensures function { result ≡ i128_of field.now }
 {
     signed_number_of(field)

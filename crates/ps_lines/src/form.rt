@@ -46,7 +46,8 @@ pub fn while_lines<'a, F: Form>(
     limit: u32,
     reader: &mut Reader<'a>,
 ) -> Result<Vec<F::Value>, FormEnd>
-    ensures { Gives (λ v. v.items) result reader.new (while_at word.now F.reading limit reader.old) }
+    ensures { Gives (λ v. v.items) result reader.new
+        (while_at word.now F.reading limit reader.old) }
 {
     let mut list = Vec::new(alloc);
     for _ in 0..limit {

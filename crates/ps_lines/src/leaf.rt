@@ -57,7 +57,8 @@ fn member<'a, L: Leaf>(
     before: Option<L::Value>,
     reader: &mut Reader<'a>,
 ) -> Result<Option<L::Value>, FormFault>
-    ensures { Reads (λ x. x) result reader.new (member_at (goes until.now) (L.reading before) reader.old) }
+    ensures { Reads (λ x. x) result reader.new
+        (member_at (goes until.now) (L.reading before) reader.old) }
 {
     if !goes_on(until, reader) {
         return Ok(None);
@@ -73,7 +74,8 @@ pub fn list<'a, L: Leaf>(
     until: &Until<'_>,
     reader: &mut Reader<'a>,
 ) -> Result<Vec<L::Value>, FormEnd>
-    ensures { Gives (λ v. v.items) result reader.new (list_at (goes until.now) L.reading (λ _ x. Some x) None reader.old) }
+    ensures { Gives (λ v. v.items) result reader.new
+        (list_at (goes until.now) L.reading (λ _ x. Some x) None reader.old) }
 {
     let mut list = Vec::new(alloc);
     let mut before = None;

@@ -49,7 +49,9 @@ fn next_line(alloc: Global, bytes: &[u8], start: u32) -> Result<Option<(Spans, u
 pub fn lines(alloc: Global, bytes: &[u8], first: u32) -> Result<Vec<Line>, AllocError>
     requires { first + length bytes.now < 2 ^ 32 }
     // The lines' numbers and the texts of their fields.
-    ensures fields { IfOk result (λ lines. map (numbered_fields bytes.now) lines.items ≡ numbered first (lines_of (tokens bytes.now))) }
+    ensures fields { IfOk result
+        (λ lines. map (numbered_fields bytes.now) lines.items
+        ≡ numbered first (lines_of (tokens bytes.now))) }
     // The fields stand inside the text.
     ensures within { IfOk result (λ lines. All (IsLineWithin (length bytes.now)) lines.items) }
 {

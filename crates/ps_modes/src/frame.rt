@@ -26,7 +26,8 @@ pub(crate) fn answer_input<J: Judge, S: Source, K: Sink>(
     source: &mut S,
     sink: &mut K,
 ) -> u8
-    ensures statuses { IsOneOf result (Holds ∷ Fails ∷ Unknown ∷ BadInput ∷ ReadFault ∷ WriteFault ∷ NoMemory ∷ []) }
+    ensures statuses { IsOneOf result
+        (Holds ∷ Fails ∷ Unknown ∷ BadInput ∷ ReadFault ∷ WriteFault ∷ NoMemory ∷ []) }
 
     // The status and the text that the input owes, and the whole text was written.
     ensures answer { result < code BadWords → SomeAnswer (J.owed judge.now) (S.left source.old)
@@ -37,15 +38,19 @@ pub(crate) fn answer_input<J: Judge, S: Source, K: Sink>(
         (λ status text. TookPrefix (K.written sink.old) (K.written sink.new) text) }
 
     // A fault of the source, within the limit, ended the reading, and nothing was written.
-    ensures read_fault { result ≡ code ReadFault → Rose (S.faults source.old) (S.faults source.new) }
+    ensures read_fault { result ≡ code ReadFault
+        → Rose (S.faults source.old) (S.faults source.new) }
     ensures read_fault_last { result ≡ code ReadFault → IsTrue (S.failed source.new) }
-    ensures read_fault_within { result ≡ code ReadFault → GaveAtMost MOST_BYTES (S.left source.old) (S.left source.new) }
-    ensures read_fault_text { result ≡ code ReadFault → Keeps (K.written sink.old) (K.written sink.new) }
+    ensures read_fault_within { result ≡ code ReadFault
+        → GaveAtMost MOST_BYTES (S.left source.old) (S.left source.new) }
+    ensures read_fault_text { result ≡ code ReadFault
+        → Keeps (K.written sink.old) (K.written sink.new) }
     ensures read_stayed { ¬ (result ≡ code ReadFault) → S.faults source.new ≡ S.faults source.old }
 
     ensures write_fault { result ≡ code WriteFault → Rose (K.faults sink.old) (K.faults sink.new) }
     ensures write_stayed { ¬ (result ≡ code WriteFault) → K.faults sink.new ≡ K.faults sink.old }
-    ensures no_memory_text { result ≡ code NoMemory → Keeps (K.written sink.old) (K.written sink.new) }
+    ensures no_memory_text { result ≡ code NoMemory
+        → Keeps (K.written sink.old) (K.written sink.new) }
 {
     match answer_made(alloc, judge, source) {
         Ok(answer) => match write_all(sink, answer.text.as_slice()) {
@@ -62,11 +67,14 @@ fn answer_made<J: Judge, S: Source>(
     judge: &J,
     source: &mut S,
 ) -> Result<Answer, Status>
-    ensures answer { IfOk result (λ answer. Settled (J.owed judge.now) (S.left source.old) answer.status answer.text.items) }
+    ensures answer { IfOk result
+        (λ answer. Settled (J.owed judge.now) (S.left source.old) answer.status answer.text.items) }
     ensures end { IfErr result (λ status. (status ≡ ReadFault) ⊎ (status ≡ NoMemory)) }
-    ensures read_fault { IsErrOf result ReadFault → Rose (S.faults source.old) (S.faults source.new) }
+    ensures read_fault { IsErrOf result ReadFault
+        → Rose (S.faults source.old) (S.faults source.new) }
     ensures read_fault_last { IsErrOf result ReadFault → IsTrue (S.failed source.new) }
-    ensures read_fault_within { IsErrOf result ReadFault → GaveAtMost MOST_BYTES (S.left source.old) (S.left source.new) }
+    ensures read_fault_within { IsErrOf result ReadFault
+        → GaveAtMost MOST_BYTES (S.left source.old) (S.left source.new) }
     ensures read_stayed { ¬ IsErrOf result ReadFault → S.faults source.new ≡ S.faults source.old }
 {
     match read_all(alloc, source, MOST_BYTES) {

@@ -14,6 +14,7 @@ pub(crate) trait Judge {
     /// The one answer that it owes to this input.
     fn judge(&self, alloc: Global, input: &[u8]) -> Result<Answer, AllocError>
         requires { IsShort input.now }
-        ensures answer { IfOk result (λ answer. IsAnswer (owed self.now input.now) answer.status answer.text.items) }
+        ensures answer { IfOk result
+            (λ answer. IsAnswer (owed self.now input.now) answer.status answer.text.items) }
         ensures verdict { IfOk result (λ answer. IsVerdict answer.status) };
 }

@@ -15,7 +15,8 @@ ghost use Rattle.ps_modes.specs.declared.texts.TheConstants.{NO, TOO_LONG, YES};
 
 /// Words ask for one mode at most.
 pub fn one_mode_is_asked_for()
-    ensures { (words : List (String Global)) (a b : Mode) → AskFor words a → AskFor words b → a ≡ b }
+    ensures { (words : List (String Global)) (a b : Mode) → AskFor words a → AskFor words b
+        → a ≡ b }
 {}
 
 /// An input is owed one status and one text at most, whatever the mode.
@@ -26,16 +27,20 @@ pub fn one_answer_is_owed()
 
 /// An input that is too long is owed one line, whatever the mode.
 pub fn a_long_input_is_owed_one_line()
-    ensures { (mode : Mode) (input : List ℕ) (status : Status) (text : List ℕ) → MOST_BYTES < length input
+    ensures { (mode : Mode) (input : List ℕ) (status : Status) (text : List ℕ)
+        → MOST_BYTES < length input
         → (Owes (owed_by mode) input status text ↔ ((status ≡ BadInput) × (text ≡ TOO_LONG.now))) }
 {}
 
 /// `refute` owes `yes` exactly where the input says so, `no` likewise, and beside them a refusal alone.
 pub fn refute_owes()
     ensures yes { (input text : List ℕ)
-        → (Owes (owed_by Refute) input Holds text ↔ ((IsShort input × SaysYes input) × (text ≡ YES.now))) }
+        → (Owes (owed_by Refute) input Holds text
+        ↔ ((IsShort input × SaysYes input) × (text ≡ YES.now))) }
     ensures no { (input text : List ℕ)
-        → (Owes (owed_by Refute) input Fails text ↔ ((IsShort input × SaysNo input) × (text ≡ NO.now))) }
+        → (Owes (owed_by Refute) input Fails text
+        ↔ ((IsShort input × SaysNo input) × (text ≡ NO.now))) }
     ensures statuses { (input : List ℕ) (status : Status) (text : List ℕ)
-        → Owes (owed_by Refute) input status text → Contains (Holds ∷ Fails ∷ BadInput ∷ []) status }
+        → Owes (owed_by Refute) input status text
+        → Contains (Holds ∷ Fails ∷ BadInput ∷ []) status }
 {}

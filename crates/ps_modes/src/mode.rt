@@ -25,7 +25,8 @@ impl Mode {
 
     /// The mode that has this name. It takes one comparison a mode.
     pub fn named(name: &str) -> Option<Mode>
-        ensures { MatchOption result ((mode : Mode) → mode_name mode ≢ name.now) (λ mode. mode_name mode ≡ name.now) }
+        ensures { MatchOption result ((mode : Mode) → mode_name mode ≢ name.now)
+            (λ mode. mode_name mode ≡ name.now) }
     {
         if name == Mode::Refute.name() {
             return Some(Mode::Refute);

@@ -37,11 +37,13 @@ pub fn run<R, S: Source, K: Sink, G: Gate + Sync>(
 ) -> u8
 where
     R: Threads + Wait + Sync,
-    ensures statuses { IsOneOf result (Holds ∷ Fails ∷ BadInput ∷ BadWords ∷ ReadFault ∷ WriteFault ∷ NoMemory ∷ []) }
+    ensures statuses { IsOneOf result
+        (Holds ∷ Fails ∷ BadInput ∷ BadWords ∷ ReadFault ∷ WriteFault ∷ NoMemory ∷ []) }
 
     // Words that ask for nothing that is built.
     ensures usage { Exactly result BadWords (AskForNone words.now) }
-    ensures usage_text { result ≡ code BadWords → Appends (K.written sink.old) (K.written sink.new) USAGE.now }
+    ensures usage_text { result ≡ code BadWords
+        → Appends (K.written sink.old) (K.written sink.new) USAGE.now }
     ensures usage_prefix { AskForNone words.now → result ≡ code WriteFault
         → TookPrefix (K.written sink.old) (K.written sink.new) USAGE.now }
     ensures unread { AskForNone words.now → source.new ≡ source.old }
@@ -57,14 +59,18 @@ where
         (λ status text. TookPrefix (K.written sink.old) (K.written sink.new) text) }
 
     // Faults of the outside, each with its cause, and want of memory.
-    ensures read_fault { result ≡ code ReadFault → Rose (S.faults source.old) (S.faults source.new) }
+    ensures read_fault { result ≡ code ReadFault
+        → Rose (S.faults source.old) (S.faults source.new) }
     ensures read_fault_last { result ≡ code ReadFault → IsTrue (S.failed source.new) }
-    ensures read_fault_within { result ≡ code ReadFault → GaveAtMost MOST_BYTES (S.left source.old) (S.left source.new) }
-    ensures read_fault_text { result ≡ code ReadFault → Keeps (K.written sink.old) (K.written sink.new) }
+    ensures read_fault_within { result ≡ code ReadFault
+        → GaveAtMost MOST_BYTES (S.left source.old) (S.left source.new) }
+    ensures read_fault_text { result ≡ code ReadFault
+        → Keeps (K.written sink.old) (K.written sink.new) }
     ensures read_stayed { ¬ (result ≡ code ReadFault) → S.faults source.new ≡ S.faults source.old }
     ensures write_fault { result ≡ code WriteFault → Rose (K.faults sink.old) (K.faults sink.new) }
     ensures write_stayed { ¬ (result ≡ code WriteFault) → K.faults sink.new ≡ K.faults sink.old }
-    ensures no_memory_text { result ≡ code NoMemory → Keeps (K.written sink.old) (K.written sink.new) }
+    ensures no_memory_text { result ≡ code NoMemory
+        → Keeps (K.written sink.old) (K.written sink.new) }
 {
     match mode_asked(words) {
         Some(Mode::Refute) => refute_run(alloc, source, sink),

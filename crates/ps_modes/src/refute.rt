@@ -26,12 +26,18 @@ use std::alloc::{AllocError, Global};
 ///
 /// The answer is made whole before anything is written.
 pub fn refute_run<S: Source, K: Sink>(alloc: Global, source: &mut S, sink: &mut K) -> u8
-    ensures statuses { IsOneOf result (Holds ∷ Fails ∷ BadInput ∷ ReadFault ∷ WriteFault ∷ NoMemory ∷ []) }
-    ensures yes { IfSome (S.left source.old) (λ input. Exactly result Holds (IsShort input × SaysYes input)) }
-    ensures yes_text { result ≡ code Holds → Appends (K.written sink.old) (K.written sink.new) YES.now }
-    ensures no { IfSome (S.left source.old) (λ input. Exactly result Fails (IsShort input × SaysNo input)) }
-    ensures no_text { result ≡ code Fails → Appends (K.written sink.old) (K.written sink.new) NO.now }
-    ensures refused { IfSome (S.left source.old) (λ input. Exactly result BadInput (IsRefused input)) }
+    ensures statuses { IsOneOf result
+        (Holds ∷ Fails ∷ BadInput ∷ ReadFault ∷ WriteFault ∷ NoMemory ∷ []) }
+    ensures yes { IfSome (S.left source.old)
+        (λ input. Exactly result Holds (IsShort input × SaysYes input)) }
+    ensures yes_text { result ≡ code Holds
+        → Appends (K.written sink.old) (K.written sink.new) YES.now }
+    ensures no { IfSome (S.left source.old)
+        (λ input. Exactly result Fails (IsShort input × SaysNo input)) }
+    ensures no_text { result ≡ code Fails
+        → Appends (K.written sink.old) (K.written sink.new) NO.now }
+    ensures refused { IfSome (S.left source.old)
+        (λ input. Exactly result BadInput (IsRefused input)) }
     ensures refused_text { result ≡ code BadInput → IfSome (S.left source.old) (λ input.
         (text : List ℕ) × Refusal input text × Appends (K.written sink.old) (K.written sink.new) text) }
 
@@ -43,14 +49,18 @@ pub fn refute_run<S: Source, K: Sink>(alloc: Global, source: &mut S, sink: &mut 
     ensures prefix { result ≡ code WriteFault → SomeAnswer Owed (S.left source.old)
         (λ status text. TookPrefix (K.written sink.old) (K.written sink.new) text) }
 
-    ensures read_fault { result ≡ code ReadFault → Rose (S.faults source.old) (S.faults source.new) }
+    ensures read_fault { result ≡ code ReadFault
+        → Rose (S.faults source.old) (S.faults source.new) }
     ensures read_fault_last { result ≡ code ReadFault → IsTrue (S.failed source.new) }
-    ensures read_fault_within { result ≡ code ReadFault → GaveAtMost MOST_BYTES (S.left source.old) (S.left source.new) }
-    ensures read_fault_text { result ≡ code ReadFault → Keeps (K.written sink.old) (K.written sink.new) }
+    ensures read_fault_within { result ≡ code ReadFault
+        → GaveAtMost MOST_BYTES (S.left source.old) (S.left source.new) }
+    ensures read_fault_text { result ≡ code ReadFault
+        → Keeps (K.written sink.old) (K.written sink.new) }
     ensures read_stayed { ¬ (result ≡ code ReadFault) → S.faults source.new ≡ S.faults source.old }
     ensures write_fault { result ≡ code WriteFault → Rose (K.faults sink.old) (K.faults sink.new) }
     ensures write_stayed { ¬ (result ≡ code WriteFault) → K.faults sink.new ≡ K.faults sink.old }
-    ensures no_memory_text { result ≡ code NoMemory → Keeps (K.written sink.old) (K.written sink.new) }
+    ensures no_memory_text { result ≡ code NoMemory
+        → Keeps (K.written sink.old) (K.written sink.new) }
 {
     answer_input(alloc, &Refute, source, sink)
 }

@@ -26,7 +26,8 @@ fn skip<'b>(cursor: &mut Cursor<'b>) -> Result<StmtKind, ReadRefusal>
 impl<'a> Parser<'a> {
     #[tactic(auto, unfolding(crate::specs::Blocks::assign_at, crate::specs::Blocks::ended_at, crate::specs::Reading::after_word, crate::specs::Reading::and_then))]
     fn assign<'b>(&self, cursor: &mut Cursor<'b>) -> Result<StmtKind, ReadRefusal>
-        ensures { Gives (λ x. x) result cursor.new (assign_at (names_in self.now.scope) self.now.most cursor.old) }
+        ensures { Gives (λ x. x) result cursor.new
+            (assign_at (names_in self.now.scope) self.now.most cursor.old) }
     {
         let variable = self.variable(cursor)?;
         cursor.word(TokenKind::Becomes)?;
@@ -47,7 +48,9 @@ impl<'a> Parser<'a> {
 
     #[tactic(auto, unfolding(crate::specs::Blocks::cond_stmt_at, crate::specs::Blocks::ended_at, crate::specs::Reading::after_word, crate::specs::Reading::and_then))]
     fn assume<'b>(&self, levels: u32, cursor: &mut Cursor<'b>) -> Result<StmtKind, ReadRefusal>
-        ensures { Gives (λ x. x) result cursor.new (cond_stmt_at kind.Assume stmt.Assume (names_in self.now.scope) self.now.most levels cursor.old) }
+        ensures { Gives (λ x. x) result cursor.new
+            (cond_stmt_at kind.Assume stmt.Assume
+            (names_in self.now.scope) self.now.most levels cursor.old) }
     {
         cursor.word(TokenKind::Assume)?;
         let cond = self.cond(levels, cursor)?;
@@ -57,7 +60,9 @@ impl<'a> Parser<'a> {
 
     #[tactic(auto, unfolding(crate::specs::Blocks::cond_stmt_at, crate::specs::Blocks::ended_at, crate::specs::Reading::after_word, crate::specs::Reading::and_then))]
     fn assertion<'b>(&self, levels: u32, cursor: &mut Cursor<'b>) -> Result<StmtKind, ReadRefusal>
-        ensures { Gives (λ x. x) result cursor.new (cond_stmt_at kind.Assert stmt.Assert (names_in self.now.scope) self.now.most levels cursor.old) }
+        ensures { Gives (λ x. x) result cursor.new
+            (cond_stmt_at kind.Assert stmt.Assert
+            (names_in self.now.scope) self.now.most levels cursor.old) }
     {
         cursor.word(TokenKind::Assert)?;
         let cond = self.cond(levels, cursor)?;
@@ -68,7 +73,8 @@ impl<'a> Parser<'a> {
     #[cycle(block)]
     #[tactic(auto, unfolding(crate::specs::Blocks::atomic_at, crate::specs::Reading::after_word, crate::specs::Reading::and_then))]
     fn atomic<'b>(&self, levels: u32, cursor: &mut Cursor<'b>) -> Result<StmtKind, ReadRefusal>
-        ensures { Gives (λ x. x) result cursor.new (atomic_at (block_at (names_in self.now.scope) self.now.most levels true) cursor.old) }
+        ensures { Gives (λ x. x) result cursor.new
+            (atomic_at (block_at (names_in self.now.scope) self.now.most levels true) cursor.old) }
     {
         cursor.word(TokenKind::Atomic)?;
         let block = self.block(levels, true, cursor)?;
@@ -84,7 +90,8 @@ impl<'a> Parser<'a> {
         atomic: bool,
         cursor: &mut Cursor<'b>,
     ) -> Result<Items<Stmt>, ReadRefusal>
-        ensures { Gives (λ x. x) result cursor.new (else_at (block_at (names_in self.now.scope) self.now.most levels atomic) cursor.old) }
+        ensures { Gives (λ x. x) result cursor.new
+            (else_at (block_at (names_in self.now.scope) self.now.most levels atomic) cursor.old) }
     {
         if !cursor.next_is(TokenKind::Else) {
             return Ok(Items::new(self.alloc));
@@ -101,7 +108,9 @@ impl<'a> Parser<'a> {
         atomic: bool,
         cursor: &mut Cursor<'b>,
     ) -> Result<StmtKind, ReadRefusal>
-        ensures { Gives (λ x. x) result cursor.new (if_at (block_at (names_in self.now.scope) self.now.most levels atomic) (names_in self.now.scope) self.now.most levels cursor.old) }
+        ensures { Gives (λ x. x) result cursor.new
+            (if_at (block_at (names_in self.now.scope) self.now.most levels atomic)
+            (names_in self.now.scope) self.now.most levels cursor.old) }
     {
         cursor.word(TokenKind::If)?;
         let test = self.parens(levels, cursor)?;
@@ -118,7 +127,9 @@ impl<'a> Parser<'a> {
         atomic: bool,
         cursor: &mut Cursor<'b>,
     ) -> Result<StmtKind, ReadRefusal>
-        ensures { Gives (λ x. x) result cursor.new (while_stmt_at atomic (block_at (names_in self.now.scope) self.now.most levels atomic) (names_in self.now.scope) self.now.most levels cursor.old) }
+        ensures { Gives (λ x. x) result cursor.new
+            (while_stmt_at atomic (block_at (names_in self.now.scope) self.now.most levels atomic)
+            (names_in self.now.scope) self.now.most levels cursor.old) }
     {
         if atomic {
             return Err(ReadRefusal::LoopInAtomic(cursor.place()));
@@ -138,7 +149,9 @@ impl<'a> Parser<'a> {
         atomic: bool,
         cursor: &mut Cursor<'b>,
     ) -> Result<StmtKind, ReadRefusal>
-        ensures { Gives (λ x. x) result cursor.new (kind_at (block_at (names_in self.now.scope) self.now.most levels) atomic (names_in self.now.scope) self.now.most levels cursor.old) }
+        ensures { Gives (λ x. x) result cursor.new
+            (kind_at (block_at (names_in self.now.scope) self.now.most levels) atomic
+            (names_in self.now.scope) self.now.most levels cursor.old) }
     {
         if cursor.next_is(TokenKind::Name) {
             self.assign(cursor)
@@ -169,7 +182,9 @@ impl<'a> Parser<'a> {
         atomic: bool,
         cursor: &mut Cursor<'b>,
     ) -> Result<Stmt, ReadRefusal>
-        ensures { Gives (λ x. x) result cursor.new (stmt_at (block_at (names_in self.now.scope) self.now.most levels) atomic (names_in self.now.scope) self.now.most levels cursor.old) }
+        ensures { Gives (λ x. x) result cursor.new
+            (stmt_at (block_at (names_in self.now.scope) self.now.most levels) atomic
+            (names_in self.now.scope) self.now.most levels cursor.old) }
     {
         let place = cursor.place();
         let kind = self.kind(levels, atomic, cursor)?;
@@ -185,7 +200,10 @@ impl<'a> Parser<'a> {
         atomic: bool,
         cursor: &mut Cursor<'b>,
     ) -> Result<Vec<Stmt>, ReadRefusal>
-        ensures { Gives (λ v. v.items) result cursor.new (while_at has_more (stmt_at (block_at (names_in self.now.scope) self.now.most levels) atomic (names_in self.now.scope) self.now.most levels) self.now.most cursor.old) }
+        ensures { Gives (λ v. v.items) result cursor.new
+            (while_at has_more (stmt_at
+            (block_at (names_in self.now.scope) self.now.most levels) atomic
+            (names_in self.now.scope) self.now.most levels) self.now.most cursor.old) }
     {
         let mut stmts = Vec::new(self.alloc);
         for _ in 0..self.most {
@@ -206,7 +224,8 @@ impl<'a> Parser<'a> {
         atomic: bool,
         cursor: &mut Cursor<'b>,
     ) -> Result<Items<Stmt>, ReadRefusal>
-        ensures { Gives (λ x. x) result cursor.new (block_at (names_in self.now.scope) self.now.most (suc levels) atomic cursor.old) }
+        ensures { Gives (λ x. x) result cursor.new
+            (block_at (names_in self.now.scope) self.now.most (suc levels) atomic cursor.old) }
     {
         cursor.word(TokenKind::OpenBrace)?;
         let stmts = self.stmts(levels, atomic, cursor)?;
@@ -223,7 +242,8 @@ impl<'a> Parser<'a> {
         atomic: bool,
         cursor: &mut Cursor<'b>,
     ) -> Result<Items<Stmt>, ReadRefusal>
-        ensures { Gives (λ x. x) result cursor.new (block_at (names_in self.now.scope) self.now.most levels atomic cursor.old) }
+        ensures { Gives (λ x. x) result cursor.new
+            (block_at (names_in self.now.scope) self.now.most levels atomic cursor.old) }
     {
         if levels == 0 {
             let open = cursor.word(TokenKind::OpenBrace)?;

@@ -18,7 +18,8 @@ use sqlite_items::{Boxed, Items};
 
 // One member is itself, several are an `And`.
 fn all_of(mut members: Vec<Cond>) -> Cond
-    ensures { (c : Cond) (cs : List Cond) → members.items ≡ c ∷ cs → result ≡ one_or_all cond.And c cs }
+    ensures { (c : Cond) (cs : List Cond) → members.items ≡ c ∷ cs
+        → result ≡ one_or_all cond.And c cs }
 {
     if members.len() == 1 {
         members.remove(0)
@@ -29,7 +30,8 @@ fn all_of(mut members: Vec<Cond>) -> Cond
 
 // One member is itself, several are an `Or`.
 fn any_of(mut members: Vec<Cond>) -> Cond
-    ensures { (c : Cond) (cs : List Cond) → members.items ≡ c ∷ cs → result ≡ one_or_all cond.Or c cs }
+    ensures { (c : Cond) (cs : List Cond) → members.items ≡ c ∷ cs
+        → result ≡ one_or_all cond.Or c cs }
 {
     if members.len() == 1 {
         members.remove(0)
@@ -50,7 +52,8 @@ impl<'a> Parser<'a> {
     // A condition without `&&` and `||`, where no level may be opened.
     #[tactic(auto, unfolding(crate::specs::Conds::unary_at, crate::specs::Reading::and_then))]
     fn flat_unary<'b>(&self, cursor: &mut Cursor<'b>) -> Result<Cond, ReadRefusal>
-        ensures { Gives (λ x. x) result cursor.new (unary_at (names_in self.now.scope) self.now.most 0 cursor.old) }
+        ensures { Gives (λ x. x) result cursor.new
+            (unary_at (names_in self.now.scope) self.now.most 0 cursor.old) }
     {
         if opens(cursor) {
             return Err(ReadRefusal::Limit(cursor.place(), LimitName::Depth));
@@ -63,7 +66,8 @@ impl<'a> Parser<'a> {
     #[cycle(cond)]
     #[tactic(auto, unfolding(crate::specs::Conds::unary_at, crate::specs::Conds::cond_at, crate::specs::Reading::after_word, crate::specs::Reading::and_then))]
     fn nested_unary<'b>(&self, levels: u32, cursor: &mut Cursor<'b>) -> Result<Cond, ReadRefusal>
-        ensures { Gives (λ x. x) result cursor.new (unary_at (names_in self.now.scope) self.now.most (suc levels) cursor.old) }
+        ensures { Gives (λ x. x) result cursor.new
+            (unary_at (names_in self.now.scope) self.now.most (suc levels) cursor.old) }
     {
         if cursor.next_is(TokenKind::Not) {
             cursor.word(TokenKind::Not)?;
@@ -83,7 +87,8 @@ impl<'a> Parser<'a> {
     // A condition without `&&` and `||`, where so many levels may still be opened.
     #[cycle(cond)]
     fn unary<'b>(&self, levels: u32, cursor: &mut Cursor<'b>) -> Result<Cond, ReadRefusal>
-        ensures { Gives (λ x. x) result cursor.new (unary_at (names_in self.now.scope) self.now.most levels cursor.old) }
+        ensures { Gives (λ x. x) result cursor.new
+            (unary_at (names_in self.now.scope) self.now.most levels cursor.old) }
     {
         if levels == 0 {
             return self.flat_unary(cursor);
@@ -100,7 +105,11 @@ impl<'a> Parser<'a> {
         mut members: Vec<Cond>,
         cursor: &mut Cursor<'b>,
     ) -> Result<Vec<Cond>, ReadRefusal>
-        ensures { Gives (λ v. v.items) result cursor.new (with_front members.items (while_at (next_is kind.And) (after_word kind.And (unary_at (names_in self.now.scope) self.now.most levels)) self.now.most cursor.old)) }
+        ensures { Gives (λ v. v.items) result cursor.new
+            (with_front members.items
+            (while_at (next_is kind.And)
+            (after_word kind.And
+            (unary_at (names_in self.now.scope) self.now.most levels)) self.now.most cursor.old)) }
     {
         for _ in 0..self.most {
             if !cursor.next_is(TokenKind::And) {
@@ -116,7 +125,9 @@ impl<'a> Parser<'a> {
     #[cycle(cond)]
     #[tactic(auto, unfolding(crate::specs::Conds::conj_with, crate::specs::Conds::members_at, crate::specs::Reading::and_then))]
     fn conj<'b>(&self, levels: u32, cursor: &mut Cursor<'b>) -> Result<Cond, ReadRefusal>
-        ensures { Gives (λ x. x) result cursor.new (conj_with (unary_at (names_in self.now.scope) self.now.most levels) self.now.most cursor.old) }
+        ensures { Gives (λ x. x) result cursor.new
+            (conj_with (unary_at
+            (names_in self.now.scope) self.now.most levels) self.now.most cursor.old) }
     {
         let first = self.unary(levels, cursor)?;
         let mut members = Vec::new(self.alloc);
@@ -134,7 +145,12 @@ impl<'a> Parser<'a> {
         mut members: Vec<Cond>,
         cursor: &mut Cursor<'b>,
     ) -> Result<Vec<Cond>, ReadRefusal>
-        ensures { Gives (λ v. v.items) result cursor.new (with_front members.items (while_at (next_is kind.Or) (after_word kind.Or (conj_with (unary_at (names_in self.now.scope) self.now.most levels) self.now.most)) self.now.most cursor.old)) }
+        ensures { Gives (λ v. v.items) result cursor.new
+            (with_front members.items
+            (while_at (next_is kind.Or)
+            (after_word kind.Or (conj_with
+            (unary_at (names_in self.now.scope) self.now.most levels) self.now.most)) self.now.most
+            cursor.old)) }
     {
         for _ in 0..self.most {
             if !cursor.next_is(TokenKind::Or) {
@@ -150,7 +166,8 @@ impl<'a> Parser<'a> {
     #[cycle(cond)]
     #[tactic(auto, unfolding(crate::specs::Conds::cond_at, crate::specs::Conds::cond_with, crate::specs::Conds::members_at, crate::specs::Reading::and_then))]
     pub(crate) fn cond<'b>(&self, levels: u32, cursor: &mut Cursor<'b>) -> Result<Cond, ReadRefusal>
-        ensures { Gives (λ x. x) result cursor.new (cond_at (names_in self.now.scope) self.now.most levels cursor.old) }
+        ensures { Gives (λ x. x) result cursor.new
+            (cond_at (names_in self.now.scope) self.now.most levels cursor.old) }
     {
         let first = self.conj(levels, cursor)?;
         let mut members = Vec::new(self.alloc);
@@ -162,7 +179,8 @@ impl<'a> Parser<'a> {
     // What stands in the parentheses after `if` and `while`.
     #[tactic(auto, unfolding(crate::specs::Conds::test_at, crate::specs::Reading::and_then))]
     fn test<'b>(&self, levels: u32, cursor: &mut Cursor<'b>) -> Result<Test, ReadRefusal>
-        ensures { Gives (λ x. x) result cursor.new (test_at (names_in self.now.scope) self.now.most levels cursor.old) }
+        ensures { Gives (λ x. x) result cursor.new
+            (test_at (names_in self.now.scope) self.now.most levels cursor.old) }
     {
         if cursor.next_is(TokenKind::Star) {
             cursor.word(TokenKind::Star)?;
@@ -175,7 +193,8 @@ impl<'a> Parser<'a> {
     // A test in its parentheses, where so many levels may be opened in them.
     #[tactic(auto, unfolding(crate::specs::Conds::parens_at, crate::specs::Reading::and_then))]
     fn nested_parens<'b>(&self, levels: u32, cursor: &mut Cursor<'b>) -> Result<Test, ReadRefusal>
-        ensures { Gives (λ x. x) result cursor.new (parens_at (names_in self.now.scope) self.now.most (suc levels) cursor.old) }
+        ensures { Gives (λ x. x) result cursor.new
+            (parens_at (names_in self.now.scope) self.now.most (suc levels) cursor.old) }
     {
         cursor.word(TokenKind::OpenParen)?;
         let test = self.test(levels, cursor)?;
@@ -190,7 +209,8 @@ impl<'a> Parser<'a> {
         levels: u32,
         cursor: &mut Cursor<'b>,
     ) -> Result<Test, ReadRefusal>
-        ensures { Gives (λ x. x) result cursor.new (parens_at (names_in self.now.scope) self.now.most levels cursor.old) }
+        ensures { Gives (λ x. x) result cursor.new
+            (parens_at (names_in self.now.scope) self.now.most levels cursor.old) }
     {
         if levels == 0 {
             let open = cursor.word(TokenKind::OpenParen)?;

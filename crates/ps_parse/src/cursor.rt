@@ -98,7 +98,8 @@ impl<'a> Cursor<'a> {
     /// Takes the next word, which is a number.
     #[tactic(auto, unfolding(crate::specs::Reading::and_then))]
     pub(crate) fn number(&mut self) -> Result<i64, ReadRefusal>
-        ensures { Gives (λ n. n) result self.new (and_then (word_at Number self.old) (λ w. Ok (number_value w.0.text, w.1))) }
+        ensures { Gives (λ n. n) result self.new
+            (and_then (word_at Number self.old) (λ w. Ok (number_value w.0.text, w.1))) }
     {
         let word = self.word(TokenKind::Number)?;
         Ok(number_value(word.text) as i64)
@@ -126,7 +127,8 @@ impl<'a> Cursor<'a> {
     /// Takes the next word if it is of the kind, and says whether it was.
     #[tactic(auto, unfolding(crate::specs::Reading::word_at))]
     pub(crate) fn passes(&mut self, kind: TokenKind) -> bool
-        ensures { (rest : At → ℕ) → passed rest (word_at kind self.old) ≡ (if result then rest self.new else 0) }
+        ensures { (rest : At → ℕ)
+            → passed rest (word_at kind self.old) ≡ (if result then rest self.new else 0) }
     {
         if self.tokens.is_empty() {
             return false;

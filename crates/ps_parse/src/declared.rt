@@ -122,7 +122,14 @@ impl Declared {
     /// With a further global.
     pub(crate) fn with_global(self, global: GlobalDecl) -> Result<Declared, AllocError>
         requires { length self.globals < 16 }
-        ensures { IfOk result (λ d. d ≡ record { globals = self.globals ++ global ∷ []; locals = self.locals; inits = self.inits; rows = self.rows }) }
+        ensures { IfOk result
+            (λ d. d ≡ record {
+              globals = self.globals ++ global ∷ [];
+              locals = self.locals;
+              inits =
+                  self.inits;
+              rows = self.rows;
+            }) }
     {
         let Declared {
             mut globals,
@@ -142,7 +149,14 @@ impl Declared {
     /// With a further local.
     pub(crate) fn with_local(self, local: Name) -> Result<Declared, AllocError>
         requires { length self.locals < 8 }
-        ensures { IfOk result (λ d. d ≡ record { globals = self.globals; locals = self.locals ++ local ∷ []; inits = self.inits; rows = self.rows }) }
+        ensures { IfOk result
+            (λ d. d ≡ record {
+              globals = self.globals;
+              locals = self.locals ++ local ∷ [];
+              inits =
+                  self.inits;
+              rows = self.rows;
+            }) }
     {
         let Declared {
             globals,
@@ -161,7 +175,14 @@ impl Declared {
 
     /// With further relations that hold at the start.
     pub(crate) fn with_inits(self, mut relations: Vec<Relation>) -> Result<Declared, AllocError>
-        ensures { IfOk result (λ d. d ≡ record { globals = self.globals; locals = self.locals; inits = self.inits ++ relations.items; rows = self.rows }) }
+        ensures { IfOk result
+            (λ d. d ≡ record {
+              globals = self.globals;
+              locals = self.locals;
+              inits = self.inits ++
+                  relations.items;
+              rows = self.rows;
+            }) }
     {
         let Declared {
             globals,
@@ -194,7 +215,8 @@ impl Declared {
 
     /// The program with these declarations and this body.
     pub(crate) fn into_program(self, body: Items<Stmt>) -> Program
-        ensures { result ≡ record { globals = self.globals; locals = self.locals; inits = self.inits; body = body } }
+        ensures { result ≡ record
+            { globals = self.globals; locals = self.locals; inits = self.inits; body = body } }
     {
         let Declared {
             globals,

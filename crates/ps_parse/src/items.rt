@@ -57,7 +57,8 @@ fn new_name<'b>(
     limit: LimitName,
     cursor: &mut Cursor<'b>,
 ) -> Result<Name, ReadRefusal>
-    ensures gives { Gives (λ x. x) result cursor.new (new_name_at declared.now count most limit cursor.old) }
+    ensures gives { Gives
+        (λ x. x) result cursor.new (new_name_at declared.now count most limit cursor.old) }
     ensures room { IfOk result (λ _. count < most) }
 {
     let word = cursor.word(TokenKind::Name)?;
@@ -87,7 +88,11 @@ fn next_rows<'a, 'b>(
     parser: &Parser<'a>,
     cursor: &mut Cursor<'b>,
 ) -> Result<Option<u64>, AllocError>
-    ensures is { IfOk result (λ rows. (rest : At → ℕ) → counted (λ (r : Relation). rows_of_sign r.sign) rest (relation_at init_sign_of (names_in parser.now.scope) parser.now.most cursor.old) ≡ rows_then rows (rest cursor.new)) }
+    ensures is { IfOk result
+        (λ rows. (rest : At → ℕ)
+        → counted (λ (r : Relation). rows_of_sign r.sign) rest
+        (relation_at init_sign_of (names_in parser.now.scope) parser.now.most cursor.old)
+        ≡ rows_then rows (rest cursor.new)) }
     ensures few { IfOk result (λ rows. rows_then rows 0 ≤ 2) }
 {
     match parser.relation(Signs::AtStart, cursor) {
@@ -133,7 +138,8 @@ fn declared_value<'b>(cursor: &mut Cursor<'b>) -> Result<Option<i128>, ReadRefus
 // How many rows the value of a global gives.
 #[tactic(auto, unfolding(crate::specs::Inner::Steps::declared_value_at))]
 fn value_rows<'b>(cursor: &mut Cursor<'b>) -> Result<u64, AllocError>
-    ensures is { IfOk result (λ rows. rows ≡ counted rows_of_value (λ _. 0) (declared_value_at cursor.old)) }
+    ensures is { IfOk result
+        (λ rows. rows ≡ counted rows_of_value (λ _. 0) (declared_value_at cursor.old)) }
     ensures few { IfOk result (λ rows. rows ≤ 2) }
 {
     match declared_value(cursor) {
@@ -219,7 +225,12 @@ impl<'a> Parser<'a> {
         mut relations: Vec<Relation>,
         cursor: &mut Cursor<'b>,
     ) -> Result<Vec<Relation>, ReadRefusal>
-        ensures { Gives (λ v. v.items) result cursor.new (with_front relations.items (while_at (next_is kind.And) (after_word kind.And (relation_at init_sign_of (names_in self.now.scope) self.now.most)) self.now.most cursor.old)) }
+        ensures { Gives (λ v. v.items) result cursor.new
+            (with_front relations.items
+            (while_at (next_is kind.And)
+            (after_word kind.And
+            (relation_at init_sign_of (names_in self.now.scope) self.now.most)) self.now.most
+            cursor.old)) }
     {
         for _ in 0..self.most {
             if !cursor.next_is(TokenKind::And) {
@@ -234,7 +245,8 @@ impl<'a> Parser<'a> {
     // The relations of an `init` item.
     #[tactic(auto, unfolding(crate::specs::Inner::Steps::relations_at, crate::specs::Blocks::ended_at, crate::specs::Reading::after_word, crate::specs::Reading::and_then))]
     fn relations<'b>(&self, cursor: &mut Cursor<'b>) -> Result<Vec<Relation>, ReadRefusal>
-        ensures { Gives (λ v. v.items) result cursor.new (relations_at (names_in self.now.scope) self.now.most cursor.old) }
+        ensures { Gives (λ v. v.items) result cursor.new
+            (relations_at (names_in self.now.scope) self.now.most cursor.old) }
     {
         cursor.word(TokenKind::Init)?;
         let first = self.relation(Signs::AtStart, cursor)?;

@@ -10,19 +10,26 @@ ghost use Rattle.ps_parse.specs.declared.read_refusal.ReadRefusal.{ReadRefusal};
 
 /// Words are one program at most.
 pub fn one_program()
-    ensures { (words : List Word) (p q : Program) → IsProgramText words p → IsProgramText words q → p ≡ q }
+    ensures { (words : List Word) (p q : Program) → IsProgramText words p → IsProgramText words q
+        → p ≡ q }
 {}
 
 /// Words have one first fault of the grammar at most, and none where they are a program.
 pub fn one_fault()
-    ensures one { (words : List Word) (end p q : Place) → IsFirstFault words end p → IsFirstFault words end q → p ≡ q }
-    ensures none { (words : List Word) (end place : Place) (p : Program) → IsFirstFault words end place → ¬ IsProgramText words p }
+    ensures one { (words : List Word) (end p q : Place) → IsFirstFault words end p
+        → IsFirstFault words end q → p ≡ q }
+    ensures none { (words : List Word) (end place : Place) (p : Program)
+        → IsFirstFault words end place → ¬ IsProgramText words p }
 {}
 
 /// No other refusal stands after the first fault of the grammar, and none at it but a second name of a product.
 pub fn faults_go_first()
-    ensures after { (words : List Word) (end p : Place) (fault : IsFirstFault words end p) (e : ReadRefusal) (other : StandsInText words end e) → (tail : List Word) × (fault.before ≡ other.before ++ tail) }
-    ensures at { (words : List Word) (end p : Place) (fault : IsFirstFault words end p) (e : ReadRefusal) (other : StandsInText words end e) → PassesGrammar e → ¬ (fault.before ≡ other.before) }
+    ensures after { (words : List Word) (end p : Place) (fault : IsFirstFault words end p)
+        (e : ReadRefusal) (other : StandsInText words end e)
+        → (tail : List Word) × (fault.before ≡ other.before ++ tail) }
+    ensures at { (words : List Word) (end p : Place) (fault : IsFirstFault words end p)
+        (e : ReadRefusal) (other : StandsInText words end e) → PassesGrammar e
+        → ¬ (fault.before ≡ other.before) }
 {}
 
 /// Bytes spell at most one program.

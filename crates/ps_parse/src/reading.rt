@@ -70,11 +70,14 @@ pub fn read_program(alloc: Global, bytes: &[u8]) -> Result<Program, ReadRefusal>
     // What is read is the tree of a text of the grammar that fits and is spelled by the words of the bytes.
     ensures found { IfOk result (IsProgram bytes.now) }
     // A text of the grammar that fits is read as its tree, unless memory runs out.
-    ensures only { (program : Program) → IsProgram bytes.now program → Tells (λ x. x) result (Ok program) }
+    ensures only { (program : Program) → IsProgram bytes.now program
+        → Tells (λ x. x) result (Ok program) }
     // Which refusal it is.
-    ensures exact { (list : List Token) → AreTokens bytes.now list → Tells (λ x. x) result (program_of (words_of bytes.now list) (end_of bytes.now)) }
+    ensures exact { (list : List Token) → AreTokens bytes.now list
+        → Tells (λ x. x) result (program_of (words_of bytes.now list) (end_of bytes.now)) }
     // A bad byte goes before all other refusals, and `Token` is said of nothing else.
-    ensures bad { (place : Place) → IsBadAt bytes.now place → Tells {A = Program} (λ x. x) result (Err (refusal.Token place)) }
+    ensures bad { (place : Place) → IsBadAt bytes.now place
+        → Tells {A = Program} (λ x. x) result (Err (refusal.Token place)) }
     ensures token { IfErr result (TokenIsBad bytes.now) }
     // `Grammar` stands at the first word, or the end, with which no text of the grammar goes on.
     ensures grammar { IfErr result (GrammarIsFault bytes.now) }

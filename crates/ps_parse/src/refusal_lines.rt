@@ -56,7 +56,8 @@ fn line(alloc: Global, place: Place, name: &[u8]) -> Result<Vec<u8>, AllocError>
 
 // The line of a limit.
 fn limit_line(alloc: Global, place: Place, limit: LimitName) -> Result<Vec<u8>, AllocError>
-    ensures { IfOk result (λ line. line.items ≡ line_text place (codes "limit " ++ limit_text limit)) }
+    ensures { IfOk result
+        (λ line. line.items ≡ line_text place (codes "limit " ++ limit_text limit)) }
 {
     let mut name = Vec::new(alloc);
     put_word(&mut name, b"limit ")?;
@@ -66,7 +67,8 @@ fn limit_line(alloc: Global, place: Place, limit: LimitName) -> Result<Vec<u8>, 
 
 /// The line that says a refusal, with its line feed; want of memory has none. Takes memory for the line.
 pub fn refusal_line(alloc: Global, refusal: &ReadRefusal) -> Result<Option<Vec<u8>>, AllocError>
-    ensures { IfOk result (λ line. option_map (λ bytes. bytes.items) line ≡ refusal_text refusal.now) }
+    ensures { IfOk result
+        (λ line. option_map (λ bytes. bytes.items) line ≡ refusal_text refusal.now) }
 {
     match refusal {
         ReadRefusal::Token(place) => Ok(Some(line(alloc, *place, b"token")?)),

@@ -41,7 +41,8 @@ impl<'a> Parser<'a> {
     /// Takes a declared name.
     #[tactic(auto, unfolding(crate::specs::Variables::variable_at, crate::specs::Reading::and_then))]
     pub(crate) fn variable<'b>(&self, cursor: &mut Cursor<'b>) -> Result<Var, ReadRefusal>
-        ensures { Gives (λ x. x) result cursor.new (variable_at (names_in self.now.scope) cursor.old) }
+        ensures { Gives (λ x. x) result cursor.new
+            (variable_at (names_in self.now.scope) cursor.old) }
     {
         let name = cursor.word(TokenKind::Name)?;
         match self.scope.variable(name.text) {
@@ -53,7 +54,8 @@ impl<'a> Parser<'a> {
     // A number, and the name that follows it and `*`.
     #[tactic(auto, unfolding(crate::specs::Sums::number_product_at, crate::specs::Reading::after_word, crate::specs::Reading::and_then))]
     fn number_product<'b>(&self, cursor: &mut Cursor<'b>) -> Result<(i64, Option<Var>), ReadRefusal>
-        ensures { Gives (λ x. x) result cursor.new (number_product_at (names_in self.now.scope) cursor.old) }
+        ensures { Gives (λ x. x) result cursor.new
+            (number_product_at (names_in self.now.scope) cursor.old) }
     {
         let number = cursor.number()?;
         if !cursor.next_is(TokenKind::Star) {
@@ -67,7 +69,8 @@ impl<'a> Parser<'a> {
     // A name, and the number that follows it and `*`.
     #[tactic(auto, unfolding(crate::specs::Sums::name_product_at, crate::specs::Reading::after_word, crate::specs::Reading::and_then))]
     fn name_product<'b>(&self, cursor: &mut Cursor<'b>) -> Result<(i64, Option<Var>), ReadRefusal>
-        ensures { Gives (λ x. x) result cursor.new (name_product_at (names_in self.now.scope) cursor.old) }
+        ensures { Gives (λ x. x) result cursor.new
+            (name_product_at (names_in self.now.scope) cursor.old) }
     {
         let variable = self.variable(cursor)?;
         if !cursor.next_is(TokenKind::Star) {
@@ -80,7 +83,8 @@ impl<'a> Parser<'a> {
 
     #[tactic(auto, unfolding(crate::specs::Sums::product_at))]
     fn product<'b>(&self, cursor: &mut Cursor<'b>) -> Result<(i64, Option<Var>), ReadRefusal>
-        ensures { Gives (λ x. x) result cursor.new (product_at (names_in self.now.scope) cursor.old) }
+        ensures { Gives (λ x. x) result cursor.new
+            (product_at (names_in self.now.scope) cursor.old) }
     {
         if cursor.next_is(TokenKind::Number) {
             self.number_product(cursor)
@@ -92,7 +96,8 @@ impl<'a> Parser<'a> {
     // The first product of a sum, which may have a `-` before it.
     #[tactic(auto, unfolding(crate::specs::Sums::first_product_at, crate::specs::Reading::after_word, crate::specs::Reading::and_then))]
     fn first_product<'b>(&self, cursor: &mut Cursor<'b>) -> Result<(i128, Option<Var>), ReadRefusal>
-        ensures { Gives (λ x. x) result cursor.new (first_product_at (names_in self.now.scope) cursor.old) }
+        ensures { Gives (λ x. x) result cursor.new
+            (first_product_at (names_in self.now.scope) cursor.old) }
     {
         if !cursor.next_is(TokenKind::Minus) {
             let (number, variable) = self.product(cursor)?;
@@ -109,7 +114,8 @@ impl<'a> Parser<'a> {
         &self,
         cursor: &mut Cursor<'b>,
     ) -> Result<(i128, Option<Var>), ReadRefusal>
-        ensures { Gives (λ x. x) result cursor.new (further_product_at (names_in self.now.scope) cursor.old) }
+        ensures { Gives (λ x. x) result cursor.new
+            (further_product_at (names_in self.now.scope) cursor.old) }
     {
         if cursor.next_is(TokenKind::Plus) {
             cursor.word(TokenKind::Plus)?;
@@ -128,7 +134,9 @@ impl<'a> Parser<'a> {
         mut terms: Vec<(i128, Option<Var>)>,
         cursor: &mut Cursor<'b>,
     ) -> Result<Vec<(i128, Option<Var>)>, ReadRefusal>
-        ensures { Gives (λ v. v.items) result cursor.new (with_front terms.items (while_at adds (further_product_at (names_in self.now.scope)) self.now.most cursor.old)) }
+        ensures { Gives (λ v. v.items) result cursor.new
+            (with_front terms.items
+            (while_at adds (further_product_at (names_in self.now.scope)) self.now.most cursor.old)) }
     {
         for _ in 0..self.most {
             if !adds(cursor) {
@@ -142,7 +150,8 @@ impl<'a> Parser<'a> {
     /// Takes a sum.
     #[tactic(auto, unfolding(crate::specs::Sums::sum_at, crate::specs::Reading::and_then))]
     pub(crate) fn sum<'b>(&self, cursor: &mut Cursor<'b>) -> Result<Sum, ReadRefusal>
-        ensures { Gives (λ x. x) result cursor.new (sum_at (names_in self.now.scope) self.now.most cursor.old) }
+        ensures { Gives (λ x. x) result cursor.new
+            (sum_at (names_in self.now.scope) self.now.most cursor.old) }
     {
         let first = self.first_product(cursor)?;
         let mut terms = Vec::new(self.alloc);
@@ -160,7 +169,8 @@ impl<'a> Parser<'a> {
         signs: Signs,
         cursor: &mut Cursor<'b>,
     ) -> Result<Relation, ReadRefusal>
-        ensures { Gives (λ x. x) result cursor.new (relation_at (signs_of signs) (names_in self.now.scope) self.now.most cursor.old) }
+        ensures { Gives (λ x. x) result cursor.new
+            (relation_at (signs_of signs) (names_in self.now.scope) self.now.most cursor.old) }
     {
         let left = self.sum(cursor)?;
         let sign = cursor.sign(signs)?;

@@ -21,7 +21,8 @@ pub fn cut_at_mark(input: &[u8], line: u32) -> Option<Cut<'_>>
     requires { line + length input.now < 2 ^ 32 }
     ensures cut { MatchOption result (HasNoMark input.now)
         (λ cut. IsCut input.now cut.before.now cut.after.now) }
-    ensures line { IfSome result (λ cut. cut.line ≡ line + count_by (λ b. b == 10) cut.before.now + 1) }
+    ensures line { IfSome result
+        (λ cut. cut.line ≡ line + count_by (λ b. b == 10) cut.before.now + 1) }
     ensures room { IfSome result (λ cut. cut.line + length cut.after.now < 2 ^ 32) }
 {
     let place = first_mark(input)?;

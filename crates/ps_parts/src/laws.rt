@@ -4,7 +4,8 @@ ghost use Rattle.ps_parts.specs.Cuts.{AreTwoParts, HasNoMark, IsCut};
 
 /// An input is cut at its first mark in one way.
 pub fn an_input_is_cut_once()
-    ensures { (input before after front rest : List ℕ) → IsCut input before after → IsCut input front rest
+    ensures { (input before after front rest : List ℕ) → IsCut input before after
+        → IsCut input front rest
         → (before ≡ front) × (after ≡ rest) }
 {}
 

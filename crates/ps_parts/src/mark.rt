@@ -9,7 +9,8 @@ pub const MARK: &str = "%%\n";
 #[tactic(auto, using(crate::proofs::Marks::mark_inside))]
 pub(crate) fn first_mark(input: &[u8]) -> Option<usize>
     ensures inside { IfSome result (λ place. place + 3 ≤ length input.now) }
-    ensures first { MatchOption result (HasNoMark input.now) (λ place. IsFirstMark input.now place) }
+    ensures first { MatchOption result (HasNoMark input.now)
+        (λ place. IsFirstMark input.now place) }
 {
     for place in 0..input.len() {
         if is_mark(input, place) {

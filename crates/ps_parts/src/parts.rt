@@ -47,11 +47,16 @@ pub enum PartsEnd {
 /// Cuts an input into a program and a part of at most `most` bytes.
 pub fn two_parts(input: &[u8], most: usize) -> Result<TwoParts<'_>, PartsEnd>
     requires { 1 + length input.now < 2 ^ 32 }
-    ensures parts { IfOk result (λ parts. AreTwoParts input.now parts.program.now parts.last.bytes.now) }
-    ensures within { IfOk result (λ parts. (length parts.program.now ≤ MOST_PROGRAM) × (length parts.last.bytes.now ≤ most)) }
-    ensures line { IfOk result (λ parts. IsNumbered input.now parts.last.bytes.now parts.last.line) }
+    ensures parts { IfOk result
+        (λ parts. AreTwoParts input.now parts.program.now parts.last.bytes.now) }
+    ensures within { IfOk result
+        (λ parts. (length parts.program.now ≤ MOST_PROGRAM)
+        × (length parts.last.bytes.now ≤ most)) }
+    ensures line { IfOk result
+        (λ parts. IsNumbered input.now parts.last.bytes.now parts.last.line) }
     ensures no_mark { IsErrOf result PartsEnd.NoMark → HasNoMark input.now }
-    ensures limit { IsErrOf result PartsEnd.LimitPart → (program last : List ℕ) × AreTwoParts input.now program last
+    ensures limit { IsErrOf result PartsEnd.LimitPart
+        → (program last : List ℕ) × AreTwoParts input.now program last
         × ((MOST_PROGRAM < length program) ⊎ (most < length last)) }
 {
     let cut = match cut_at_mark(input, 1) {
@@ -84,15 +89,20 @@ pub fn three_parts(
     ensures parts { IfOk result (λ parts.
         AreThreeParts input.now parts.program.now parts.middle.bytes.now parts.last.bytes.now) }
     ensures within { IfOk result (λ parts. (length parts.program.now ≤ MOST_PROGRAM)
-        × (length parts.middle.bytes.now ≤ most_middle) × (length parts.last.bytes.now ≤ most_last)) }
-    ensures line_middle { IfOk result (λ parts. (rest : List ℕ) × IsCut rest parts.middle.bytes.now parts.last.bytes.now
+        × (length parts.middle.bytes.now ≤ most_middle)
+        × (length parts.last.bytes.now ≤ most_last)) }
+    ensures line_middle { IfOk result
+        (λ parts. (rest : List ℕ) × IsCut rest parts.middle.bytes.now parts.last.bytes.now
         × IsNumbered input.now rest parts.middle.line) }
-    ensures line_last { IfOk result (λ parts. IsNumbered input.now parts.last.bytes.now parts.last.line) }
+    ensures line_last { IfOk result
+        (λ parts. IsNumbered input.now parts.last.bytes.now parts.last.line) }
     ensures no_mark { IsErrOf result PartsEnd.NoMark
-        → HasNoMark input.now ⊎ ((program rest : List ℕ) × AreTwoParts input.now program rest × HasNoMark rest) }
+        → HasNoMark input.now
+        ⊎ ((program rest : List ℕ) × AreTwoParts input.now program rest × HasNoMark rest) }
     ensures limit { IsErrOf result PartsEnd.LimitPart → (program middle last : List ℕ)
         × AreThreeParts input.now program middle last
-        × ((MOST_PROGRAM < length program) ⊎ (most_middle < length middle) ⊎ (most_last < length last)) }
+        × ((MOST_PROGRAM < length program) ⊎ (most_middle < length middle)
+        ⊎ (most_last < length last)) }
 {
     let cut = match cut_at_mark(input, 1) {
         Some(cut) => cut,

@@ -16,7 +16,9 @@ use std::alloc::AllocError;
 
 impl<'a> Printer<'a> {
     fn put_assign(&self, out: &mut Vec<u8>, variable: Var, sum: &Sum) -> Result<(), AllocError>
-        ensures { OnOk result (Puts out.old.items out.new.items (stmt_pieces (assign (name_of self.now variable) (sum_text self.now sum.now)))) }
+        ensures { OnOk result
+            (Puts out.old.items out.new.items
+            (stmt_pieces (assign (name_of self.now variable) (sum_text self.now sum.now)))) }
     {
         self.put_variable(out, variable)?;
         put_mark(out, TokenKind::Becomes)?;
@@ -26,7 +28,8 @@ impl<'a> Printer<'a> {
     }
 
     fn put_havoc(&self, out: &mut Vec<u8>, variable: Var) -> Result<(), AllocError>
-        ensures { OnOk result (Puts out.old.items out.new.items (stmt_pieces (havoc (name_of self.now variable)))) }
+        ensures { OnOk result
+            (Puts out.old.items out.new.items (stmt_pieces (havoc (name_of self.now variable)))) }
     {
         put_mark(out, TokenKind::Havoc)?;
         self.put_variable(out, variable)?;
@@ -36,7 +39,9 @@ impl<'a> Printer<'a> {
 
     /// Puts `assume` or `assert` with its condition.
     fn put_claim(&self, out: &mut Vec<u8>, word: TokenKind, cond: &Cond) -> Result<(), AllocError>
-        ensures { OnOk result (Puts out.old.items out.new.items (Mark word ∷ (cond_pieces (cond_text self.now cond.now) ++ Mark Semicolon ∷ []))) }
+        ensures { OnOk result
+            (Puts out.old.items out.new.items
+            (Mark word ∷ (cond_pieces (cond_text self.now cond.now) ++ Mark Semicolon ∷ []))) }
     {
         put_mark(out, word)?;
         self.put_cond(out, cond)?;
@@ -47,7 +52,8 @@ impl<'a> Printer<'a> {
     /// Puts a statement.
     #[cycle(put_block)]
     fn put_stmt(&self, out: &mut Vec<u8>, kind: &StmtKind) -> Result<(), AllocError>
-        ensures { OnOk result (Puts out.old.items out.new.items (stmt_pieces (stmt_text self.now kind.now))) }
+        ensures { OnOk result
+            (Puts out.old.items out.new.items (stmt_pieces (stmt_text self.now kind.now))) }
     {
         match kind {
             StmtKind::Assign(variable, sum) => {
@@ -99,7 +105,8 @@ impl<'a> Printer<'a> {
     /// Puts statements in braces.
     #[cycle(put_block)]
     pub(crate) fn put_block(&self, out: &mut Vec<u8>, block: &[Stmt]) -> Result<(), AllocError>
-        ensures { OnOk result (Puts out.old.items out.new.items (block_pieces (stmts_text self.now block.now))) }
+        ensures { OnOk result
+            (Puts out.old.items out.new.items (block_pieces (stmts_text self.now block.now))) }
     {
         put_mark(out, TokenKind::OpenBrace)?;
         for stmt in block {

@@ -14,7 +14,9 @@ use std::alloc::AllocError;
 
 /// Puts the relation of 0 to 0: a condition that is `==` or `!=` of the same.
 fn put_zeros(out: &mut Vec<u8>, sign: TokenKind) -> Result<(), AllocError>
-    ensures { OnOk result (Puts out.old.items out.new.items (NumberPiece (decimal 0) ∷ Mark sign ∷ NumberPiece (decimal 0) ∷ [])) }
+    ensures { OnOk result
+        (Puts out.old.items out.new.items
+        (NumberPiece (decimal 0) ∷ Mark sign ∷ NumberPiece (decimal 0) ∷ [])) }
 {
     put_number(out, 0)?;
     put_mark(out, sign)?;
@@ -36,7 +38,8 @@ fn put_between(out: &mut Vec<u8>, kind: TokenKind, is_first: bool) -> Result<(),
 impl<'a> Printer<'a> {
     /// Puts a condition that stands by itself.
     pub(crate) fn put_cond(&self, out: &mut Vec<u8>, cond: &Cond) -> Result<(), AllocError>
-        ensures { OnOk result (Puts out.old.items out.new.items (cond_pieces (cond_text self.now cond.now))) }
+        ensures { OnOk result
+            (Puts out.old.items out.new.items (cond_pieces (cond_text self.now cond.now))) }
     {
         match cond {
             Cond::Rel(relation) => {
@@ -62,7 +65,8 @@ impl<'a> Printer<'a> {
     /// Puts a condition that stands between `||`.
     #[cycle(put_unary)]
     fn put_conj(&self, out: &mut Vec<u8>, cond: &Cond) -> Result<(), AllocError>
-        ensures { OnOk result (Puts out.old.items out.new.items (conj_pieces (conj_text self.now cond.now))) }
+        ensures { OnOk result
+            (Puts out.old.items out.new.items (conj_pieces (conj_text self.now cond.now))) }
     {
         match cond {
             Cond::Rel(relation) => {
@@ -90,7 +94,8 @@ impl<'a> Printer<'a> {
     /// Puts a condition that stands between `&&` or after `!`.
     #[cycle(put_unary)]
     fn put_unary(&self, out: &mut Vec<u8>, cond: &Cond) -> Result<(), AllocError>
-        ensures { OnOk result (Puts out.old.items out.new.items (unary_pieces (unary_text self.now cond.now))) }
+        ensures { OnOk result
+            (Puts out.old.items out.new.items (unary_pieces (unary_text self.now cond.now))) }
     {
         match cond {
             Cond::Rel(relation) => {
@@ -120,7 +125,9 @@ impl<'a> Printer<'a> {
     /// Puts the members of an `And`.
     #[cycle(put_unary)]
     fn put_all(&self, out: &mut Vec<u8>, members: &[Cond]) -> Result<(), AllocError>
-        ensures { OnOk result (Puts out.old.items out.new.items (cond_pieces (cond_text self.now (And members.now)))) }
+        ensures { OnOk result
+            (Puts out.old.items out.new.items
+            (cond_pieces (cond_text self.now (And members.now)))) }
     {
         if members.is_empty() {
             put_zeros(out, TokenKind::EqualEqual)?;
@@ -138,7 +145,8 @@ impl<'a> Printer<'a> {
     /// Puts the members of an `Or`.
     #[cycle(put_unary)]
     fn put_some(&self, out: &mut Vec<u8>, members: &[Cond]) -> Result<(), AllocError>
-        ensures { OnOk result (Puts out.old.items out.new.items (cond_pieces (cond_text self.now (Or members.now)))) }
+        ensures { OnOk result
+            (Puts out.old.items out.new.items (cond_pieces (cond_text self.now (Or members.now)))) }
     {
         if members.is_empty() {
             put_zeros(out, TokenKind::NotEqual)?;
@@ -155,7 +163,8 @@ impl<'a> Printer<'a> {
 
     /// Puts a test with its parentheses.
     pub(crate) fn put_test(&self, out: &mut Vec<u8>, test: &Test) -> Result<(), AllocError>
-        ensures { OnOk result (Puts out.old.items out.new.items (test_pieces (test_text self.now test.now))) }
+        ensures { OnOk result
+            (Puts out.old.items out.new.items (test_pieces (test_text self.now test.now))) }
     {
         put_mark(out, TokenKind::OpenParen)?;
         match test {

@@ -37,7 +37,9 @@ fn put_minus(out: &mut Vec<u8>, number: i128) -> Result<(), AllocError>
 
 /// Puts a number with its sign.
 pub(crate) fn put_signed(out: &mut Vec<u8>, number: i128) -> Result<(), AllocError>
-    ensures { OnOk result (Puts out.old.items out.new.items (minus_pieces (is_negative number) ++ NumberPiece (decimal (unsigned_abs number)) ∷ [])) }
+    ensures { OnOk result
+        (Puts out.old.items out.new.items
+        (minus_pieces (is_negative number) ++ NumberPiece (decimal (unsigned_abs number)) ∷ [])) }
 {
     put_minus(out, number)?;
     put_number(out, number.unsigned_abs())?;
@@ -46,7 +48,8 @@ pub(crate) fn put_signed(out: &mut Vec<u8>, number: i128) -> Result<(), AllocErr
 
 /// Puts the sign of a product: the first one of a sum has none where it isn't negative.
 fn put_sign(out: &mut Vec<u8>, is_first: bool, number: i128) -> Result<(), AllocError>
-    ensures { OnOk result (Puts out.old.items out.new.items (sign_before is_first (is_negative number))) }
+    ensures { OnOk result
+        (Puts out.old.items out.new.items (sign_before is_first (is_negative number))) }
 {
     if is_first {
         return put_minus(out, number);
@@ -66,7 +69,9 @@ impl<'a> Printer<'a> {
         number: i128,
         variable: Option<Var>,
     ) -> Result<(), AllocError>
-        ensures { OnOk result (Puts out.old.items out.new.items (product_pieces (product_of self.now (number, variable)))) }
+        ensures { OnOk result
+            (Puts out.old.items out.new.items
+            (product_pieces (product_of self.now (number, variable)))) }
     {
         let factor = number.unsigned_abs();
         match variable {
@@ -77,7 +82,9 @@ impl<'a> Printer<'a> {
 
     /// Puts a variable, after a factor other than 1.
     fn put_multiple(&self, out: &mut Vec<u8>, factor: u128, variable: Var) -> Result<(), AllocError>
-        ensures { OnOk result (Puts out.old.items out.new.items (product_pieces (product_text self.now factor (Some variable)))) }
+        ensures { OnOk result
+            (Puts out.old.items out.new.items
+            (product_pieces (product_text self.now factor (Some variable)))) }
     {
         if factor == 1 {
             return self.put_variable(out, variable);
@@ -95,7 +102,10 @@ impl<'a> Printer<'a> {
         is_first: bool,
         product: &(i128, Option<Var>),
     ) -> Result<(), AllocError>
-        ensures { OnOk result (Puts out.old.items out.new.items (sign_before is_first (is_negative product.now.0) ++ product_pieces (product_of self.now product.now))) }
+        ensures { OnOk result
+            (Puts out.old.items out.new.items
+            (sign_before is_first (is_negative product.now.0) ++ product_pieces
+            (product_of self.now product.now))) }
     {
         put_sign(out, is_first, product.0)?;
         self.put_product(out, product.0, product.1)?;
@@ -107,7 +117,8 @@ impl<'a> Printer<'a> {
         out: &mut Vec<u8>,
         products: &[(i128, Option<Var>)],
     ) -> Result<(), AllocError>
-        ensures { OnOk result (Puts out.old.items out.new.items (sum_pieces (products_text self.now products.now))) }
+        ensures { OnOk result
+            (Puts out.old.items out.new.items (sum_pieces (products_text self.now products.now))) }
     {
         if products.is_empty() {
             return put_number(out, 0);
@@ -122,7 +133,8 @@ impl<'a> Printer<'a> {
 
     /// Puts a sum; one without products is 0.
     pub(crate) fn put_sum(&self, out: &mut Vec<u8>, sum: &Sum) -> Result<(), AllocError>
-        ensures { OnOk result (Puts out.old.items out.new.items (sum_pieces (sum_text self.now sum.now))) }
+        ensures { OnOk result
+            (Puts out.old.items out.new.items (sum_pieces (sum_text self.now sum.now))) }
     {
         self.put_products(out, sum.terms.as_slice())
     }
@@ -133,7 +145,9 @@ impl<'a> Printer<'a> {
         out: &mut Vec<u8>,
         relation: &Relation,
     ) -> Result<(), AllocError>
-        ensures { OnOk result (Puts out.old.items out.new.items (relation_pieces (relation_text self.now relation.now))) }
+        ensures { OnOk result
+            (Puts out.old.items out.new.items
+            (relation_pieces (relation_text self.now relation.now))) }
     {
         self.put_sum(out, &relation.left)?;
         put_mark(out, kind_of(relation.sign))?;

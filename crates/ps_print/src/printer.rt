@@ -32,7 +32,11 @@ impl<'a> Model for Printer<'a> {
 
 impl<'a> Printer<'a> {
     pub(crate) fn new(globals: &'a [GlobalDecl], locals: &'a [Name]) -> Printer<'a>
-        ensures { result ≡ record { globals = map (λ (g : GlobalDecl). g.name) globals.now; locals = locals.now } }
+        ensures { result ≡ record {
+          globals = map
+              (λ (g : GlobalDecl). g.name) globals.now;
+          locals = locals.now;
+        } }
     {
         Printer { globals, locals }
     }
@@ -50,7 +54,8 @@ impl<'a> Printer<'a> {
 
     /// Puts the name of a variable.
     pub(crate) fn put_variable(&self, out: &mut Vec<u8>, variable: Var) -> Result<(), AllocError>
-        ensures { OnOk result (Puts out.old.items out.new.items (NamePiece (name_of self.now variable) ∷ [])) }
+        ensures { OnOk result
+            (Puts out.old.items out.new.items (NamePiece (name_of self.now variable) ∷ [])) }
     {
         put_name(out, self.name_of(variable))
     }

@@ -27,9 +27,12 @@ use std::alloc::{AllocError, Global};
 /// It takes time and memory of all that stands in the program, and of the names where they are used.
 pub fn print_program(alloc: Global, program: &Program) -> Result<Vec<u8>, AllocError>
     ensures text { IfOk result (λ text. text.items ≡ printed_program program.now) }
-    ensures again { IfOk result (λ text. IsTreeOfText program.now → ReadsBack text.items program.now) }
+    ensures again { IfOk result
+        (λ text. IsTreeOfText program.now → ReadsBack text.items program.now) }
     // What is printed of a program that a text is, is that program again, but for places.
-    ensures same { IfOk result (λ text. (bytes : List ℕ) → IsProgram bytes program.now → IsSameProgram text.items program.now) }
+    ensures same { IfOk result
+        (λ text. (bytes : List ℕ) → IsProgram bytes program.now
+        → IsSameProgram text.items program.now) }
 {
     let printer = Printer::new(program.globals.as_slice(), program.locals.as_slice());
     let mut out = Vec::new(alloc);
@@ -55,7 +58,8 @@ fn put_value(out: &mut Vec<u8>, value: Option<i128>) -> Result<(), AllocError>
 }
 
 fn put_global(out: &mut Vec<u8>, global: &GlobalDecl) -> Result<(), AllocError>
-    ensures { OnOk result (Puts out.old.items out.new.items (item_pieces (global_item global.now))) }
+    ensures { OnOk result
+        (Puts out.old.items out.new.items (item_pieces (global_item global.now))) }
 {
     put_mark(out, TokenKind::Global)?;
     put_name(out, global.name.as_slice())?;
@@ -65,7 +69,8 @@ fn put_global(out: &mut Vec<u8>, global: &GlobalDecl) -> Result<(), AllocError>
 }
 
 fn put_globals(out: &mut Vec<u8>, globals: &[GlobalDecl]) -> Result<(), AllocError>
-    ensures { OnOk result (Puts out.old.items out.new.items (flat_map item_pieces (map global_item globals.now))) }
+    ensures { OnOk result
+        (Puts out.old.items out.new.items (flat_map item_pieces (map global_item globals.now))) }
 {
     for global in globals {
         put_global(out, global)?;
@@ -83,7 +88,8 @@ fn put_local(out: &mut Vec<u8>, name: &Name) -> Result<(), AllocError>
 }
 
 fn put_locals(out: &mut Vec<u8>, locals: &[Name]) -> Result<(), AllocError>
-    ensures { OnOk result (Puts out.old.items out.new.items (flat_map item_pieces (map local locals.now))) }
+    ensures { OnOk result
+        (Puts out.old.items out.new.items (flat_map item_pieces (map local locals.now))) }
 {
     for name in locals {
         put_local(out, name)?;
@@ -93,7 +99,8 @@ fn put_locals(out: &mut Vec<u8>, locals: &[Name]) -> Result<(), AllocError>
 
 impl<'a> Printer<'a> {
     fn put_init(&self, out: &mut Vec<u8>, relation: &Relation) -> Result<(), AllocError>
-        ensures { OnOk result (Puts out.old.items out.new.items (item_pieces (init_item self.now relation.now))) }
+        ensures { OnOk result
+            (Puts out.old.items out.new.items (item_pieces (init_item self.now relation.now))) }
     {
         put_mark(out, TokenKind::Init)?;
         self.put_relation(out, relation)?;
@@ -102,7 +109,9 @@ impl<'a> Printer<'a> {
     }
 
     fn put_inits(&self, out: &mut Vec<u8>, relations: &[Relation]) -> Result<(), AllocError>
-        ensures { OnOk result (Puts out.old.items out.new.items (flat_map item_pieces (map (init_item self.now) relations.now))) }
+        ensures { OnOk result
+            (Puts out.old.items out.new.items
+            (flat_map item_pieces (map (init_item self.now) relations.now))) }
     {
         for relation in relations {
             self.put_init(out, relation)?;

@@ -20,7 +20,8 @@ fn put_row(out: &mut Vec<u8>, row: &Row) -> Result<(), AllocError>
 }
 
 fn put_rows(out: &mut Vec<u8>, rows: &[Row]) -> Result<(), AllocError>
-    ensures { OnOk result (out.new.items ≡ out.old.items ++ flat_map (λ r. line_bytes (row_line r)) rows.now) }
+    ensures { OnOk result
+        (out.new.items ≡ out.old.items ++ flat_map (λ r. line_bytes (row_line r)) rows.now) }
 {
     for row in rows {
         put_row(out, row)?;
@@ -29,7 +30,8 @@ fn put_rows(out: &mut Vec<u8>, rows: &[Row]) -> Result<(), AllocError>
 }
 
 fn put_numbers(out: &mut Vec<u8>, numbers: &[u128]) -> Result<(), AllocError>
-    ensures { OnOk result (out.new.items ≡ out.old.items ++ flat_map (λ n. after_blank (decimal n)) numbers.now) }
+    ensures { OnOk result
+        (out.new.items ≡ out.old.items ++ flat_map (λ n. after_blank (decimal n)) numbers.now) }
 {
     for n in numbers {
         put_natural(out, *n)?;
@@ -38,7 +40,8 @@ fn put_numbers(out: &mut Vec<u8>, numbers: &[u128]) -> Result<(), AllocError>
 }
 
 fn put_multipliers(out: &mut Vec<u8>, numbers: &[u128]) -> Result<(), AllocError>
-    ensures { OnOk result (out.new.items ≡ out.old.items ++ line_bytes (multipliers_line numbers.now)) }
+    ensures { OnOk result
+        (out.new.items ≡ out.old.items ++ line_bytes (multipliers_line numbers.now)) }
 {
     put_word(out, b"by")?;
     put_numbers(out, numbers)?;

@@ -71,9 +71,11 @@ pub fn read_rows(alloc: Global, bytes: &[u8], first: u32) -> Result<Claim, FormE
     requires from_one { 1 ≤ first }
     requires room { first + length bytes.now < 2 ^ 32 }
     // What is read is spelled so, and is within the limits.
-    ensures found { IfOk result (λ claim. ClaimFits claim × (bytes.now ≡ text_bytes (claim_lines claim))) }
+    ensures found { IfOk result
+        (λ claim. ClaimFits claim × (bytes.now ≡ text_bytes (claim_lines claim))) }
     // What is spelled so is read, unless memory runs out.
-    ensures only { (claim : Claim) → ClaimFits claim → bytes.now ≡ text_bytes (claim_lines claim) → Tells (λ x. x) result (Ok claim) }
+    ensures only { (claim : Claim) → ClaimFits claim → bytes.now ≡ text_bytes (claim_lines claim)
+        → Tells (λ x. x) result (Ok claim) }
     // Which fault it is.
     ensures exact { Tells (λ x. x) result (claim_at (start first bytes.now)) }
 {

@@ -37,7 +37,8 @@ pub(crate) fn stop_at(pairs: &[(Var, i128)], variable: Var, near: usize) -> Stop
     ensures coefficient { result.coefficient ≡ coefficient variable pairs.now }
     ensures skipped { (x : Var) → IsAfter (Some variable) x → IsBefore x result.next
         → coefficient x pairs.now ≡ pos 0 }
-    ensures stands { IfSome result.next (λ x. IsAfter (Some variable) x × (coefficient x pairs.now ≢ pos 0)) }
+    ensures stands { IfSome result.next
+        (λ x. IsAfter (Some variable) x × (coefficient x pairs.now ≢ pos 0)) }
 {
     let place = place_of(pairs, Bound::Before(variable), near);
     Stop {

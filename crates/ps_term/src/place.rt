@@ -13,7 +13,8 @@ use crate::var::Var;
 pub(crate) fn place_of(pairs: &[(Var, i128)], bound: Bound, near: usize) -> usize
     requires { IsCanonical pairs.now }
     ensures within { result ≤ length pairs.now }
-    ensures parts { IsPartitionPoint (λ p. is_within bound p.0 ≡ true) (λ p. is_within bound p.0 ≡ false) pairs.now result }
+    ensures parts { IsPartitionPoint (λ p. is_within bound p.0 ≡ true)
+        (λ p. is_within bound p.0 ≡ false) pairs.now result }
 {
     if parts_at(pairs, bound, near) {
         return near;
@@ -32,8 +33,10 @@ pub(crate) fn place_of(pairs: &[(Var, i128)], bound: Bound, near: usize) -> usiz
 // Whether the pair before this place is within the bound and the pair at it isn't, as far as there are such pairs.
 fn parts_at(pairs: &[(Var, i128)], bound: Bound, place: usize) -> bool
     ensures within { IsTrue result → place ≤ length pairs.now }
-    ensures front { IsTrue result → (d : Var × ℤ) → 0 < place → is_within bound (slice_index_or pairs.now (place - 1) d).0 ≡ true }
-    ensures back { IsTrue result → (d : Var × ℤ) → place < length pairs.now → is_within bound (slice_index_or pairs.now place d).0 ≡ false }
+    ensures front { IsTrue result → (d : Var × ℤ) → 0 < place
+        → is_within bound (slice_index_or pairs.now (place - 1) d).0 ≡ true }
+    ensures back { IsTrue result → (d : Var × ℤ) → place < length pairs.now
+        → is_within bound (slice_index_or pairs.now place d).0 ≡ false }
 {
     if place > pairs.len() {
         return false;
@@ -43,7 +46,8 @@ fn parts_at(pairs: &[(Var, i128)], bound: Bound, place: usize) -> bool
 
 fn ends_within(pairs: &[(Var, i128)], bound: Bound, place: usize) -> bool
     requires { place ≤ length pairs.now }
-    ensures { IsTrue result → (d : Var × ℤ) → 0 < place → is_within bound (slice_index_or pairs.now (place - 1) d).0 ≡ true }
+    ensures { IsTrue result → (d : Var × ℤ) → 0 < place
+        → is_within bound (slice_index_or pairs.now (place - 1) d).0 ≡ true }
 {
     if place == 0 {
         return true;
@@ -53,7 +57,8 @@ fn ends_within(pairs: &[(Var, i128)], bound: Bound, place: usize) -> bool
 
 fn goes_on_beyond(pairs: &[(Var, i128)], bound: Bound, place: usize) -> bool
     requires { place ≤ length pairs.now }
-    ensures { IsTrue result → (d : Var × ℤ) → place < length pairs.now → is_within bound (slice_index_or pairs.now place d).0 ≡ false }
+    ensures { IsTrue result → (d : Var × ℤ) → place < length pairs.now
+        → is_within bound (slice_index_or pairs.now place d).0 ≡ false }
 {
     if place == pairs.len() {
         return true;

@@ -61,11 +61,14 @@ fn add_replaced(
     requires after_rises { IsTrue rising → AreRising after.now }
     ensures rising { OnOk result (IsRising sums.new.entries) }
     ensures worth { OnOk result ((values : Var → ℤ) → pairs_value values sums.new.entries
-        ≡ (pairs_value values sums.old.entries +ℤ (by *ℤ pairs_value values (replacement after.now variable).pairs))) }
+        ≡ (pairs_value values sums.old.entries +ℤ
+        (by *ℤ pairs_value values (replacement after.now variable).pairs))) }
     ensures constant { IfOk result (λ sum. sum
         ≡ (constant +ℤ (by *ℤ (replacement after.now variable).constant))) }
-    ensures pairs_fit { OnOk result (PairsFit sums.old.entries by (replacement after.now variable).pairs) }
-    ensures constant_fits { OnOk result (ScaledFits constant by (replacement after.now variable).constant) }
+    ensures pairs_fit { OnOk result
+        (PairsFit sums.old.entries by (replacement after.now variable).pairs) }
+    ensures constant_fits { OnOk result
+        (ScaledFits constant by (replacement after.now variable).constant) }
     ensures past { IsErrOf result TermEnd.Past128
         → ¬ (PairsFit sums.old.entries by (replacement after.now variable).pairs
         × ScaledFits constant by (replacement after.now variable).constant) }

@@ -26,7 +26,8 @@ pub fn add_scaled(alloc: Global, a: &Term, by: i128, b: &Term) -> Result<Term, T
     ensures worth { IfOk result (λ sum. (values : Var → ℤ)
         → value values sum ≡ (value values a.now +ℤ (by *ℤ value values b.now))) }
     ensures coefficients { IfOk result (λ sum. (x : Var)
-        → coefficient x sum.pairs ≡ (coefficient x a.now.pairs +ℤ (by *ℤ coefficient x b.now.pairs))) }
+        → coefficient x sum.pairs
+        ≡ (coefficient x a.now.pairs +ℤ (by *ℤ coefficient x b.now.pairs))) }
     ensures constant { IfOk result (λ sum.
         sum.constant ≡ (a.now.constant +ℤ (by *ℤ b.now.constant))) }
     ensures canonical { IfOk result (λ sum. IsCanonical sum.pairs) }

@@ -39,7 +39,8 @@ fn put_pair(out: &mut Vec<u8>, pair: (Var, i128)) -> Result<(), AllocError>
 }
 
 fn put_pairs(out: &mut Vec<u8>, pairs: &[(Var, i128)]) -> Result<(), AllocError>
-    ensures { OnOk result (out.new.items ≡ out.old.items ++ flat_map (λ p. after_blank (pair_text p)) pairs.now) }
+    ensures { OnOk result
+        (out.new.items ≡ out.old.items ++ flat_map (λ p. after_blank (pair_text p)) pairs.now) }
 {
     for pair in pairs {
         put_pair(out, *pair)?;
@@ -49,7 +50,8 @@ fn put_pairs(out: &mut Vec<u8>, pairs: &[(Var, i128)]) -> Result<(), AllocError>
 
 /// Puts a term as further fields of a line. A havoc in it has no spelling, so what stands for it isn't read back.
 pub fn put_term(out: &mut Vec<u8>, term: &Term) -> Result<(), AllocError>
-    ensures { OnOk result (out.new.items ≡ out.old.items ++ flat_map after_blank (term_fields term.now)) }
+    ensures { OnOk result
+        (out.new.items ≡ out.old.items ++ flat_map after_blank (term_fields term.now)) }
 {
     put_pairs(out, term.pairs.as_slice())?;
     put_integer(out, term.constant)

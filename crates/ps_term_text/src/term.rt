@@ -25,9 +25,12 @@ fn fields_of_term<'a>(alloc: Global, reader: &mut Reader<'a>) -> Result<Term, Fo
 /// Takes a term from the fields of a line: pairs as long as the fields have a `*`, and the constant.
 pub fn take_term<'a>(alloc: Global, reader: &mut Reader<'a>) -> Result<Term, FormEnd>
     // What is read is spelled so.
-    ensures found { IfOk result (λ term. TermFits term × (reader.old.tokens ≡ map Field (term_fields term) ++ reader.new.tokens)) }
+    ensures found { IfOk result
+        (λ term. TermFits term
+        × (reader.old.tokens ≡ map Field (term_fields term) ++ reader.new.tokens)) }
     // What is spelled so is read, unless memory runs out.
-    ensures only { (term : Term) (rest : List Token) → TermFits term → reader.old.tokens ≡ map Field (term_fields term) ++ rest
+    ensures only { (term : Term) (rest : List Token) → TermFits term
+        → reader.old.tokens ≡ map Field (term_fields term) ++ rest
         → Tells (λ x. x) result (Ok term) }
     // Which fault it is, and where the reader stands.
     ensures exact { Gives (λ x. x) result reader.new (term_at reader.old) }

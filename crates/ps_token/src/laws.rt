@@ -15,14 +15,16 @@ pub fn one_list_of_tokens(bytes: &[u8])
 
 /// A text is bad at one place.
 pub fn one_bad_place(bytes: &[u8])
-    ensures { (place other : Place) → IsBadAt bytes.now place → IsBadAt bytes.now other → place ≡ other }
+    ensures { (place other : Place) → IsBadAt bytes.now place → IsBadAt bytes.now other
+        → place ≡ other }
 {
     let _text = bytes;
 }
 
 /// A text that has tokens isn't bad anywhere.
 pub fn tokens_or_bad(bytes: &[u8])
-    ensures { (ts : List Token) (place : Place) → AreTokens bytes.now ts → ¬ IsBadAt bytes.now place }
+    ensures { (ts : List Token) (place : Place) → AreTokens bytes.now ts
+        → ¬ IsBadAt bytes.now place }
 {
     let _text = bytes;
 }
@@ -36,7 +38,8 @@ pub fn each_token_is_of_the_text(bytes: &[u8])
 
 /// A text of words, each with a blank or a line feed after it, has tokens of just these kinds and bytes.
 pub fn written_words_are_tokens(bytes: &[u8])
-    ensures { (words : List Written) → All IsWritten words → bytes.now ≡ flat_map word_bytes words → HasTokens bytes.now (map word_parts words) }
+    ensures { (words : List Written) → All IsWritten words → bytes.now ≡ flat_map word_bytes words
+        → HasTokens bytes.now (map word_parts words) }
 {
     let _text = bytes;
 }

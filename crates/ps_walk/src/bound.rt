@@ -42,7 +42,8 @@ pub(crate) fn bound_of(found: &BTreeMap<Var, i128>, variable: Var, row: &Row) ->
 fn greatest(a: i128, c: i128) -> Option<i128>
     requires { pos 0 <ℤ a }
     ensures bound { IfSome result (λ u. (n : ℤ) → (((a *ℤ n) +ℤ c) ≤ℤ pos 0) ↔ (n ≤ℤ u)) }
-    ensures past { IfNone result ((u : ℤ) × ((n : ℤ) → (((a *ℤ n) +ℤ c) ≤ℤ pos 0) ↔ (n ≤ℤ u)) × ¬ FitsSigned w128 u) }
+    ensures past { IfNone result ((u : ℤ) × ((n : ℤ) → (((a *ℤ n) +ℤ c) ≤ℤ pos 0) ↔ (n ≤ℤ u))
+        × ¬ FitsSigned w128 u) }
 {
     ceil_div(c, a).checked_neg()
 }

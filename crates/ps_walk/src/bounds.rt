@@ -42,8 +42,10 @@ fn bounds_of(found: &BTreeMap<Var, i128>, variable: Var, rows: &[Row]) -> Option
 
 // The bounds, with that of one more row.
 fn narrowed(bounds: Bounds, by: RowBound) -> Bounds
-    ensures lower { (n : ℤ) → IsAtLeast result.lower n ↔ (IsAtLeast bounds.lower n × IsAtLeast (lower_of by) n) }
-    ensures upper { (n : ℤ) → IsAtMost result.upper n ↔ (IsAtMost bounds.upper n × IsAtMost (upper_of by) n) }
+    ensures lower { (n : ℤ)
+        → IsAtLeast result.lower n ↔ (IsAtLeast bounds.lower n × IsAtLeast (lower_of by) n) }
+    ensures upper { (n : ℤ)
+        → IsAtMost result.upper n ↔ (IsAtMost bounds.upper n × IsAtMost (upper_of by) n) }
 {
     match by {
         RowBound::Free => bounds,

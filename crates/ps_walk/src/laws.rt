@@ -9,5 +9,6 @@ use ps_term::Row;
 
 /// Rows and stages have no more than one answer.
 pub fn has_no_other_answer(rows: &[Row], stages: &[Stage], walk: &Walk)
-    ensures { IsWalk rows.now stages.now walk.now → (other : Walk) → IsWalk rows.now stages.now other → other ≡ walk.now }
+    ensures { IsWalk rows.now stages.now walk.now → (other : Walk)
+        → IsWalk rows.now stages.now other → other ≡ walk.now }
 {}
