@@ -1,6 +1,5 @@
-use Rattle.std.proofs.Common.{◌≡◌, ℕ, List, [], drop, ap, ◌∙◌}
+use Rattle.std.proofs.Common.{◌≡◌, [], drop, ap, ◌∙◌}
 use Rattle.std.proofs.lemmas.List.{drop_all}
-use Rattle.ps_command.specs.declared.op.Op.{Op}
 use Rattle.ps_command.specs.declared.symbolic_form.SymbolicForm.{SymbolicForm}
 use Rattle.ps_command.specs.inner.Builder.{form_so_far}
 use Rattle.ps_command.proofs.Building.{built_end}
