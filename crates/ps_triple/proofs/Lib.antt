@@ -1,4 +1,7 @@
 pub mod Apart
+pub mod Counts
+pub mod Denials
+pub mod Distinct
 pub mod Lifted
 pub mod Membership
 pub mod Renewed

@@ -36,13 +36,8 @@ use Rattle.ps_triple.specs.Tests.{IsAtomOf, IsThere}
 use Rattle.ps_triple.specs.Validity.{worth, HoldsOf, IsTrueIn, IsValid, IsValidTriple, IsTrueAtFirst}
 use Rattle.ps_triple.specs.declared.initial.Initial.{Initial}
 use Rattle.ps_triple.specs.declared.triple.Triple.{Triple}
-use Rattle.ps_triple.proofs.Membership.{all_of, mapped}
+use Rattle.ps_triple.proofs.Membership.{all_of, any_default, mapped}
 use Rattle.ps_triple.proofs.Sound.{holds_after, holds_at_first}
-
-any_default : {X : Type 0} (xs : List X) (k : ℕ) (c d : X) → k < length xs → get_or xs k c ≡ get_or xs k d
-any_default [] k c d h = let none_such : ⊥ = omega (arith, h) in absurd none_such
-any_default (x ∷ xs) zero c d h = refl
-any_default (x ∷ xs) (suc k) c d h = let i : k < length xs = omega (arith, h) in any_default xs k c d i
 
 past : {X : Type 0} (xs : List X) (k : ℕ) (d : X) → length xs ≤ k → get_or xs k d ≡ d
 past [] k d l = refl

@@ -1,10 +1,10 @@
 -- What renamed rows are worth, and how they are made pair by pair.
-use Rattle.std.proofs.Common.{◌≡◌, ◌≢◌, ◌+◌, ◌<◌, ℕ, ℤ, pos, ◌+ℤ◌, ◌*ℤ◌, FitsSigned, Bool, false, List, [], ◌∷◌, length, get_or, drop, if◌then◌else◌, refl, sym, ap, ◌∙◌, subst, true, arith}
+use Rattle.std.proofs.Common.{◌≡◌, ◌≢◌, ◌+◌, ◌<◌, ℕ, ℤ, pos, ◌+ℤ◌, ◌*ℤ◌, FitsSigned, Bool, false, List, [], ◌∷◌, length, get_or, drop, if◌then◌else◌, refl, sym, ap, ap₂, ◌∙◌, subst, subst₂, true, All, AllPairs, arith}
 use Rattle.std.specs.Int.{w128}
 use Rattle.std.specs.List.{AllByRecursion}
 use Rattle.std.proofs.lemmas.Int.{ints}
 use Rattle.std.proofs.lemmas.List.{drop_more}
-use Rattle.std.proofs.lemmas.List.Elements.{All-from_recursion}
+use Rattle.std.proofs.lemmas.List.Elements.{All-from_recursion, recursion_from_All}
 use Rattle.ps_term.proofs.ExactTerms.{pair_value, pair_canonical, same_term}
 use Rattle.ps_term.proofs.Ring.{one-mul}
 use Rattle.ps_term.proofs.Variables.{var_eq-true}
@@ -17,6 +17,8 @@ use Rattle.ps_term.specs.declared.row.Row.{Row}
 use Rattle.ps_term.specs.declared.term.Term.{Term}
 use Rattle.ps_term.specs.declared.var.Var.{Var}
 use Rattle.ps_atom.proofs.Chains.{IsChain}
+use Rattle.ps_atom.specs.Atoms.{at_threads, IsOfSlots}
+use Rattle.ps_triple.proofs.Apart.{pairs_apart}
 use Rattle.ps_triple.specs.Places.{pairs_by, row_by}
 
 pairs_worth : (new : Var → Var) (v : Var → ℤ) (ps : List (Var × ℤ)) → pairs_value v (pairs_by new ps) ≡ pairs_value (λ x. v (new x)) ps
@@ -43,6 +45,7 @@ variable_worth v x = omega (arith, ints, one-mul (v x))
 -- ---- pair by pair: the sum so far is worth what was taken, and the new variables of the rest don't stand in it
 pub record Placed (new : Var → Var) (row : Row) (sum : Term) (rest : List (Var × ℤ)) : Type 0 where
   pub canonical : IsCanonical sum.pairs
+  pub constant : sum.constant ≡ row.term.constant
   pub worth : (v : Var → ℤ) → (value v sum +ℤ pairs_value (λ x. v (new x)) rest) ≡ value (λ x. v (new x)) row.term
   pub free : AllByRecursion (λ (q : Var × ℤ). coefficient (new q.0) sum.pairs ≡ pos 0) rest
   pub apart : IsChain (λ (p q : Var × ℤ). new p.0 ≢ new q.0) rest
@@ -50,6 +53,7 @@ pub record Placed (new : Var → Var) (row : Row) (sum : Term) (rest : List (Var
 pub Placed-start : (new : Var → Var) (row : Row) (sum : Term) (ps : List (Var × ℤ)) → ps ≡ row.term.pairs → sum ≡ record { pairs = []; constant = row.term.constant } → IsChain (λ (p q : Var × ℤ). new p.0 ≢ new q.0) ps → Placed new row sum ps
 Placed-start new row sum ps e is apart = subst (λ (t : Term). Placed new row t ps) (sym is) (record {
   canonical = tt;
+  constant = refl;
   worth = λ v. begins v ∙ ap (λ (qs : List (Var × ℤ)). pairs_value (λ x. v (new x)) qs +ℤ row.term.constant) e;
   free = none ps;
   apart = apart;
@@ -74,11 +78,16 @@ still_free : (n a b : ℤ) (t : Bool) → t ≡ false → b ≡ pos 0 → a ≡ 
 still_free n a b false f e h = omega (arith, ints, e, h)
 still_free n a b true f e h = let none : ⊥ = cc in absurd none
 
+stays : (k n : ℤ) → k ≡ (k +ℤ (n *ℤ pos 0))
+stays k n = omega (arith, ints)
+
 pub Placed-turn : (new : Var → Var) (row : Row) (sum next : Term) (p : Var × ℤ) (rest : List (Var × ℤ)) → Placed new row sum (p ∷ rest) → IsCanonical next.pairs →
     ((v : Var → ℤ) → value v next ≡ (value v sum +ℤ (p.1 *ℤ value v (variable_term (new p.0))))) →
-    ((x : Var) → coefficient x next.pairs ≡ (coefficient x sum.pairs +ℤ (p.1 *ℤ coefficient x (variable_term (new p.0)).pairs))) → Placed new row next rest
-Placed-turn new row sum next p rest s canonical worth coefficients = record {
+    ((x : Var) → coefficient x next.pairs ≡ (coefficient x sum.pairs +ℤ (p.1 *ℤ coefficient x (variable_term (new p.0)).pairs))) →
+    next.constant ≡ (sum.constant +ℤ (p.1 *ℤ pos 0)) → Placed new row next rest
+Placed-turn new row sum next p rest s canonical worth coefficients constant = record {
   canonical = canonical;
+  constant = constant ∙ (sym (stays sum.constant p.1) ∙ s.constant);
   worth = λ v. taken (value v next) (value v sum) (p.1 *ℤ value v (variable_term (new p.0))) (p.1 *ℤ v (new p.0)) (pairs_value (λ x. v (new x)) rest) (value (λ x. v (new x)) row.term)
       (worth v) (ap (λ (z : ℤ). p.1 *ℤ z) (variable_worth v (new p.0))) (s.worth v);
   free = each rest s.free.1 s.apart.0;
@@ -105,9 +114,6 @@ from_none s n e = omega (arith, ints, e)
 times_none : (n : ℤ) → pos 0 ≡ (n *ℤ pos 0)
 times_none n = omega (arith, ints)
 
-stays : (k n : ℤ) → k ≡ (k +ℤ (n *ℤ pos 0))
-stays k n = omega (arith, ints)
-
 -- what is added fits
 pub Placed-fits : (new : Var → Var) (row : Row) (sum : Term) (p : Var × ℤ) (rest : List (Var × ℤ)) → Placed new row sum (p ∷ rest) → FitsSigned w128 p.1 → FitsSigned w128 sum.constant → FitsSigned w128 (pos 0) →
     TermFits sum p.1 (variable_term (new p.0))
@@ -130,3 +136,26 @@ none_left z = omega (arith, ints)
 
 pub Placed-end : (new : Var → Var) (row : Row) (sum : Term) → Placed new row sum [] → record { term = sum } ≡ row_by new row
 Placed-end new row sum s = row_is new row sum s.canonical (λ v. none_left (value v sum) ∙ s.worth v)
+
+-- ---- with threads for slots, as `place` goes
+pub Placed-begin : (ts : List ℕ) (row : Row) (sum : Term) (ps : List (Var × ℤ)) → ps ≡ row.term.pairs → IsCanonical ps → AllPairs (λ (s t : ℕ). s ≢ t) ts → All (λ (p : Var × ℤ). IsOfSlots (length ts) p.0) row.term.pairs →
+    sum ≡ record { pairs = []; constant = row.term.constant } → Placed (at_threads ts) row sum ps
+Placed-begin ts row sum ps e canonical distinct slots is = Placed-start (at_threads ts) row sum ps e is
+    (pairs_apart ts distinct ps canonical (recursion_from_All (λ (p : Var × ℤ). IsOfSlots (length ts) p.0) ps (subst (λ (qs : List (Var × ℤ)). All (λ (p : Var × ℤ). IsOfSlots (length ts) p.0) qs) (sym e) slots)))
+
+pub Placed-step : (new : Var → Var) (row : Row) (ps : List (Var × ℤ)) (sum next variable : Term) (by : ℤ) (i : ℕ) (d : Var × ℤ) → i < length ps → Placed new row sum (drop i ps) →
+    variable ≡ variable_term (new (get_or ps i d).0) → by ≡ (get_or ps i d).1 → IsCanonical next.pairs →
+    ((v : Var → ℤ) → value v next ≡ (value v sum +ℤ (by *ℤ value v variable))) →
+    ((x : Var) → coefficient x next.pairs ≡ (coefficient x sum.pairs +ℤ (by *ℤ coefficient x variable.pairs))) →
+    next.constant ≡ (sum.constant +ℤ (by *ℤ variable.constant)) → Placed new row next (drop (i + 1) ps)
+Placed-step new row ps sum next variable by i d l s is same canonical worth coefficients constant =
+    Placed-turn new row sum next (get_or ps i d) (drop (i + 1) ps) (Placed-at new row ps sum i d l s) canonical
+    (λ v. worth v ∙ ap₂ (λ (n : ℤ) (t : Term). value v sum +ℤ (n *ℤ value v t)) same is)
+    (λ x. coefficients x ∙ ap₂ (λ (n : ℤ) (t : Term). coefficient x sum.pairs +ℤ (n *ℤ coefficient x t.pairs)) same is)
+    (constant ∙ ap₂ (λ (n : ℤ) (t : Term). sum.constant +ℤ (n *ℤ t.constant)) same is)
+
+pub Placed-never : (new : Var → Var) (row : Row) (ps : List (Var × ℤ)) (sum variable : Term) (by : ℤ) (i : ℕ) (d : Var × ℤ) → i < length ps → Placed new row sum (drop i ps) →
+    variable ≡ variable_term (new (get_or ps i d).0) → by ≡ (get_or ps i d).1 → FitsSigned w128 by → FitsSigned w128 row.term.constant → FitsSigned w128 (pos 0) → TermFits sum by variable
+Placed-never new row ps sum variable by i d l s is same n k zero =
+    subst₂ (λ (m : ℤ) (t : Term). TermFits sum m t) (sym same) (sym is)
+    (Placed-fits new row sum (get_or ps i d) (drop (i + 1) ps) (Placed-at new row ps sum i d l s) (subst (FitsSigned w128) same n) (subst (FitsSigned w128) (sym s.constant) k) zero)

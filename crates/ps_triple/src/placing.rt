@@ -13,12 +13,24 @@ pub(crate) fn place(alloc: Global, row: &Row, threads: &[u32]) -> Result<Row, Te
     ensures row { IfOk result (λ placed. placed ≡ row_by (at_threads threads.now) row.now) }
     ensures fits { ¬ IsErrOf result TermEnd.Past128 }
 {
+    Ok(Row {
+        term: placed_term(alloc, row, threads)?,
+    })
+}
+
+// The row's term with the threads put for its slots.
+fn placed_term(alloc: Global, row: &Row, threads: &[u32]) -> Result<Term, TermEnd>
+    requires distinct { AllPairs (λ s t. s ≢ t) threads.now }
+    requires slots { All (λ pair. IsOfSlots (length threads.now) pair.0) row.now.term.pairs }
+    ensures term { IfOk result (λ term. term ≡ (row_by (at_threads threads.now) row.now).term) }
+    ensures fits { ¬ IsErrOf result TermEnd.Past128 }
+{
     let mut term = Term::from_constant(alloc, row.term.constant);
     for pair in row.term.pairs.as_slice() {
         let variable = Term::from_variable(alloc, at_threads(threads, pair.0)).map_err(TermEnd::Memory)?;
         term = add_scaled(alloc, &term, pair.1, &variable)?;
     }
-    Ok(Row { term })
+    Ok(term)
 }
 
 // The variable that stands for one of a predicate where the slots are these threads.

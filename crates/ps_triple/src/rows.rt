@@ -81,7 +81,7 @@ fn triple_rows(
     let mut rows = rows_before(alloc, setting, predicates, triple.pre.as_slice())?;
     push_copies(alloc, &mut rows, form.rows.as_slice())?;
     let last = last_row(alloc, setting, predicates, form, &triple.post)?;
-    rows.push(last).map_err(|_| TermEnd::Memory(AllocError))?;
+    push(&mut rows, last)?;
     Ok(rows)
 }
 
@@ -102,7 +102,7 @@ fn initial_rows(
     push_copies(alloc, &mut rows, setting.init_once.as_slice())?;
     push_rows_of_threads(alloc, &mut rows, setting, predicate.arity + 1)?;
     let last = negated(alloc, &predicate.row)?;
-    rows.push(last).map_err(|_| TermEnd::Memory(AllocError))?;
+    push(&mut rows, last)?;
     Ok(rows)
 }
 
@@ -121,7 +121,7 @@ fn rows_before(
     let mut rows = Vec::new(alloc);
     for atom in atoms {
         let row = placed_row(alloc, setting, predicates, atom)?;
-        rows.push(row).map_err(|_| TermEnd::Memory(AllocError))?;
+        push(&mut rows, row)?;
     }
     Ok(rows)
 }
@@ -171,7 +171,6 @@ fn negated(alloc: Global, row: &Row) -> Result<Row, TermEnd>
     ensures fits { OnOk result (NegationFits row.now) }
     ensures past { IsErrOf result TermEnd.Past128 → ¬ NegationFits row.now }
 {
-    let _pairs = row.term.pairs.as_slice();
     negate(alloc, row)
 }
 
@@ -205,7 +204,7 @@ fn push_rows_of(
     let threads = [thread];
     for row in setting.init_each.as_slice() {
         let placed = place(alloc, row, &threads)?;
-        rows.push(placed).map_err(|_| TermEnd::Memory(AllocError))?;
+        push(rows, placed)?;
     }
     Ok(())
 }
@@ -218,7 +217,18 @@ fn push_copies(alloc: Global, rows: &mut Vec<Row>, list: &[Row]) -> Result<(), T
     rows.reserve(list.len()).map_err(TermEnd::Memory)?;
     for row in list {
         let copy = row.copy(alloc).map_err(TermEnd::Memory)?;
-        rows.push(copy).map_err(|_| TermEnd::Memory(AllocError))?;
+        push(rows, copy)?;
     }
     Ok(())
+}
+
+// Appends a row.
+fn push(rows: &mut Vec<Row>, row: Row) -> Result<(), TermEnd>
+    ensures rows { OnOk result (rows.new.items ≡ rows.old.items ++ row ∷ []) }
+    ensures fits { ¬ IsErrOf result TermEnd.Past128 }
+{
+    match rows.push(row) {
+        Ok(()) => Ok(()),
+        Err(_) => Err(TermEnd::Memory(AllocError)),
+    }
 }

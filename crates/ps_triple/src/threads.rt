@@ -1,5 +1,5 @@
 // Tests of the threads of atoms.
-ghost use Rattle.std.specs.Prelude.{◌≢◌, ◌↔◌, AllPairs, IsTrue};
+ghost use Rattle.std.specs.Prelude.{◌≢◌, ◌↔◌, AllPairs, Contains, IsTrue};
 ghost use Rattle.ps_triple.specs.Tests.{HasDistinctThreads, HasNoFreeThread, HasThreadsOnce, IsTied, IsTiedTo};
 
 use crate::entry::Entry;
@@ -41,12 +41,18 @@ fn has_threads_once(atom: &Atom) -> bool
 fn are_distinct(threads: &[u32]) -> bool
     ensures { IsTrue result ↔ AllPairs (λ s t. s ≢ t) threads.now }
 {
-    for (i, thread) in threads.iter().enumerate() {
-        if threads[..i].contains(thread) {
+    for i in 0..threads.len() {
+        if is_among(&threads[..i], threads[i]) {
             return false;
         }
     }
     true
+}
+
+fn is_among(threads: &[u32], thread: u32) -> bool
+    ensures { IsTrue result ↔ Contains threads.now thread }
+{
+    threads.contains(&thread)
 }
 
 // Whether each thread of the atom is 0 or one of these.
