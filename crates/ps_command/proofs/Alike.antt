@@ -1,20 +1,17 @@
 -- A run on the values that a thread sees is a run on values of variables.
-use Rattle.std.proofs.Common.{◌≡◌, ◌≢◌, refl, sym, ap, ap₂, ◌∙◌, subst, Bool, true, false, ◌&&◌, ◌==◌, ℕ, ◌<◌, ℤ, pos, ◌+ℤ◌, ◌*ℤ◌, List, [], ◌∷◌, length, get_or, if◌then◌else◌, IsTrue, IsFalse, int_le, nat_lt, length-set, eqb-true, ne_eqb, ltb-true, arith}
+use Rattle.std.proofs.Common.{◌≡◌, ◌≢◌, refl, sym, ap, ap₂, ◌∙◌, subst, Bool, true, false, ◌&&◌, ◌==◌, ℕ, ◌<◌, ℤ, pos, ◌+ℤ◌, ◌*ℤ◌, List, [], ◌∷◌, length, get_or, if◌then◌else◌, IsFalse, int_le, nat_lt, length-set, eqb-true, ne_eqb, ltb-true}
 use Rattle.std.specs.Prelude.{slice_index_or, slice_set, Option, Some, None, option_map, drop, MatchOption}
 use Rattle.std.specs.List.{list_all, AllByRecursion}
 use Rattle.std.proofs.lemmas.Bool.{eqb-false, and_parts}
 use Rattle.std.proofs.lemmas.List.{get_or-set_same, get_or-set_other}
-use Rattle.std.proofs.lemmas.Option.{same_Some}
 use Rattle.ps_term.specs.Pairs.{pairs_value}
 use Rattle.ps_term.specs.Substitution.{values_after}
 use Rattle.ps_term.specs.Term.{value}
-use Rattle.ps_term.specs.Var.{var_eq}
-use Rattle.ps_term.specs.declared.row.Row.{Row}
 use Rattle.ps_term.specs.declared.term.Term.{Term}
 use Rattle.ps_term.specs.declared.var.Var.{Var}
 use Rattle.ps_term.specs.declared.var.Var.TheVariants.{Global, Local, Havoc}
 use Rattle.ps_command.specs.Agreement.{AreSeenBy, RanAs}
-use Rattle.ps_command.specs.Fitting.{CanRun, IsSized}
+use Rattle.ps_command.specs.Fitting.{CanRun}
 use Rattle.ps_command.specs.Form.{form_of}
 use Rattle.ps_command.specs.Named.{is_declared, is_declared_term, is_declared_row, is_declared_op}
 use Rattle.ps_command.specs.Run.{holds, run_on, run, run_by}
@@ -23,7 +20,6 @@ use Rattle.ps_command.specs.Values.{Values, value_at, with_value, values_of, wit
 use Rattle.ps_command.specs.declared.op.Op.{Op}
 use Rattle.ps_command.specs.declared.op.Op.TheVariants.{Assume, Assign, Havoc as HavocOp}
 use Rattle.ps_command.specs.declared.state.State.{State}
-use Rattle.ps_command.specs.declared.symbolic_form.SymbolicForm.{SymbolicForm}
 use Rattle.ps_command.proofs.Forms.{form_runs}
 use Rattle.ps_command.proofs.Sizes.{SameSizes, set_sizes}
 

@@ -1,5 +1,5 @@
 -- The form of ops says how they run, from all values.
-use Rattle.std.proofs.Common.{◌≡◌, refl, sym, ap, ◌∙◌, subst, Bool, true, false, ◌&&◌, ℕ, suc, ◌+◌, ℤ, pos, ◌+ℤ◌, ◌*ℤ◌, List, [], ◌∷◌, ◌++◌, drop, if◌then◌else◌, int_le, arith}
+use Rattle.std.proofs.Common.{◌≡◌, refl, sym, ap, ◌∙◌, Bool, true, false, ◌&&◌, ℕ, suc, ◌+◌, ℤ, pos, List, [], ◌∷◌, drop, if◌then◌else◌, int_le, arith}
 use Rattle.std.specs.Prelude.{slice_index_or, Option, Some, None}
 use Rattle.std.specs.List.{list_all}
 use Rattle.std.proofs.lemmas.Bool.{false≢true}
@@ -16,7 +16,7 @@ use Rattle.ps_term.specs.Var.{var_eq, var_lt}
 use Rattle.ps_term.specs.declared.row.Row.{Row}
 use Rattle.ps_term.specs.declared.term.Term.{Term}
 use Rattle.ps_term.specs.declared.var.Var.{Var}
-use Rattle.ps_term.specs.declared.var.Var.TheVariants.{Global, Local, Havoc}
+use Rattle.ps_term.specs.declared.var.Var.TheVariants.{Havoc}
 use Rattle.ps_command.specs.Form.{with_term, with_op, form_from, empty_form, form_of}
 use Rattle.ps_command.specs.Run.{holds, run_on, havocs_in}
 use Rattle.ps_command.specs.Symbolic.{set_at, with_havocs, IsForm}
@@ -105,16 +105,16 @@ module _ (w : Var → ℤ) (hs : List ℤ) (chosen : (i : ℕ) → w (Havoc i) �
   runs_on (Assign x t ∷ ops) form =
       let put : Term = substituted form.after t in
       let same : ◌≡◌ {A = Var → ℤ} (set_at (values_after w form.after) x (value (values_after w form.after) t)) (values_after w (with_term x put form.after)) =
-          ap (λ (z : ℤ). set_at (values_after w form.after) x z) (sym (put_worth w form.after t)) ∙ set_after w x put form.after in
+      ap (λ (z : ℤ). set_at (values_after w form.after) x z) (sym (put_worth w form.after t)) ∙ set_after w x put form.after in
       ap (λ (g : Var → ℤ). Rest form ops g (drop form.havocs hs)) same
       ∙ runs_on ops (with_op form (Assign x t))
   runs_on (HavocOp x ∷ ops) form =
       let put : Term = variable_term (Havoc form.havocs) in
       let no_more : form.havocs + 0 ≡ form.havocs = omega arith in
       let first : slice_index_or (drop form.havocs hs) 0 (pos 0) ≡ value w put =
-          get_or-drop form.havocs hs 0 (pos 0) ∙ (ap (λ (n : ℕ). slice_index_or hs n (pos 0)) no_more ∙ (sym (chosen form.havocs) ∙ sym (variable_value w (Havoc form.havocs)))) in
+      get_or-drop form.havocs hs 0 (pos 0) ∙ (ap (λ (n : ℕ). slice_index_or hs n (pos 0)) no_more ∙ (sym (chosen form.havocs) ∙ sym (variable_value w (Havoc form.havocs)))) in
       let same : ◌≡◌ {A = Var → ℤ} (set_at (values_after w form.after) x (slice_index_or (drop form.havocs hs) 0 (pos 0))) (values_after w (with_term x put form.after)) =
-          ap (λ (z : ℤ). set_at (values_after w form.after) x z) first ∙ set_after w x put form.after in
+      ap (λ (z : ℤ). set_at (values_after w form.after) x z) first ∙ set_after w x put form.after in
       ap (λ (g : Var → ℤ). Rest form ops g (drop 1 (drop form.havocs hs))) same
       ∙ (ap (λ (gs : List ℤ). Rest form ops (values_after w (with_term x put form.after)) gs) (drop_next form.havocs hs)
       ∙ runs_on ops (with_op form (HavocOp x)))

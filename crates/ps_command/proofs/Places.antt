@@ -1,9 +1,9 @@
 -- The place of a variable in a list of terms whose variables ascend.
-use Rattle.std.proofs.Common.{◌≡◌, ◌≤◌, ◌⊎◌, ℕ, suc, zero, ◌<◌, ◌+◌, Bool, true, false, not, ◌&&◌, List, [], ◌∷◌, ◌++◌, length, get_or, take, drop, if◌then◌else◌, refl, sym, ap, ◌∙◌, subst, inl, inr, arith}
+use Rattle.std.proofs.Common.{◌≡◌, ◌≤◌, ℕ, suc, zero, ◌<◌, Bool, true, false, not, ◌&&◌, List, [], ◌∷◌, length, get_or, drop, if◌then◌else◌, refl, sym, ap, ◌∙◌, subst, arith}
 use Rattle.std.specs.Prelude.{slice_set, insert}
 use Rattle.std.specs.List.{list_all}
 use Rattle.std.specs.List.Sorted.{IsPartitionedBy, IsPartitionPoint}
-use Rattle.std.proofs.lemmas.Bool.{true≢false, false≢true, cases_eq, and_parts}
+use Rattle.std.proofs.lemmas.Bool.{false≢true, and_parts}
 use Rattle.ps_term.specs.declared.term.Term.{Term}
 use Rattle.ps_term.specs.declared.var.Var.{Var}
 use Rattle.ps_term.specs.Substitution.{replacement}
@@ -161,3 +161,19 @@ stands_within x [] zero e = absurd (false≢true e)
 stands_within x [] (suc i) e = absurd (false≢true e)
 stands_within x (p ∷ ps) zero e = omega arith
 stands_within x (p ∷ ps) (suc i) e = let h : i < length ps = stands_within x ps i e in omega (arith, h)
+
+-- ---- what is set at the place that a search found, over lists that are equal
+placed : (x : Var) (ps qs : List (Var × Term)) (i : ℕ) → qs ≡ ps → i ≤ length qs → IsPartitionPoint (λ p. var_lt p.0 x ≡ true) (λ p. var_lt p.0 x ≡ false) qs i → IsPlace x ps i
+placed x ps qs i e le parts = subst (λ (l : List (Var × Term)). IsPlace x l i) e (is_place x qs i le parts)
+
+pub set_found : (x : Var) (t : Term) (ps qs rs : List (Var × Term)) (i : ℕ) (b : Bool) → qs ≡ ps → rs ≡ ps → i ≤ length qs → IsPartitionPoint (λ p. var_lt p.0 x ≡ true) (λ p. var_lt p.0 x ≡ false) qs i →
+    b ≡ is_first x (drop i rs) → b ≡ true → slice_set ps i (x, t) ≡ with_term x t ps
+set_found x t ps qs rs i b e f le parts h on =
+    let first : is_first x (drop i ps) ≡ true = subst (λ (l : List (Var × Term)). is_first x (drop i l) ≡ true) f (sym h ∙ on) in
+    sym (set_at_place x t ps i (placed x ps qs i e le parts) ∙ ap (λ (c : Bool). if c then slice_set ps i (x, t) else insert ps i (x, t)) first)
+
+pub set_missing : (x : Var) (t : Term) (ps qs rs : List (Var × Term)) (i : ℕ) (b : Bool) → qs ≡ ps → rs ≡ ps → i ≤ length qs → IsPartitionPoint (λ p. var_lt p.0 x ≡ true) (λ p. var_lt p.0 x ≡ false) qs i →
+    b ≡ is_first x (drop i rs) → b ≡ false → insert ps i (x, t) ≡ with_term x t ps
+set_missing x t ps qs rs i b e f le parts h off =
+    let first : is_first x (drop i ps) ≡ false = subst (λ (l : List (Var × Term)). is_first x (drop i l) ≡ false) f (sym h ∙ off) in
+    sym (set_at_place x t ps i (placed x ps qs i e le parts) ∙ ap (λ (c : Bool). if c then slice_set ps i (x, t) else insert ps i (x, t)) first)

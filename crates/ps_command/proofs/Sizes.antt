@@ -1,5 +1,5 @@
 -- A run keeps the numbers of values.
-use Rattle.std.proofs.Common.{◌≡◌, refl, ◌∙◌, subst, Bool, true, false, ℕ, ℤ, pos, ◌<◌, List, [], ◌∷◌, length, All, length-set, if◌then◌else◌}
+use Rattle.std.proofs.Common.{◌≡◌, refl, ◌∙◌, subst, Bool, true, false, ℕ, ℤ, pos, ◌<◌, List, [], ◌∷◌, length, length-set, if◌then◌else◌}
 use Rattle.std.specs.Prelude.{slice_index_or, Option, Some, None, option_map, drop}
 use Rattle.std.proofs.lemmas.Option.{same_Some}
 use Rattle.std.proofs.lemmas.List.Elements.{All-set, All-get_or}

@@ -1,5 +1,5 @@
 -- What it is that a run in a state and a symbolic form agree.
-use Rattle.std.specs.Prelude.{◌≡◌, ◌≢◌, ℕ, ℤ, List, [], length, slice_index_or, IsTrue}
+use Rattle.std.specs.Prelude.{◌≡◌, ◌≢◌, ℕ, ℤ, [], length, slice_index_or, IsTrue}
 use Rattle.std.specs.List.{list_all}
 use Rattle.ps_command.specs.Run.{holds}
 use Rattle.ps_command.specs.Values.{value_in}

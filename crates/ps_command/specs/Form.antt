@@ -1,5 +1,5 @@
 -- The symbolic form of ops: they are run on terms over the values before them and over their havoc values.
-use Rattle.std.specs.Prelude.{ℕ, suc, List, [], ◌∷◌, ◌++◌, if◌then◌else◌}
+use Rattle.std.specs.Prelude.{suc, List, [], ◌∷◌, ◌++◌, if◌then◌else◌}
 use Rattle.ps_command.specs.declared.op.Op.{Op}
 use Rattle.ps_command.specs.declared.op.Op.TheVariants.{Assume, Assign, Havoc as HavocOp}
 use Rattle.ps_command.specs.declared.symbolic_form.SymbolicForm.{SymbolicForm}
@@ -7,7 +7,6 @@ use Rattle.ps_term.specs.Exact.{substituted}
 use Rattle.ps_term.specs.Substitution.{SubstitutionFits}
 use Rattle.ps_term.specs.Term.{variable_term}
 use Rattle.ps_term.specs.Var.{var_eq, var_lt}
-use Rattle.ps_term.specs.declared.row.Row.{Row}
 use Rattle.ps_term.specs.declared.term.Term.{Term}
 use Rattle.ps_term.specs.declared.var.Var.{Var}
 use Rattle.ps_term.specs.declared.var.Var.TheVariants.{Havoc}

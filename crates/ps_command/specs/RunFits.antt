@@ -1,5 +1,5 @@
 -- When a run stays within 128 bits.
-use Rattle.std.specs.Prelude.{ℕ, ℤ, pos, List, [], ◌∷◌, drop, slice_index_or, IsTrue}
+use Rattle.std.specs.Prelude.{ℤ, pos, List, [], ◌∷◌, drop, slice_index_or, IsTrue}
 use Rattle.ps_command.specs.Run.{holds}
 use Rattle.ps_command.specs.Values.{Values, value_at, with_value}
 use Rattle.ps_command.specs.declared.op.Op.{Op}

@@ -16,7 +16,8 @@ pub fn is_sized(setting: &Setting, state: &State) -> bool
     ensures { IsTrue result ↔ IsSized setting.now state.now }
 {
     state.globals.as_slice().len() == setting.globals as usize
-        && state.locals.as_slice().iter().all(|locals| locals.as_slice().len() == setting.locals as usize)
+        && state.locals.as_slice().iter().all(|locals| locals.as_slice().len()
+            == setting.locals as usize)
 }
 
 /// Whether the state has the thread and each variable that the command names, in time of the command's pairs. It takes no
@@ -25,7 +26,11 @@ pub fn can_run(command: &Command, state: &State, thread: u32) -> bool
     ensures { IsTrue result ↔ CanRun thread command.now.ops state.now }
 {
     match state.locals.as_slice().get(thread as usize) {
-        Some(locals) => names_declared(command.ops.as_slice(), state.globals.as_slice().len(), locals.as_slice().len()),
+        Some(locals) => names_declared(
+            command.ops.as_slice(),
+            state.globals.as_slice().len(),
+            locals.as_slice().len(),
+        ),
         None => false,
     }
 }
@@ -34,12 +39,7 @@ pub fn can_run(command: &Command, state: &State, thread: u32) -> bool
 fn names_declared(ops: &[Op], globals: usize, locals: usize) -> bool
     ensures { result ≡ list_all (is_declared_op globals locals) ops.now }
 {
-    for op in ops {
-        if !is_declared_op(op, globals, locals) {
-            return false;
-        }
-    }
-    true
+    ops.iter().all(|op| is_declared_op(op, globals, locals))
 }
 
 fn is_declared_op(op: &Op, globals: usize, locals: usize) -> bool
@@ -47,7 +47,8 @@ fn is_declared_op(op: &Op, globals: usize, locals: usize) -> bool
 {
     match op {
         Op::Assume(row) => is_declared_term(&row.term, globals, locals),
-        Op::Assign(variable, term) => is_declared(*variable, globals, locals) && is_declared_term(term, globals, locals),
+        Op::Assign(variable, term) => is_declared(*variable, globals, locals)
+            && is_declared_term(term, globals, locals),
         Op::Havoc(variable) => is_declared(*variable, globals, locals),
     }
 }
@@ -55,12 +56,10 @@ fn is_declared_op(op: &Op, globals: usize, locals: usize) -> bool
 fn is_declared_term(term: &Term, globals: usize, locals: usize) -> bool
     ensures { result ≡ is_declared_term globals locals term.now }
 {
-    for pair in term.pairs.as_slice() {
-        if !is_declared(pair.0, globals, locals) {
-            return false;
-        }
-    }
-    true
+    term.pairs
+        .as_slice()
+        .iter()
+        .all(|pair| is_declared(pair.0, globals, locals))
 }
 
 fn is_declared(variable: Var, globals: usize, locals: usize) -> bool

@@ -50,15 +50,23 @@ impl FormBuilder {
         match op {
             Op::Assume(row) => {
                 let term = self.after.put_in(alloc, &row.term)?;
-                self.rows.push(Row { term }).map_err(|_| TermEnd::Memory(AllocError))?;
+                self.rows
+                    .push(Row { term })
+                    .map_err(|_| TermEnd::Memory(AllocError))?;
             }
             Op::Assign(variable, term) => {
                 let worth = self.after.put_in(alloc, term)?;
-                self.after.set(alloc, *variable, worth).map_err(TermEnd::Memory)?;
+                self.after
+                    .set(alloc, *variable, worth)
+                    .map_err(TermEnd::Memory)?;
             }
             Op::Havoc(variable) => {
-                let chosen = Term::from_variable(alloc, Var::Havoc(self.havocs)).map_err(TermEnd::Memory)?;
-                self.after.set(alloc, *variable, chosen).map_err(TermEnd::Memory)?;
+                let chosen = Term::from_variable(alloc, Var::Havoc(self.havocs)).map_err(
+                    TermEnd::Memory,
+                )?;
+                self.after
+                    .set(alloc, *variable, chosen)
+                    .map_err(TermEnd::Memory)?;
                 self.havocs += 1;
             }
         }

@@ -1,6 +1,7 @@
 //! The making of symbolic forms.
 ghost use Rattle.std.specs.Prelude.{◌≡◌, ◌<◌, ◌^◌, IfOk, OnOk, IsErrOf, length};
 ghost use Rattle.ps_command.specs.Form.{form_of, FormFits};
+ghost use Rattle.ps_command.specs.Run.{havocs_in};
 
 use crate::command::Command;
 use crate::form_builder::FormBuilder;
@@ -15,6 +16,7 @@ use std::alloc::Global;
 pub fn symbolic(alloc: Global, command: &Command) -> Result<SymbolicForm, TermEnd>
     requires { length command.now.ops < 2 ^ 32 }
     ensures form { IfOk result (λ form. form ≡ form_of command.now.ops) }
+    ensures havocs { IfOk result (λ form. form.havocs ≡ havocs_in command.now.ops) }
     ensures fits { OnOk result (FormFits command.now.ops) }
     ensures past { IsErrOf result TermEnd.Past128 → ¬ FormFits command.now.ops }
 {

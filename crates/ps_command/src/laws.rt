@@ -26,8 +26,8 @@ pub fn runs_are_as_forms()
     ensures { (ops : List Op) (s : State) (thread : ℕ) (values : Var → ℤ) (hs : List ℤ)
         → CanRun thread ops s → AreSeenBy thread s values
         → MatchOption (run_by thread ops s hs)
-            (IsFalse (list_all (holds (with_havocs values hs)) (form_of ops).rows))
-            (RanAs thread (form_of ops) (with_havocs values hs) s) }
+        (IsFalse (list_all (holds (with_havocs values hs)) (form_of ops).rows))
+        (RanAs thread (form_of ops) (with_havocs values hs) s) }
 {}
 
 /// A state of the setting's sizes that has the thread can run ops that name declared variables alone.

@@ -50,7 +50,11 @@ pub(crate) fn term_of(after: &[(Var, Term)], variable: Var) -> Option<&Term>
 }
 
 // Makes the variable worth the term.
-pub(crate) fn set_term(after: &mut Vec<(Var, Term)>, variable: Var, term: Term) -> Result<(), AllocError>
+pub(crate) fn set_term(
+    after: &mut Vec<(Var, Term)>,
+    variable: Var,
+    term: Term,
+) -> Result<(), AllocError>
     requires { IsTrue (ascends after.old.items) }
     ensures set { OnOk result (after.new.items ≡ with_term variable term after.old.items) }
     ensures kept { OnErr result (after.new.items ≡ after.old.items) }
@@ -61,6 +65,8 @@ pub(crate) fn set_term(after: &mut Vec<(Var, Term)>, variable: Var, term: Term) 
         after[place] = (variable, term);
         return Ok(());
     }
-    after.insert(place, (variable, term)).map_err(|_| AllocError)?;
+    after
+        .insert(place, (variable, term))
+        .map_err(|_| AllocError)?;
     Ok(())
 }

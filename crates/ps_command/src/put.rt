@@ -1,10 +1,12 @@
 // Terms put for variables, each found by a search.
-ghost use Rattle.std.specs.Prelude.{◌≡◌, IfOk, OnOk, IsErrOf, IsTrue};
+ghost use Rattle.std.specs.Prelude.{◌≡◌, ◌+ℤ◌, ◌*ℤ◌, ℤ, IfOk, OnOk, IsErrOf, IsTrue};
 ghost use Rattle.ps_command.specs.Assignments.{ascends};
-ghost use Rattle.ps_term.specs.Exact.{plus_scaled, substituted};
-ghost use Rattle.ps_term.specs.Pairs.{IsCanonical};
-ghost use Rattle.ps_term.specs.Substitution.{replacement, SubstitutionFits};
+ghost use Rattle.ps_term.specs.Exact.{substituted};
+ghost use Rattle.ps_term.specs.Pairs.{coefficient, IsCanonical};
+ghost use Rattle.ps_term.specs.Substitution.{replacement, SubstitutionFits, values_after};
 ghost use Rattle.ps_term.specs.Sums.{TermFits};
+ghost use Rattle.ps_term.specs.Term.{value};
+ghost use Rattle.ps_term.specs.declared.var.Var.{Var};
 
 use crate::look_up::term_of;
 use ps_term::{Term, TermEnd, Var, add_scaled};
@@ -40,8 +42,13 @@ fn add_put(
     after: &[(Var, Term)],
 ) -> Result<Term, TermEnd>
     requires { IsTrue (ascends after.now) }
-    ensures sum { IfOk result (λ term.
-        IsCanonical sum.now.pairs → term ≡ plus_scaled sum.now by (replacement after.now variable)) }
+    ensures worth { IfOk result (λ term. (values : Var → ℤ) → value values term
+        ≡ (value values sum.now +ℤ (by *ℤ values_after values after.now variable))) }
+    ensures coefficients { IfOk result (λ term. (x : Var) → coefficient x term.pairs
+        ≡ (coefficient x sum.now.pairs +ℤ (by *ℤ coefficient x (replacement after.now variable).pairs))) }
+    ensures constant { IfOk result (λ term. term.constant
+        ≡ (sum.now.constant +ℤ (by *ℤ (replacement after.now variable).constant))) }
+    ensures canonical { IfOk result (λ term. IsCanonical term.pairs) }
     ensures fits { OnOk result (TermFits sum.now by (replacement after.now variable)) }
     ensures past { IsErrOf result TermEnd.Past128
         → ¬ TermFits sum.now by (replacement after.now variable) }

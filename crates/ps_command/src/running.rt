@@ -1,5 +1,5 @@
 //! Runs of commands.
-ghost use Rattle.std.specs.Prelude.{◌≡◌, ◌<◌, ◌++◌, IfOk, IsErrOf, IsTrue, OnOk, [], length, slice_index_or};
+ghost use Rattle.std.specs.Prelude.{◌≡◌, ◌<◌, ◌++◌, IfOk, IsErrOf, IsTrue, OnOk, [], length, pos, slice_index_or};
 ghost use Rattle.std.specs.List.{list_all};
 ghost use Rattle.ps_command.specs.Fitting.{CanRun};
 ghost use Rattle.ps_command.specs.Named.{is_declared_op};
@@ -64,12 +64,22 @@ fn run_ops(view: &mut View, ops: &[Op], values: &[i128]) -> Result<bool, RunEnd>
 {
     let mut left = values;
     for op in ops {
-        if !view.take(op, left.first().copied().unwrap_or(0)).ok_or(RunEnd::Past128)? {
+        if !view.take(op, next_value(left)).ok_or(RunEnd::Past128)? {
             return Ok(false);
         }
         left = after_op(op, left);
     }
     Ok(true)
+}
+
+// The next havoc value, or 0 where there is none.
+fn next_value(values: &[i128]) -> i128
+    ensures { result ≡ slice_index_or values.now 0 (pos 0) }
+{
+    match values.first() {
+        Some(value) => *value,
+        None => 0,
+    }
 }
 
 // The havoc values that are left after the op.
@@ -90,7 +100,9 @@ fn state_after(alloc: Global, state: &State, thread: usize, view: View) -> Resul
     let all = state.locals.as_slice();
     let mut locals = Vec::with_capacity(alloc, all.len())?;
     append_copies(alloc, &mut locals, &all[..thread])?;
-    locals.push(Sequence::from_list(view.locals)).map_err(|_| AllocError)?;
+    locals
+        .push(Sequence::from_list(view.locals))
+        .map_err(|_| AllocError)?;
     append_copies(alloc, &mut locals, &all[thread + 1..])?;
     Ok(State {
         globals: Sequence::from_list(view.globals),

@@ -4,7 +4,6 @@ ghost use Rattle.std.specs.List.{list_all};
 ghost use Rattle.ps_command.specs.Commands.{forms_of};
 ghost use Rattle.ps_command.specs.Named.{is_declared_command, is_declared_row, names_local};
 
-
 use crate::command::Command;
 use crate::symbolic_form::SymbolicForm;
 use ps_list::Sequence;

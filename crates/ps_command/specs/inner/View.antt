@@ -1,5 +1,5 @@
 -- A view, op by op.
-use Rattle.std.specs.Prelude.{◌≡◌, ℤ, pos, Bool, true, false, List, drop, Option, Some, None}
+use Rattle.std.specs.Prelude.{◌≡◌, ℤ, Bool, true, false, List, drop, Option, Some, None}
 use Rattle.ps_command.specs.Run.{holds}
 use Rattle.ps_command.specs.Values.{Values, value_at, with_value}
 use Rattle.ps_command.specs.declared.op.Op.{Op}
