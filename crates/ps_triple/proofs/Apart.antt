@@ -1,8 +1,7 @@
 -- Distinct threads leave the variables of a row apart.
-use Rattle.std.proofs.Common.{◌≡◌, ◌≢◌, ◌⊎◌, ◌==◌, ◌&&◌, ◌<◌, ◌≤◌, ℕ, ℤ, Bool, true, false, List, [], ◌∷◌, length, get_or, All, AllPairs, zero, suc, refl, sym, ap, ap₂, ◌∙◌, subst, inl, inr, eqb-true, eq-eqb, nat_lt, ltb-true, arith}
-use Rattle.std.specs.Prelude.{slice_index}
+use Rattle.std.proofs.Common.{◌≡◌, ◌≢◌, ◌⊎◌, ◌==◌, ◌&&◌, ◌<◌, ◌≤◌, ℕ, ℤ, Bool, true, false, List, [], ◌∷◌, length, get_or, All, AllPairs, zero, suc, sym, ap₂, ◌∙◌, subst, inl, inr, eqb-true, eq-eqb, nat_lt, arith}
 use Rattle.std.specs.List.{AllByRecursion, list_all}
-use Rattle.std.proofs.lemmas.Bool.{cases_eq, cases_lt, eqb-false, false≢true, and_parts}
+use Rattle.std.proofs.lemmas.Bool.{cases_lt, eqb-false, false≢true, and_parts}
 use Rattle.std.proofs.lemmas.List.Elements.{recursion_from_All, All-from_recursion}
 use Rattle.ps_term.proofs.Canonical.{IsBelowAll, IsBelowAll-canonical}
 use Rattle.ps_term.proofs.Variables.{var_lt-var_eq}

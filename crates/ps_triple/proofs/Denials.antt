@@ -1,9 +1,9 @@
 -- A negated row is told by its coefficients and its constant.
-use Rattle.std.proofs.Common.{◌≡◌, refl, sym, ap, ◌∙◌, ℤ, pos, negsuc, neg_ℤ, ◌+ℤ◌, ◌-ℤ◌, ◌*ℤ◌, List, [], Result, Ok, Err, IfOk, arith}
+use Rattle.std.proofs.Common.{◌≡◌, sym, ◌∙◌, ℤ, pos, negsuc, neg_ℤ, ◌+ℤ◌, ◌-ℤ◌, ◌*ℤ◌, Result, Ok, Err, IfOk, arith}
 use Rattle.std.proofs.lemmas.Int.{ints}
 use Rattle.ps_term.proofs.ExactTerms.{sum_worth, sum_canonical}
 use Rattle.ps_term.proofs.Uniqueness.{unit_at, pairs_value-unit_at, same_coefficients}
-use Rattle.ps_term.specs.Exact.{number_term, plus_scaled}
+use Rattle.ps_term.specs.Exact.{number_term}
 use Rattle.ps_term.specs.Pairs.{IsCanonical, coefficient, pairs_value}
 use Rattle.ps_term.specs.declared.row.Row.{Row}
 use Rattle.ps_term.specs.declared.term.TermEnd.{TermEnd}
@@ -23,7 +23,7 @@ constant_is n k e = omega (arith, ints, e)
 negated_is : (r new : Row) → IsCanonical new.term.pairs → ((x : Var) → coefficient x new.term.pairs ≡ neg_ℤ (coefficient x r.term.pairs)) → new.term.constant ≡ (pos 1 -ℤ r.term.constant) → new ≡ negated r
 negated_is r new canonical coefficients constant =
     let pairs : new.term.pairs ≡ (negated r).term.pairs = same_coefficients new.term.pairs (negated r).term.pairs canonical
-        (sum_canonical (number_term (pos 1)) (negsuc 0) r.term tt) (λ x. coefficients x ∙ sym (coefficient_of r x)) in
+    (sum_canonical (number_term (pos 1)) (negsuc 0) r.term tt) (λ x. coefficients x ∙ sym (coefficient_of r x)) in
     let constants : new.term.constant ≡ (negated r).term.constant = constant_is new.term.constant r.term.constant constant in
     λ i. record { term = record { pairs = pairs i; constant = constants i } }
 

@@ -1,6 +1,6 @@
 -- Entries whose rows have no solution are true in every state of however many threads, under every renaming.
-use Rattle.std.proofs.Common.{◌≡◌, ◌≢◌, refl, sym, ap, ap₂, ◌∙◌, subst, subst₂, Bool, true, false, ◌&&◌, ◌==◌, ℕ, zero, suc, ◌+◌, ◌<◌, ◌≤◌, ℤ, pos, ◌*ℤ◌, ◌+ℤ◌, ◌≤ℤ◌, List, [], ◌∷◌, ◌++◌, map, length, get_or, inl, inr, ◌⊎◌, All, Contains, IsTrue, IsFalse, int_le, nat_lt, eqb-true, ltb-true, arith}
-use Rattle.std.specs.Prelude.{slice_get, slice_index, slice_index_or, Option, Some, None, MatchOption}
+use Rattle.std.proofs.Common.{◌≡◌, refl, sym, ap, ap₂, ◌∙◌, subst, subst₂, Bool, true, false, ◌&&◌, ◌==◌, ℕ, zero, suc, ◌<◌, ◌≤◌, ℤ, pos, ◌≤ℤ◌, List, [], ◌∷◌, ◌++◌, map, length, get_or, inl, inr, ◌⊎◌, All, Contains, IsFalse, int_le, nat_lt, eqb-true, ltb-true, arith}
+use Rattle.std.specs.Prelude.{slice_index, slice_index_or, Option, Some, MatchOption}
 use Rattle.std.specs.List.{list_all, AllByRecursion}
 use Rattle.std.proofs.lemmas.Bool.{cases_eq, cases_lt, and_parts}
 use Rattle.std.proofs.lemmas.List.Elements.{All-contains, recursion_from_All, All-from_recursion, Contains-append_left, Contains-get_or}
@@ -14,11 +14,10 @@ use Rattle.ps_command.specs.Agreement.{AreSeenBy, RanAs}
 use Rattle.ps_command.specs.Commands.{ops_of, forms_of}
 use Rattle.ps_command.specs.Fitting.{CanRun, IsSized}
 use Rattle.ps_command.specs.Form.{empty_form, form_of}
-use Rattle.ps_command.specs.Initial.{IsInitial}
-use Rattle.ps_command.specs.Named.{is_declared, is_declared_term, is_declared_row, is_declared_op, is_declared_command}
-use Rattle.ps_command.specs.Run.{holds, run_by, havocs_in}
+use Rattle.ps_command.specs.Named.{is_declared, is_declared_row, is_declared_op, is_declared_command}
+use Rattle.ps_command.specs.Run.{holds, run_by}
 use Rattle.ps_command.specs.Symbolic.{with_havocs}
-use Rattle.ps_command.specs.Values.{value_at, value_in, values_of}
+use Rattle.ps_command.specs.Values.{value_at, values_of}
 use Rattle.ps_command.specs.declared.command.Command.{Command}
 use Rattle.ps_command.specs.declared.op.Op.{Op}
 use Rattle.ps_command.specs.declared.setting.Setting.{Setting}
@@ -30,10 +29,10 @@ use Rattle.ps_atom.specs.Range.{IsDeclared}
 use Rattle.ps_atom.specs.declared.atom.Atom.{Atom}
 use Rattle.ps_atom.specs.declared.predicate.Predicate.{Predicate}
 use Rattle.ps_atom.proofs.RenamedAtoms.{renamed_says}
-use Rattle.ps_triple.specs.Entries.{threads_of, threads_in, IsRenamed}
+use Rattle.ps_triple.specs.Entries.{threads_of, threads_in}
 use Rattle.ps_triple.specs.Rows.{form_in, initial_rows, predicate_of, triple_rows}
-use Rattle.ps_triple.specs.Tests.{IsAtomOf, IsThere}
-use Rattle.ps_triple.specs.Validity.{worth, HoldsOf, IsTrueIn, IsValid, IsValidTriple, IsTrueAtFirst}
+use Rattle.ps_triple.specs.Tests.{IsAtomOf}
+use Rattle.ps_triple.specs.Validity.{worth, HoldsOf, IsTrueIn, IsValidTriple, IsTrueAtFirst}
 use Rattle.ps_triple.specs.declared.initial.Initial.{Initial}
 use Rattle.ps_triple.specs.declared.triple.Triple.{Triple}
 use Rattle.ps_triple.proofs.Membership.{all_of, any_default, mapped}
@@ -88,7 +87,7 @@ module _ (setting : Setting) (predicates : List Predicate) where
       (same_value (λ x. u (at_threads q.threads x)) (λ x. v (at_threads q.threads x)) (predicate_of predicates q.predicate).row.term
       (each_pair q filled (λ x. u (at_threads q.threads x) ≡ v (at_threads q.threads x)) one
       (λ slot n below. two (slice_index q.threads slot) n
-          (Contains-get_or q.threads slot 0 (subst (λ (k : ℕ). slot < k) (sym filled.1) below)))))
+      (Contains-get_or q.threads slot 0 (subst (λ (k : ℕ). slot < k) (sym filled.1) below)))))
       h
 
   rename_values : (q : Atom) → IsAtomOf setting predicates q → (new : ℕ → ℕ) (u : Var → ℤ) →

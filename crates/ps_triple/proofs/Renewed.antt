@@ -8,7 +8,6 @@ use Rattle.std.proofs.lemmas.List.Elements.{All-from_recursion, recursion_from_A
 use Rattle.ps_term.proofs.ExactTerms.{pair_value, pair_canonical, same_term}
 use Rattle.ps_term.proofs.Ring.{one-mul}
 use Rattle.ps_term.proofs.Variables.{var_eq-true}
-use Rattle.ps_term.specs.Exact.{with_pair}
 use Rattle.ps_term.specs.Pairs.{IsCanonical, coefficient, pairs_value}
 use Rattle.ps_term.specs.Sums.{ScaledFits, TermFits}
 use Rattle.ps_term.specs.Term.{value, variable_term}
@@ -117,9 +116,10 @@ times_none n = omega (arith, ints)
 -- what is added fits
 pub Placed-fits : (new : Var → Var) (row : Row) (sum : Term) (p : Var × ℤ) (rest : List (Var × ℤ)) → Placed new row sum (p ∷ rest) → FitsSigned w128 p.1 → FitsSigned w128 sum.constant → FitsSigned w128 (pos 0) →
     TermFits sum p.1 (variable_term (new p.0))
-Placed-fits new row sum p rest s n k zero =
-    (All-from_recursion (λ (q : Var × ℤ). ScaledFits (coefficient q.0 sum.pairs) p.1 q.1) ((new p.0, pos 1) ∷ []) ((one, first), tt),
-    (subst (FitsSigned w128) (times_none p.1) zero, subst (FitsSigned w128) (stays sum.constant p.1) k))
+Placed-fits new row sum p rest s n k zero = (
+  All-from_recursion (λ (q : Var × ℤ). ScaledFits (coefficient q.0 sum.pairs) p.1 q.1) ((new p.0, pos 1) ∷ []) ((one, first), tt),
+  (subst (FitsSigned w128) (times_none p.1) zero, subst (FitsSigned w128) (stays sum.constant p.1) k),
+)
   where
     one : FitsSigned w128 (p.1 *ℤ pos 1)
     one = subst (FitsSigned w128) (times_one p.1) n

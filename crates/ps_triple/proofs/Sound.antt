@@ -1,11 +1,11 @@
 -- What rows without a solution say of an entry, at all values.
-use Rattle.std.proofs.Common.{◌≡◌, refl, sym, ap, ◌∙◌, subst, Bool, true, false, ◌&&◌, ℕ, zero, suc, ◌+◌, ◌<◌, ℤ, pos, negsuc, ◌+ℤ◌, ◌*ℤ◌, ◌≤ℤ◌, int_le, List, [], ◌∷◌, ◌++◌, map, All, IsTrue, arith}
+use Rattle.std.proofs.Common.{◌≡◌, refl, sym, subst, Bool, true, false, ℕ, zero, suc, ◌+◌, ◌<◌, ℤ, pos, negsuc, ◌+ℤ◌, ◌*ℤ◌, ◌≤ℤ◌, int_le, List, [], ◌∷◌, ◌++◌, map, All, arith}
 use Rattle.std.specs.List.{list_all}
 use Rattle.std.proofs.lemmas.Bool.{and_parts}
 use Rattle.std.proofs.lemmas.Int.{ints}
 use Rattle.std.proofs.lemmas.List.Elements.{All-nil, All-cons, All-head, All-tail, All-append}
 use Rattle.ps_term.proofs.ExactTerms.{put_worth, sum_worth}
-use Rattle.ps_term.specs.Exact.{number_term, plus_scaled}
+use Rattle.ps_term.specs.Exact.{number_term}
 use Rattle.ps_term.specs.Row.{Holds}
 use Rattle.ps_term.specs.Substitution.{values_after}
 use Rattle.ps_term.specs.Term.{value}

@@ -1,9 +1,9 @@
 -- What an entry that holds is worth, and that its first fault is one.
-use Rattle.std.proofs.Common.{◌≡◌, ◌≢◌, refl, sym, ◌∙◌, subst, List, length}
+use Rattle.std.proofs.Common.{◌≡◌, refl, sym, ◌∙◌, List}
 use Rattle.ps_farkas.proofs.Soundness.{Refutes-no_values}
 use Rattle.ps_atom.specs.declared.predicate.Predicate.{Predicate}
 use Rattle.ps_command.specs.declared.setting.Setting.{Setting}
-use Rattle.ps_triple.specs.Faults.{EntryHolds, HasFault, HasNoneBefore, IsFirstFault}
+use Rattle.ps_triple.specs.Faults.{EntryHolds, IsFirstFault}
 use Rattle.ps_triple.specs.Rows.{initial_rows, triple_rows}
 use Rattle.ps_triple.specs.Validity.{IsTrueAtFirst, IsValidTriple}
 use Rattle.ps_triple.specs.declared.entry.Entry.{Entry}

@@ -1,5 +1,5 @@
 -- Which entries hold, and the first fault of one that doesn't.
-use Rattle.std.specs.Prelude.{◌≡◌, ◌≢◌, ℕ, List, length}
+use Rattle.std.specs.Prelude.{◌≡◌, ◌≢◌, List, length}
 use Rattle.ps_farkas.specs.Refutes.{Refutes}
 use Rattle.ps_command.specs.declared.setting.Setting.{Setting}
 use Rattle.ps_atom.specs.declared.predicate.Predicate.{Predicate}

@@ -1,5 +1,5 @@
 -- Entries and settings whose lists are short enough to be counted.
-use Rattle.std.specs.Prelude.{ℕ, ◌<◌, ◌^◌, length}
+use Rattle.std.specs.Prelude.{◌<◌, ◌^◌, length}
 use Rattle.ps_command.specs.declared.setting.Setting.{Setting}
 use Rattle.ps_triple.specs.Fits.{lambda_of}
 use Rattle.ps_triple.specs.declared.entry.Entry.{Entry}

@@ -27,7 +27,9 @@ fn placed_term(alloc: Global, row: &Row, threads: &[u32]) -> Result<Term, TermEn
 {
     let mut term = Term::from_constant(alloc, row.term.constant);
     for pair in row.term.pairs.as_slice() {
-        let variable = Term::from_variable(alloc, at_threads(threads, pair.0)).map_err(TermEnd::Memory)?;
+        let variable = Term::from_variable(alloc, at_threads(threads, pair.0)).map_err(
+            TermEnd::Memory,
+        )?;
         term = add_scaled(alloc, &term, pair.1, &variable)?;
     }
     Ok(term)

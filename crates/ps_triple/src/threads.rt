@@ -24,7 +24,11 @@ pub(crate) fn has_no_free_thread(entry: &Entry) -> bool
     match entry {
         Entry::Triple(triple) => {
             let after = triple.post.threads.as_slice();
-            triple.pre.as_slice().iter().all(|atom| is_tied_to(after, atom))
+            triple
+                .pre
+                .as_slice()
+                .iter()
+                .all(|atom| is_tied_to(after, atom))
         }
         Entry::Initial(_) => true,
     }
