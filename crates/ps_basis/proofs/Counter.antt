@@ -1,17 +1,15 @@
 -- The worked example of a counter.
-use Rattle.std.proofs.Common.{◌≡◌, ◌≢◌, refl, sym, ap, ◌∙◌, subst, ℕ, ◌+◌, ◌<◌, List, [], ◌∷◌, map, All, Contains, arith}
-use Rattle.std.specs.List.{AllByRecursion}
+use Rattle.std.proofs.Common.{◌≡◌, refl, sym, ap, ◌∙◌, subst, ℕ, ◌+◌, ◌<◌, List, [], ◌∷◌, map, All, Contains, arith}
 use Rattle.std.proofs.lemmas.List.Elements.{All-nil, All-cons, All-head, All-contains, All-from_recursion}
 use Rattle.ps_atom.specs.Atoms.{renamed}
 use Rattle.ps_atom.specs.declared.atom.Atom.{Atom}
 use Rattle.ps_triple.specs.Entries.{Gives, HasInitial, IsRenamed, false_atom}
 use Rattle.ps_triple.specs.declared.entry.Entry.{Entry}
 use Rattle.ps_triple.specs.declared.entry.Entry.TheVariants.{Triple as OfTriple, Initial as OfInitial}
-use Rattle.ps_triple.specs.declared.initial.Initial.{Initial}
 use Rattle.ps_triple.specs.declared.triple.Triple.{Triple}
 use Rattle.ps_basis.specs.Demands.{IsGiven}
 use Rattle.ps_basis.specs.Examples.{bare, counter_entries}
-use Rattle.ps_basis.specs.Space.{InSpace, listed, sequence, IsProved}
+use Rattle.ps_basis.specs.Space.{listed, sequence, IsProved}
 use Rattle.ps_basis.proofs.Rules.{rules_are_demands}
 
 -- every thread, where no atom has one
@@ -64,9 +62,19 @@ NotOne (OfTriple t) = Unit {0}
 NotOne (OfInitial i) = i.predicate ≡ 1 → ⊥
 
 only_finds : All OnlyFinds counter_entries
-only_finds = All-from_recursion OnlyFinds counter_entries
-    (tt, ((λ e. refl), ((λ e. absurd (let no : ⊥ = omega (arith, e) in no)), ((λ e. absurd (let no : ⊥ = omega (arith, e) in no)),
-    ((λ e. absurd (let no : ⊥ = omega (arith, e) in no)), ((λ e. absurd (let no : ⊥ = omega (arith, e) in no)), tt))))))
+only_finds = All-from_recursion OnlyFinds counter_entries (
+  tt,
+  (
+    (λ e. refl),
+    (
+      (λ e. absurd (let no : ⊥ = omega (arith, e) in no)),
+      (
+        (λ e. absurd (let no : ⊥ = omega (arith, e) in no)),
+        ((λ e. absurd (let no : ⊥ = omega (arith, e) in no)), ((λ e. absurd (let no : ⊥ = omega (arith, e) in no)), tt)),
+      ),
+    ),
+  ),
+)
 
 not_one : All NotOne counter_entries
 not_one = All-from_recursion NotOne counter_entries ((λ e. let no : ⊥ = omega (arith, e) in no), (tt, (tt, (tt, (tt, (tt, tt))))))

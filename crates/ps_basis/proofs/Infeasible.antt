@@ -1,5 +1,5 @@
 -- A proved trace doesn't run, where the entries hold.
-use Rattle.std.proofs.Common.{◌≡◌, ◌≢◌, refl, sym, ap, ◌∙◌, subst, ℕ, ℤ, pos, ◌<◌, List, [], ◌∷◌, length, All, Contains, length-set, arith}
+use Rattle.std.proofs.Common.{◌≡◌, refl, sym, ap, ◌∙◌, subst, ℕ, ℤ, ◌<◌, List, [], ◌∷◌, length, All, Contains, length-set, arith}
 use Rattle.std.specs.Prelude.{slice_get, slice_index_or, Option, Some, None, option_map}
 use Rattle.std.specs.Option.{option_and_then}
 use mathlib.Core.List.{reverse_aux}
@@ -18,7 +18,7 @@ use Rattle.ps_atom.specs.Atoms.{HoldsAt}
 use Rattle.ps_atom.specs.Numbers.{false_predicate}
 use Rattle.ps_atom.specs.declared.atom.Atom.{Atom}
 use Rattle.ps_atom.specs.declared.predicate.Predicate.{Predicate}
-use Rattle.ps_triple.specs.Entries.{Gives, HasInitial, false_atom}
+use Rattle.ps_triple.specs.Entries.{HasInitial, false_atom}
 use Rattle.ps_triple.specs.Faults.{EntryHolds}
 use Rattle.ps_triple.specs.Rows.{predicate_of}
 use Rattle.ps_triple.specs.Validity.{worth, IsTrueIn, IsValid}

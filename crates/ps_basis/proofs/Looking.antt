@@ -1,13 +1,11 @@
 -- What a walk over entries finds.
-use Rattle.std.proofs.Common.{◌≡◌, ◌+◌, ◌<◌, ◌≤◌, ◌==◌, ◌&&◌, ℕ, zero, suc, Bool, true, false, List, [], ◌∷◌, length, get_or, refl, sym, ap, ap₂, ◌∙◌, subst, eqb-true, eq-eqb, inl, inr, ◌⊎◌, arith, Contains}
-use Rattle.std.specs.Prelude.{slice_get, Option, Some, None}
+use Rattle.std.proofs.Common.{◌≡◌, ◌+◌, ◌<◌, ◌≤◌, ◌==◌, ◌&&◌, ℕ, zero, suc, Bool, true, false, List, [], ◌∷◌, length, get_or, refl, sym, ap, ap₂, ◌∙◌, subst, eqb-true, eq-eqb, inl, inr, ◌⊎◌, arith}
+use Rattle.std.specs.Prelude.{slice_get, Some, None}
 use Rattle.std.proofs.lemmas.Bool.{and_parts, cases_lt, false≢true}
 use Rattle.std.proofs.lemmas.Option.{same_Some}
 use Rattle.ps_triple.specs.Entries.{HasInitial}
 use Rattle.ps_triple.specs.declared.entry.Entry.{Entry}
 use Rattle.ps_triple.specs.declared.entry.Entry.TheVariants.{Triple as OfTriple, Initial as OfInitial}
-use Rattle.ps_triple.specs.declared.initial.Initial.{Initial}
-use Rattle.ps_triple.specs.declared.triple.Triple.{Triple}
 use Rattle.ps_basis.specs.Shown.{IsFor, IsNextFor}
 use Rattle.ps_basis.specs.inner.Tests.{is_for, is_initial_for}
 

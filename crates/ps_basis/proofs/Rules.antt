@@ -1,12 +1,12 @@
 -- The rules of the proof space give what is demanded, and what is demanded is given by the rules.
-use Rattle.std.proofs.Common.{◌≡◌, ◌≢◌, refl, sym, ap, ◌∙◌, subst, ℕ, List, [], ◌∷◌, ◌++◌, reverse, inl, inr, ◌⊎◌, ◌↔◌, ⊎_elim, Contains, All}
+use Rattle.std.proofs.Common.{◌≡◌, ◌≢◌, refl, sym, ap, ◌∙◌, subst, ℕ, List, [], ◌∷◌, ◌++◌, reverse, inl, inr, ◌↔◌, ⊎_elim, Contains, All}
 use mathlib.Core.List.{reverse-append, reverse-reverse, reverse-cons}
 use Rattle.std.proofs.lemmas.List.Elements.{All-nil, All-cons, All-weaker, All-contains, All-append, Contains-append_left, Contains-append_right, Contains-append_cases}
 use Rattle.ps_list.proofs.Members.{nothing, cons_cases, here, there}
 use Rattle.ps_atom.specs.declared.atom.Atom.{Atom}
 use Rattle.ps_triple.specs.declared.entry.Entry.{Entry}
 use Rattle.ps_triple.specs.Entries.{Gives, HasInitial, false_atom}
-use Rattle.ps_basis.specs.Space.{InSpace, listed, idle, union, sequence, IsPart, IsUnion, IsProved}
+use Rattle.ps_basis.specs.Space.{InSpace, listed, idle, union, sequence, IsUnion, IsProved}
 use Rattle.ps_basis.specs.Demands.{IsGivenFrom, IsGiven}
 use Rattle.ps_triple.proofs.Membership.{all_of}
 

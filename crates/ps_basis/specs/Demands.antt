@@ -1,8 +1,8 @@
 -- What an atom demands, letter by letter from the last to the first.
-use Rattle.std.specs.Prelude.{ℕ, List, [], ◌∷◌, All, reverse}
+use Rattle.std.specs.Prelude.{ℕ, List, [], ◌∷◌, All}
 use Rattle.ps_atom.specs.declared.atom.Atom.{Atom}
 use Rattle.ps_triple.specs.declared.entry.Entry.{Entry}
-use Rattle.ps_triple.specs.Entries.{Gives, HasInitial, false_atom}
+use Rattle.ps_triple.specs.Entries.{Gives, HasInitial}
 
 -- The letters, from the last to the first, give the atom: with no letter it is given, and after a letter some renamed
 -- triple has it, all whose atoms before the letter are given.
