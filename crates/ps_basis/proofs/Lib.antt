@@ -1,0 +1,4 @@
+pub mod Counter
+pub mod Infeasible
+pub mod Looking
+pub mod Rules

@@ -1,0 +1,7 @@
+pub mod Basis
+pub mod Demands
+pub mod Examples
+pub mod Feasible
+pub mod inner
+pub mod Shown
+pub mod Space

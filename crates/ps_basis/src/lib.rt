@@ -1,0 +1,13 @@
+//! The entries of a proof as a list that grows, and what traces they prove.
+#![tactic(auto)]
+
+mod basis;
+mod front;
+pub mod laws;
+mod look_up;
+mod shown;
+pub mod worked;
+
+pub use basis::Basis;
+pub use front::Front;
+pub use shown::Shown;

@@ -1,0 +1,9 @@
+pub mod Apart
+pub mod Counts
+pub mod Denials
+pub mod Distinct
+pub mod Lifted
+pub mod Membership
+pub mod Renewed
+pub mod Sound
+pub mod Worth

@@ -1,0 +1,10 @@
+pub mod Ascending
+pub mod Ends
+pub mod Entries
+pub mod Faults
+pub mod Fits
+pub mod Places
+pub mod Rows
+pub mod Short
+pub mod Tests
+pub mod Validity

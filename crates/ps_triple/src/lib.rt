@@ -1,0 +1,19 @@
+//! Entries of a proof: triples and initial predicates, each with multipliers that show it to be true of all runs.
+#![tactic(auto)]
+
+mod check;
+mod entry;
+mod entry_end;
+mod initial;
+pub mod laws;
+mod naming;
+mod placing;
+mod rows;
+mod threads;
+mod triple;
+
+pub use check::check_entry;
+pub use entry::Entry;
+pub use entry_end::{EntryEnd, EntryFault};
+pub use initial::Initial;
+pub use triple::Triple;

@@ -1,0 +1,234 @@
+// The rows of entries.
+ghost use Rattle.std.specs.Prelude.{◌≡◌, ◌++◌, ◌<◌, ◌≤◌, ◌^◌, ◌+◌, ◌∷◌, [], All, IfOk, OnOk, IsErrOf, length, map};
+ghost use Rattle.ps_atom.specs.Atoms.{at_threads};
+ghost use Rattle.ps_term.specs.Negation.{NegationFits};
+ghost use Rattle.ps_term.specs.Substitution.{SubstitutionFits};
+ghost use Rattle.ps_triple.specs.Fits.{MakingFits, entry_rows};
+ghost use Rattle.ps_triple.specs.Places.{row_by};
+ghost use Rattle.ps_triple.specs.Rows.{atom_row, form_in, initial_rows, negated, predicate_of, row_after, rows_of_threads, triple_rows};
+ghost use Rattle.ps_triple.specs.Short.{AreShort};
+ghost use Rattle.ps_triple.specs.Tests.{HasDistinctThreads, HasThreadsOnce, IsAtomOf, IsThere, NamesThings};
+
+use crate::entry::Entry;
+use crate::initial::Initial;
+use crate::placing::place;
+use crate::triple::Triple;
+use ps_atom::{Atom, Predicate};
+use ps_command::{Setting, SymbolicForm};
+use ps_term::{Row, TermEnd, negate};
+use std::alloc::{AllocError, Global};
+
+// How many rows the entry has.
+pub(crate) fn row_count(setting: &Setting, predicates: &[Predicate], entry: &Entry) -> u64
+    requires names { NamesThings setting.now predicates.now entry.now }
+    requires short { AreShort setting.now entry.now }
+    ensures { result ≡ length (entry_rows setting.now predicates.now entry.now) }
+{
+    match entry {
+        Entry::Triple(triple) => {
+            let form = &setting.symbols.as_slice()[triple.command as usize];
+            (triple.pre.as_slice().len() + form.rows.as_slice().len() + 1) as u64
+        }
+        Entry::Initial(initial) => {
+            let slots = predicates[initial.predicate as usize].arity as u64;
+            let once = setting.init_once.as_slice().len() as u64;
+            let each = setting.init_each.as_slice().len() as u64;
+            once + (slots + 1) * each + 1
+        }
+    }
+}
+
+// The rows of the entry.
+pub(crate) fn make_rows(
+    alloc: Global,
+    setting: &Setting,
+    predicates: &[Predicate],
+    entry: &Entry,
+) -> Result<Vec<Row>, TermEnd>
+    requires names { NamesThings setting.now predicates.now entry.now }
+    requires distinct { HasDistinctThreads entry.now }
+    ensures rows { IfOk result (λ rows. rows.items ≡ entry_rows setting.now predicates.now entry.now) }
+    ensures fits { OnOk result (MakingFits setting.now predicates.now entry.now) }
+    ensures past { IsErrOf result TermEnd.Past128 → ¬ MakingFits setting.now predicates.now entry.now }
+{
+    match entry {
+        Entry::Triple(triple) => {
+            let form = &setting.symbols.as_slice()[triple.command as usize];
+            triple_rows(alloc, setting, predicates, form, triple)
+        }
+        Entry::Initial(initial) => initial_rows(alloc, setting, predicates, initial),
+    }
+}
+
+fn triple_rows(
+    alloc: Global,
+    setting: &Setting,
+    predicates: &[Predicate],
+    form: &SymbolicForm,
+    triple: &Triple,
+) -> Result<Vec<Row>, TermEnd>
+    requires form { form.now ≡ form_in setting.now triple.now.command }
+    requires before { All (IsAtomOf setting.now predicates.now) triple.now.pre }
+    requires after { IsAtomOf setting.now predicates.now triple.now.post }
+    requires once { All HasThreadsOnce triple.now.pre }
+    requires once_after { HasThreadsOnce triple.now.post }
+    ensures rows { IfOk result (λ rows. rows.items ≡ triple_rows setting.now predicates.now triple.now) }
+    ensures fits { OnOk result (NegationFits (atom_row predicates.now triple.now.post)
+        × SubstitutionFits form.now.after (negated (atom_row predicates.now triple.now.post)).term) }
+    ensures past { IsErrOf result TermEnd.Past128 → ¬ (NegationFits (atom_row predicates.now triple.now.post)
+        × SubstitutionFits form.now.after (negated (atom_row predicates.now triple.now.post)).term) }
+{
+    let mut rows = rows_before(alloc, setting, predicates, triple.pre.as_slice())?;
+    push_copies(alloc, &mut rows, form.rows.as_slice())?;
+    let last = last_row(alloc, setting, predicates, form, &triple.post)?;
+    push(&mut rows, last)?;
+    Ok(rows)
+}
+
+fn initial_rows(
+    alloc: Global,
+    setting: &Setting,
+    predicates: &[Predicate],
+    initial: &Initial,
+) -> Result<Vec<Row>, TermEnd>
+    requires { IsThere setting.now predicates.now initial.now.predicate }
+    ensures rows { IfOk result (λ rows. rows.items ≡ initial_rows setting.now predicates.now initial.now) }
+    ensures fits { OnOk result (NegationFits (predicate_of predicates.now initial.now.predicate).row) }
+    ensures past { IsErrOf result TermEnd.Past128
+        → ¬ NegationFits (predicate_of predicates.now initial.now.predicate).row }
+{
+    let predicate = &predicates[initial.predicate as usize];
+    let mut rows = Vec::new(alloc);
+    push_copies(alloc, &mut rows, setting.init_once.as_slice())?;
+    push_rows_of_threads(alloc, &mut rows, setting, predicate.arity + 1)?;
+    let last = negated(alloc, &predicate.row)?;
+    push(&mut rows, last)?;
+    Ok(rows)
+}
+
+// The rows of atoms, in order.
+fn rows_before(
+    alloc: Global,
+    setting: &Setting,
+    predicates: &[Predicate],
+    atoms: &[Atom],
+) -> Result<Vec<Row>, TermEnd>
+    requires atoms { All (IsAtomOf setting.now predicates.now) atoms.now }
+    requires once { All HasThreadsOnce atoms.now }
+    ensures rows { IfOk result (λ rows. rows.items ≡ map (atom_row predicates.now) atoms.now) }
+    ensures fits { ¬ IsErrOf result TermEnd.Past128 }
+{
+    let mut rows = Vec::new(alloc);
+    for atom in atoms {
+        let row = placed_row(alloc, setting, predicates, atom)?;
+        push(&mut rows, row)?;
+    }
+    Ok(rows)
+}
+
+// The row that the atom fails after the command.
+fn last_row(
+    alloc: Global,
+    setting: &Setting,
+    predicates: &[Predicate],
+    form: &SymbolicForm,
+    after: &Atom,
+) -> Result<Row, TermEnd>
+    requires atom { IsAtomOf setting.now predicates.now after.now }
+    requires once { HasThreadsOnce after.now }
+    ensures row { IfOk result (λ row. row ≡ row_after form.now (negated (atom_row predicates.now after.now))) }
+    ensures fits { OnOk result (NegationFits (atom_row predicates.now after.now)
+        × SubstitutionFits form.now.after (negated (atom_row predicates.now after.now)).term) }
+    ensures past { IsErrOf result TermEnd.Past128 → ¬ (NegationFits (atom_row predicates.now after.now)
+        × SubstitutionFits form.now.after (negated (atom_row predicates.now after.now)).term) }
+{
+    let row = placed_row(alloc, setting, predicates, after)?;
+    let denied = negated(alloc, &row)?;
+    Ok(Row {
+        term: form.after.put_in(alloc, &denied.term)?,
+    })
+}
+
+// The row of an atom.
+fn placed_row(
+    alloc: Global,
+    setting: &Setting,
+    predicates: &[Predicate],
+    atom: &Atom,
+) -> Result<Row, TermEnd>
+    requires atom { IsAtomOf setting.now predicates.now atom.now }
+    requires once { HasThreadsOnce atom.now }
+    ensures row { IfOk result (λ row. row ≡ atom_row predicates.now atom.now) }
+    ensures fits { ¬ IsErrOf result TermEnd.Past128 }
+{
+    let predicate = &predicates[atom.predicate as usize];
+    place(alloc, &predicate.row, atom.threads.as_slice())
+}
+
+// The row `1 - t <= 0` of a row `t <= 0`.
+fn negated(alloc: Global, row: &Row) -> Result<Row, TermEnd>
+    ensures row { IfOk result (λ new. new ≡ negated row.now) }
+    ensures fits { OnOk result (NegationFits row.now) }
+    ensures past { IsErrOf result TermEnd.Past128 → ¬ NegationFits row.now }
+{
+    negate(alloc, row)
+}
+
+// Appends the rows for each of the threads below a number.
+fn push_rows_of_threads(
+    alloc: Global,
+    rows: &mut Vec<Row>,
+    setting: &Setting,
+    threads: u32,
+) -> Result<(), TermEnd>
+    ensures rows { OnOk result (rows.new.items ≡ rows.old.items ++ rows_of_threads setting.now.init_each threads) }
+    ensures fits { ¬ IsErrOf result TermEnd.Past128 }
+{
+    for thread in 0..threads {
+        push_rows_of(alloc, rows, setting, thread)?;
+    }
+    Ok(())
+}
+
+// Appends the rows that hold for every thread, for this one.
+fn push_rows_of(
+    alloc: Global,
+    rows: &mut Vec<Row>,
+    setting: &Setting,
+    thread: u32,
+) -> Result<(), TermEnd>
+    ensures rows { OnOk result
+        (rows.new.items ≡ rows.old.items ++ map (row_by (at_threads (thread ∷ []))) setting.now.init_each) }
+    ensures fits { ¬ IsErrOf result TermEnd.Past128 }
+{
+    let threads = [thread];
+    for row in setting.init_each.as_slice() {
+        let placed = place(alloc, row, &threads)?;
+        push(rows, placed)?;
+    }
+    Ok(())
+}
+
+// Appends copies of the rows.
+fn push_copies(alloc: Global, rows: &mut Vec<Row>, list: &[Row]) -> Result<(), TermEnd>
+    ensures rows { OnOk result (rows.new.items ≡ rows.old.items ++ list.now) }
+    ensures fits { ¬ IsErrOf result TermEnd.Past128 }
+{
+    rows.reserve(list.len()).map_err(TermEnd::Memory)?;
+    for row in list {
+        let copy = row.copy(alloc).map_err(TermEnd::Memory)?;
+        push(rows, copy)?;
+    }
+    Ok(())
+}
+
+// Appends a row.
+fn push(rows: &mut Vec<Row>, row: Row) -> Result<(), TermEnd>
+    ensures rows { OnOk result (rows.new.items ≡ rows.old.items ++ row ∷ []) }
+    ensures fits { ¬ IsErrOf result TermEnd.Past128 }
+{
+    match rows.push(row) {
+        Ok(()) => Ok(()),
+        Err(_) => Err(TermEnd::Memory(AllocError)),
+    }
+}
