@@ -1,19 +1,17 @@
 -- What the counts tell: a covering takes no more threads to a location than are there, and no more atoms to a predicate.
-use Rattle.std.proofs.Common.{◌≡◌, ◌≢◌, ◌≤◌, ◌+◌, ℕ, Bool, true, false, cond, ◌==◌, List, [], ◌∷◌, ◌++◌, length, map, refl, sym, ap, ap₂, ◌∙◌, subst, inl, inr, ◌⊎◌, Contains, arith}
+use Rattle.std.proofs.Common.{◌≡◌, ◌≤◌, ℕ, Bool, true, false, cond, ◌==◌, List, [], ◌∷◌, length, map, refl, ap, ap₂, subst, Contains, arith}
 use Rattle.std.specs.List.{filter}
-use Rattle.std.proofs.lemmas.Bool.{eqb-true, eq-eqb}
-use Rattle.std.proofs.lemmas.List.{length-append, length-map}
-use Rattle.std.proofs.lemmas.List.Elements.{Contains-append_left, Contains-append_right, Contains-append_cases}
-use Rattle.ps_atom.specs.Atoms.{renamed, IsInjectiveOn}
+use Rattle.std.proofs.lemmas.List.{length-map}
+use Rattle.ps_atom.specs.Atoms.{renamed}
 use Rattle.ps_atom.specs.declared.atom.Atom.{Atom}
 use Rattle.ps_config.proofs.Once.{IsOnce, no_longer, once_mapped, once_kept}
 use Rattle.ps_config.specs.Forms.{IsConfig}
 use Rattle.ps_config.proofs.Few.{once_located}
 use Rattle.ps_cover.specs.Within.{times, IsWithin}
 use Rattle.ps_cover.specs.inner.Counts.{those_at, those_of}
-use Rattle.ps_list.proofs.Members.{nothing, cons_cases, here, there}
-use Rattle.ps_config.specs.Configurations.{Configuration, IsAt, threads_at, Embeds, Covers}
-use Rattle.ps_config.proofs.Lists.{mapped, from_mapped, kept, from_kept}
+use Rattle.ps_list.proofs.Members.{here, there}
+use Rattle.ps_config.specs.Configurations.{Configuration, Covers}
+use Rattle.ps_config.proofs.Lists.{from_mapped, kept, from_kept}
 use Rattle.ps_config.proofs.Occurring.{located_occurs, named_occurs}
 
 -- no more threads of the small one are at a location
@@ -25,8 +23,8 @@ fewer_at small large c once l =
     let of : (p : ℕ × ℕ) → Contains xs p → Contains small.at p = λ p h. (from_kept test small.at p h).0 in
     let apart : (p q : ℕ × ℕ) → Contains xs p → Contains xs q → f p ≡ f q → p ≡ q =
     λ p q hp hq e.
-        let first : p.0 ≡ q.0 = c.1.apart p.0 q.0 (located_occurs small p.0 p.1 (of p hp)) (located_occurs small q.0 q.1 (of q hq)) (ap (λ (r : ℕ × ℕ). r.0) e) in
-        ap₂ (λ (a b : ℕ). let r : ℕ × ℕ = (a, b) in r) first (ap (λ (r : ℕ × ℕ). r.1) e) in
+    let first : p.0 ≡ q.0 = c.1.apart p.0 q.0 (located_occurs small p.0 p.1 (of p hp)) (located_occurs small q.0 q.1 (of q hq)) (ap (λ (r : ℕ × ℕ). r.0) e) in
+    ap₂ (λ (a b : ℕ). let r : ℕ × ℕ = (a, b) in r) first (ap (λ (r : ℕ × ℕ). r.1) e) in
     let long : length (map f xs) ≡ length xs = length-map xs f in
     let le : length (map f xs) ≤ length (those_at l large.at) = no_longer (map f xs) (those_at l large.at) (once_mapped f xs (once_kept test small.at once) apart)
     (λ r h. (let w = from_mapped f xs r h in
@@ -52,8 +50,8 @@ fewer_of small large c once n =
     let of : (q : Atom) → Contains xs q → Contains small.atoms q = λ q h. (from_kept test small.atoms q h).0 in
     let apart : (p q : Atom) → Contains xs p → Contains xs q → f p ≡ f q → p ≡ q =
     λ p q hp hq e.
-        let threads : p.threads ≡ q.threads = same_lists c.0 p.threads q.threads (λ s t hs ht same. c.1.apart s t (named_occurs small p s (of p hp) hs) (named_occurs small q t (of q hq) ht) same) (ap (λ (a : Atom). a.threads) e) in
-        ap₂ (λ (m : ℕ) (ts : List ℕ). let a : Atom = record { predicate = m; threads = ts } in a) (ap (λ (a : Atom). a.predicate) e) threads in
+    let threads : p.threads ≡ q.threads = same_lists c.0 p.threads q.threads (λ s t hs ht same. c.1.apart s t (named_occurs small p s (of p hp) hs) (named_occurs small q t (of q hq) ht) same) (ap (λ (a : Atom). a.threads) e) in
+    ap₂ (λ (m : ℕ) (ts : List ℕ). let a : Atom = record { predicate = m; threads = ts } in a) (ap (λ (a : Atom). a.predicate) e) threads in
     let long : length (map f xs) ≡ length xs = length-map xs f in
     let le : length (map f xs) ≤ length (those_of n large.atoms) = no_longer (map f xs) (those_of n large.atoms) (once_mapped f xs (once_kept test small.atoms once) apart)
     (λ r h. (let w = from_mapped f xs r h in

@@ -1,7 +1,7 @@
 -- Which sorted lists are parts of which: by the numbers' counts.
-use Rattle.std.proofs.Common.{◌≡◌, ◌≢◌, ◌<◌, ◌≤◌, ◌+◌, ℕ, suc, Bool, true, false, cond, ◌==◌, List, [], ◌∷◌, length, drop, get_or, filter, map, refl, sym, ap, ap₂, ◌∙◌, subst, inl, inr, ◌⊎◌, if◌then◌else◌, arith}
+use Rattle.std.proofs.Common.{◌≡◌, ◌≢◌, ◌<◌, ◌≤◌, ◌+◌, ℕ, suc, Bool, true, false, cond, ◌==◌, List, [], ◌∷◌, length, drop, get_or, filter, refl, sym, ap, ◌∙◌, subst, inl, inr, if◌then◌else◌, arith}
 use Rattle.std.specs.List.Sorted.{IsNonDecreasing}
-use Rattle.std.proofs.lemmas.Bool.{cases_eq, cases_lt, eqb-true, eq-eqb, ne_eqb, false≢true}
+use Rattle.std.proofs.lemmas.Bool.{cases_eq, cases_lt, eq-eqb, ne_eqb, false≢true}
 use Rattle.std.proofs.lemmas.List.{drop_more, drop_all, length-drop}
 use Rattle.ps_cover.specs.Within.{times, IsWithin}
 use Rattle.ps_cover.specs.inner.Parts.{is_part, IsFoundMore}
@@ -87,17 +87,17 @@ part_from_within (x ∷ xs) (y ∷ ys) sx sy w = elim (cases_eq x y) [
         | inr other ↦ (let a : times n (x ∷ xs) ≡ times n xs = times_later n x xs other in let b : times n (y ∷ ys) ≡ times n ys = times_later n y ys (λ e. other (same ∙ e)) in omega (arith, a, b, le))
       ])
   | inr other ↦ part_other x y xs ys other ∙ part_from_within (x ∷ xs) ys sx sy.1 (λ n. elim (cases_eq y n) [
-      | inl is ↦ elim (cases_lt n x) [
-        | inl below ↦ (let none : times n (x ∷ xs) ≡ 0 = none_below n x (x ∷ xs) below (omega arith, sx.0) in omega (arith, none))
-        | inr above ↦
-            let lt : x < y = omega (arith, is, above, other) in
-            let none : times x (y ∷ ys) ≡ 0 = none_below x y (y ∷ ys) lt (omega arith, sy.0) in
-            let some : times x (x ∷ xs) ≡ times x xs + 1 = times_first x x xs refl in
-            let le : times x (x ∷ xs) ≤ times x (y ∷ ys) = w x in
-            absurd (omega (arith, none, some, le))
-      ]
-      | inr not_it ↦ (let b : times n (y ∷ ys) ≡ times n ys = times_later n y ys not_it in let le : times n (x ∷ xs) ≤ times n (y ∷ ys) = w n in omega (arith, b, le))
-    ])
+    | inl is ↦ elim (cases_lt n x) [
+      | inl below ↦ (let none : times n (x ∷ xs) ≡ 0 = none_below n x (x ∷ xs) below (omega arith, sx.0) in omega (arith, none))
+      | inr above ↦
+          let lt : x < y = omega (arith, is, above, other) in
+          let none : times x (y ∷ ys) ≡ 0 = none_below x y (y ∷ ys) lt (omega arith, sy.0) in
+          let some : times x (x ∷ xs) ≡ times x xs + 1 = times_first x x xs refl in
+          let le : times x (x ∷ xs) ≤ times x (y ∷ ys) = w x in
+          absurd (omega (arith, none, some, le))
+    ]
+    | inr not_it ↦ (let b : times n (y ∷ ys) ≡ times n ys = times_later n y ys not_it in let le : times n (x ∷ xs) ≤ times n (y ∷ ys) = w n in omega (arith, b, le))
+  ])
 ]
 
 -- ---- from the order of neighbours
@@ -118,8 +118,8 @@ sorted_from (x ∷ xs) h = (first xs h (sorted_from xs (rest_sorted x xs h)), so
 pub found_part : (xs ys : List ℕ) (done i y next : ℕ) → i < length ys → y ≡ get_or ys i 0 → done ≤ length xs → IsFoundMore xs done y next → (is_part (drop next xs) (drop (i + 1) ys) ≡ is_part (drop done xs) (drop i ys)) × (next ≤ length xs)
 found_part xs ys done i y next inside is within (inl w) = (
   (let here : is_part (get_or xs done 0 ∷ drop (done + 1) xs) (get_or ys i 0 ∷ drop (i + 1) ys) ≡ is_part (drop (done + 1) xs) (drop (i + 1) ys) = part_same (get_or xs done 0) (get_or ys i 0) (drop (done + 1) xs) (drop (i + 1) ys) (w.1 ∙ is) in
-  rw (w.2, drop_more xs done 0 w.0, drop_more ys i 0 inside) (sym here)),
-  (let lt : done < length xs = w.0 in let e : next ≡ done + 1 = w.2 in omega (arith, lt, e))
+      rw (w.2, drop_more xs done 0 w.0, drop_more ys i 0 inside) (sym here)),
+  (let lt : done < length xs = w.0 in let e : next ≡ done + 1 = w.2 in omega (arith, lt, e)),
 )
 found_part xs ys done i y next inside is within (inr w) = (
   elim (cases_lt done (length xs)) [
@@ -129,7 +129,7 @@ found_part xs ys done i y next inside is within (inr w) = (
         rw (w.1, drop_more xs done 0 lt, drop_more ys i 0 inside) (sym here)
     | inr end ↦ rw (w.1, drop_all done xs end) refl
   ],
-  (let e : next ≡ done = w.1 in omega (arith, e, within))
+  (let e : next ≡ done = w.1 in omega (arith, e, within)),
 )
 
 pub part_end : (xs ys : List ℕ) (done i : ℕ) → done ≤ length xs → length ys ≤ i → is_part (drop done xs) (drop i ys) ≡ is_part xs ys → (done == length xs) ≡ is_part xs ys

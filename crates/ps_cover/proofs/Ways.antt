@@ -1,23 +1,22 @@
 -- Embeddings that begin with given images.
-use Rattle.std.proofs.Common.{◌≡◌, ◌≢◌, ◌<◌, ◌≤◌, ◌+◌, ℕ, Bool, true, false, not, ◌&&◌, ◌||◌, ◌==◌, List, [], ◌∷◌, ◌++◌, length, map, refl, sym, ap, ap₂, ◌∙◌, subst, inl, inr, Contains, arith}
+use Rattle.std.proofs.Common.{◌≡◌, ℕ, true, false, not, ◌&&◌, ◌==◌, List, [], ◌∷◌, ◌++◌, length, map, refl, sym, ap, ap₂, ◌∙◌, subst, inl, inr, Contains, arith}
 use Rattle.std.specs.List.{list_any, list_all}
 use Rattle.std.proofs.lemmas.Bool.{and_from, both_ways, eqb-true}
 use Rattle.std.proofs.lemmas.List.Elements.{Contains-append_left, Contains-append_right}
 use Rattle.ps_atom.specs.Atoms.{renamed}
-use Rattle.ps_atom.specs.declared.atom.Atom.{Atom}
-use Rattle.ps_list.proofs.Members.{nothing, cons_cases, here, there}
-use Rattle.ps_config.specs.Configurations.{Configuration, IsAt, threads_at, Embeds}
+use Rattle.ps_list.proofs.Members.{nothing, cons_cases}
+use Rattle.ps_config.specs.Configurations.{Configuration, threads_at, Embeds}
 use Rattle.ps_config.specs.Forms.{AreThreads}
 use Rattle.ps_config.specs.Sent.{sent}
 use Rattle.ps_config.proofs.Covering.{image_occurs}
 use Rattle.ps_config.proofs.Few.{once_ascending}
-use Rattle.ps_config.proofs.Lists.{from_mapped, same_map, has_from}
+use Rattle.ps_config.proofs.Lists.{from_mapped, same_map}
 use Rattle.ps_config.proofs.Once.{IsOnce}
 use Rattle.ps_config.proofs.Sent.{sent_first, sent_later}
 use Rattle.ps_cover.specs.inner.Agreeing.{atom_agrees}
 use Rattle.ps_cover.specs.inner.Rests.{Fits, NoWay, AreLeft}
 use Rattle.ps_cover.specs.inner.Tests.{is_listed, is_placed, place_kept, atom_kept, can_go}
-use Rattle.ps_cover.proofs.Fitting.{covering_from_fits, fits_from_covering, images_of}
+use Rattle.ps_cover.proofs.Fitting.{covering_from_fits}
 use Rattle.ps_cover.proofs.Testing.{all_to, any_to, atom_image, listed_not, placed_to, unless_to}
 
 -- there is no way to go on, by lists of images
@@ -93,13 +92,13 @@ goes small large ss us t f e is occur occurs new =
     let ys : List ℕ = us ++ f t ∷ [] in
     and_from (not (is_listed us (f t))) (list_all (place_kept large.at t (f t)) small.at && list_all (atom_kept large.atoms t xs ys) small.atoms)
     (listed_not us (f t) (λ h.
-        let w = from_mapped f ss (f t) (subst (λ (zs : List ℕ). Contains zs (f t)) (sym is) h) in
-        new (subst (λ (s : ℕ). Contains ss s) (e.apart w.0 t (occur w.0 w.1) occurs w.2) w.1)))
+    let w = from_mapped f ss (f t) (subst (λ (zs : List ℕ). Contains zs (f t)) (sym is) h) in
+    new (subst (λ (s : ℕ). Contains ss s) (e.apart w.0 t (occur w.0 w.1) occurs w.2) w.1)))
     (and_from (list_all (place_kept large.at t (f t)) small.at) (list_all (atom_kept large.atoms t xs ys) small.atoms)
     (all_to (place_kept large.at t (f t)) small.at (λ p c. unless_to (p.0 == t) (is_placed large.at (f t) p.1)
-        (λ same. placed_to large.at (f t) p.1 (e.located t p.1 (subst (λ (s : ℕ). Contains small.at (s, p.1)) (eqb-true p.0 t same) c)))))
+    (λ same. placed_to large.at (f t) p.1 (e.located t p.1 (subst (λ (s : ℕ). Contains small.at (s, p.1)) (eqb-true p.0 t same) c)))))
     (all_to (atom_kept large.atoms t xs ys) small.atoms (λ q c. unless_to (is_listed q.threads t) (list_any (atom_agrees xs ys q) large.atoms)
-        (λ named. any_to (atom_agrees xs ys q) large.atoms (renamed f q) (e.atoms q c) (atom_image f xs ys q (map_push f ss us t (f t) is refl))))))
+    (λ named. any_to (atom_agrees xs ys q) large.atoms (renamed f q) (e.atoms q c) (atom_image f xs ys q (map_push f ss us t (f t) is refl))))))
 
 -- a thread that can go nowhere ends all ways
 pub goes_nowhere : (small large : Configuration) (ss us : List ℕ) (t : ℕ) → ((s : ℕ) → Contains ss s → Contains (threads_at small) s) → Contains (threads_at small) t → (¬ Contains ss t)

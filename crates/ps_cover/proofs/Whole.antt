@@ -1,10 +1,10 @@
 -- The whole call: counts first, then the search from no image.
-use Rattle.std.proofs.Common.{◌≡◌, ◌≢◌, ◌≤◌, ℕ, Bool, true, false, not, ◌&&◌, ◌||◌, ◌==◌, nat_le, List, [], ◌∷◌, ◌++◌, length, map, refl, sym, ap, ap₂, ◌∙◌, subst, inl, inr, Contains, Some, None, arith}
+use Rattle.std.proofs.Common.{◌≡◌, ◌≤◌, ℕ, true, false, not, ◌||◌, ◌==◌, nat_le, List, [], ◌∷◌, ◌++◌, length, map, refl, sym, ap, ap₂, ◌∙◌, subst, Contains, Some, arith}
 use Rattle.std.specs.List.{list_all, list_any}
 use Rattle.std.proofs.lemmas.Bool.{both_ways, and_parts, and_from, eqb-true, eq-eqb}
 use Rattle.std.proofs.lemmas.Bool.Decides.{nat_tests}
 use Rattle.ps_atom.specs.declared.atom.Atom.{Atom}
-use Rattle.ps_config.specs.Configurations.{Configuration, Covers, threads_at}
+use Rattle.ps_config.specs.Configurations.{Configuration, Covers}
 use Rattle.ps_config.proofs.Once.{IsOnce}
 use Rattle.ps_cover.specs.inner.Counts.{HasBare, those_at, those_of, place_counts, is_bare, atom_counts, counts_allow}
 use Rattle.ps_config.specs.Forms.{AreThreads, IsConfig}
@@ -41,11 +41,11 @@ covers_allow small large once_at once_atoms c =
     and_from (list_all (place_counts small.at large.at) small.at) (list_all (atom_counts small.atoms large.atoms) small.atoms)
     (all_to (place_counts small.at large.at) small.at (λ p h. le_test (length (those_at p.1 small.at)) (length (those_at p.1 large.at)) (fewer_at small large c once_at p.1)))
     (all_to (atom_counts small.atoms large.atoms) small.atoms (λ q h.
-        and_from (nat_le (length (those_of q.predicate small.atoms)) (length (those_of q.predicate large.atoms))) (not (length q.threads == 0) || list_any (is_bare q.predicate) large.atoms)
-        (le_test (length (those_of q.predicate small.atoms)) (length (those_of q.predicate large.atoms)) (fewer_of small large c once_atoms q.predicate))
-        (unless_to (length q.threads == 0) (list_any (is_bare q.predicate) large.atoms) (λ e.
-            let none : q.threads ≡ [] = empty_from q.threads (eqb-true (length q.threads) 0 e) in
-            any_to (is_bare q.predicate) large.atoms q (bare_there small large c q h none) (and_from (q.predicate == q.predicate) (length q.threads == 0) (eq-eqb q.predicate q.predicate refl) e)))))
+    and_from (nat_le (length (those_of q.predicate small.atoms)) (length (those_of q.predicate large.atoms))) (not (length q.threads == 0) || list_any (is_bare q.predicate) large.atoms)
+    (le_test (length (those_of q.predicate small.atoms)) (length (those_of q.predicate large.atoms)) (fewer_of small large c once_atoms q.predicate))
+    (unless_to (length q.threads == 0) (list_any (is_bare q.predicate) large.atoms) (λ e.
+    let none : q.threads ≡ [] = empty_from q.threads (eqb-true (length q.threads) 0 e) in
+    any_to (is_bare q.predicate) large.atoms q (bare_there small large c q h none) (and_from (q.predicate == q.predicate) (length q.threads == 0) (eq-eqb q.predicate q.predicate refl) e)))))
 
 pub refused : (small large : Configuration) → IsOnce small.at → IsOnce small.atoms → counts_allow small.at small.atoms large.at large.atoms ≡ false → ¬ Covers small large
 refused small large once_at once_atoms e c = both_ways (counts_allow small.at small.atoms large.at large.atoms) e (covers_allow small large once_at once_atoms c)

@@ -43,7 +43,10 @@ fn count_at(at: &[(u32, u32)], location: u32) -> usize
 fn count_of(atoms: &[Atom], predicate: u32) -> usize
     ensures { result ≡ length (those_of predicate atoms.now) }
 {
-    atoms.iter().filter(|atom| atom.predicate == predicate).count()
+    atoms
+        .iter()
+        .filter(|atom| atom.predicate == predicate)
+        .count()
 }
 
 fn has_bare(atoms: &[Atom], predicate: u32) -> bool

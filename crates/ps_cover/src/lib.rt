@@ -1,8 +1,8 @@
 //! Whether the threads of one configuration can be found in another, and which injection is the first.
 #![tactic(auto)]
 
-mod counts;
 mod among;
+mod counts;
 mod few;
 mod fits;
 mod images;
@@ -13,5 +13,5 @@ mod search;
 mod swaps;
 mod threads;
 
-pub use injection::{Injection, covers, covers_lists};
 pub use among::within;
+pub use injection::{Injection, covers, covers_lists};

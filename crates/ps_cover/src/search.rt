@@ -81,7 +81,13 @@ fn attempt(
     if is_like_failed(at, atoms, failed.as_slice(), image) {
         return Trial::Unfit;
     }
-    match search(small, at, atoms, &partial.with(thread, image), after_first(left)) {
+    match search(
+        small,
+        at,
+        atoms,
+        &partial.with(thread, image),
+        after_first(left),
+    ) {
         Some(all) => Trial::Found(all),
         None => Trial::Failed,
     }

@@ -10,7 +10,9 @@ use ps_atom::Atom;
 pub(crate) fn is_like_failed(at: &[(u32, u32)], atoms: &[Atom], failed: &[u32], image: u32) -> bool
     ensures { result ≡ list_any (λ other. swap_keeps at.now atoms.now other image) failed.now }
 {
-    failed.iter().any(|other| are_alike(at, atoms, *other, image))
+    failed
+        .iter()
+        .any(|other| are_alike(at, atoms, *other, image))
 }
 
 /// Whether the configuration stays the same where the two threads are swapped.
@@ -71,13 +73,20 @@ fn is_swapped(one: u32, other: u32, atom: &Atom, second: &Atom) -> bool
     ensures { result ≡ swap_maps one other atom.now second.now }
 {
     atom.predicate == second.predicate
-        && are_swapped(one, other, atom.threads.as_slice(), second.threads.as_slice())
+        && are_swapped(
+            one,
+            other,
+            atom.threads.as_slice(),
+            second.threads.as_slice(),
+        )
 }
 
 fn has_swapped(atoms: &[Atom], one: u32, other: u32, atom: &Atom) -> bool
     ensures { result ≡ list_any (swap_maps one other atom.now) atoms.now }
 {
-    atoms.iter().any(|second| is_swapped(one, other, atom, second))
+    atoms
+        .iter()
+        .any(|second| is_swapped(one, other, atom, second))
 }
 
 fn keeps_atom(atoms: &[Atom], one: u32, other: u32, atom: &Atom) -> bool

@@ -7,7 +7,7 @@ pub returns-then-not-is_below : goal.returns-then-not-is_below
 returns-then-not-is_below c = (
   (λ e. absurd (false≢true e)),
   (λ up. absurd (neighbours_not c.args.atoms.now c.loop-place.place c.index-atoms-place.result c.index-atoms-place-in-loop-place.result c.is_below.result
-      c.index-atoms-place.is c.index-atoms-place-in-loop-place.is c.loop-place.auto.place c.loop-place-test.true c.is_below.ensures.1 c.if-not-is_below.true up))
+      c.index-atoms-place.is c.index-atoms-place-in-loop-place.is c.loop-place.auto.place c.loop-place-test.true c.is_below.ensures.1 c.if-not-is_below.true up)),
 )
 
 pub returns : goal.returns

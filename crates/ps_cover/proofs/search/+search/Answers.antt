@@ -1,8 +1,8 @@
-use Rattle.std.proofs.Common.{◌≡◌, ◌<◌, ◌≤◌, ◌+◌, ◌-◌, ◌∙◌, ap, ℕ, List, [], ◌∷◌, ◌++◌, length, drop, get_or, sym, arith, rules}
+use Rattle.std.proofs.Common.{◌≡◌, ◌<◌, ◌-◌, ◌∙◌, ap, length, drop, get_or, sym, arith, rules}
 use Rattle.std.proofs.lemmas.List.{length-drop}
 use Rattle.ps_config.specs.declared.config.TheConstants.{MOST_THREADS}
 use Rattle.ps_cover.specs.inner.Rests.{large_of}
-use Rattle.ps_cover.proofs.Turns.{IsTurn, NoneBelow, turn_next, turn_more, turn_found, turn_none, turn_unfit, turn_fits, turn_unused, turn_alike, turn_threads, turn_later, one_failed, some_left, few_left}
+use Rattle.ps_cover.proofs.Turns.{IsTurn, NoneBelow, turn_next, turn_more, turn_found, turn_none, turn_unfit, turn_fits, turn_alike, turn_threads, turn_later, one_failed, some_left, few_left}
 use Rattle.ps_cover.proofs.search.+search.Goals as goal
 
 pub attempt-returns-then-not-fits : goal.attempt-returns-then-not-fits
@@ -20,11 +20,16 @@ pub attempt-search-requires : goal.attempt-search-requires
 attempt-search-requires t c =
     let turn : IsTurn c.args.small.now (large_of c.args.at.now c.args.atoms.now) c.args.partial.now c.args.left.now = record { are = c.requires.threads; fits = c.requires.fits; some = c.requires.some } in
     let less : length (drop 1 c.args.left.now) ≡ length c.args.left.now - 1 = length-drop 1 c.args.left.now in
-    let same : length c.after_first.result.now ≡ length (drop 1 c.args.left.now) = ap length c.after_first.ensures in
-    (first_of (search rules, omega (arith, c.decreases, less, same, c.requires.some)),
-    (rw (c.with.ensures.threads, c.after_first.ensures) (turn_threads c.args.small.now (large_of c.args.at.now c.args.atoms.now) c.args.partial.now c.args.left.now turn c.args.image),
-    (few_left c.args.partial.now.threads c.args.left.now c.with.result.threads c.after_first.result.now (get_or c.args.left.now 0 0) MOST_THREADS c.requires.few c.requires.some c.with.ensures.threads c.after_first.ensures,
-    rw (c.with.ensures.threads, c.with.ensures.to) (turn_fits c.args.small.now (large_of c.args.at.now c.args.atoms.now) c.args.partial.now c.args.left.now turn c.args.image (sym c.fits.ensures ∙ c.if-not-fits.false)))))
+    let same : length c.after_first.result.now ≡ length (drop 1 c.args.left.now) = ap length c.after_first.ensures in (
+      first_of (search rules, omega (arith, c.decreases, less, same, c.requires.some)),
+      (
+        rw (c.with.ensures.threads, c.after_first.ensures) (turn_threads c.args.small.now (large_of c.args.at.now c.args.atoms.now) c.args.partial.now c.args.left.now turn c.args.image),
+        (
+          few_left c.args.partial.now.threads c.args.left.now c.with.result.threads c.after_first.result.now (get_or c.args.left.now 0 0) MOST_THREADS c.requires.few c.requires.some c.with.ensures.threads c.after_first.ensures,
+          rw (c.with.ensures.threads, c.with.ensures.to) (turn_fits c.args.small.now (large_of c.args.at.now c.args.atoms.now) c.args.partial.now c.args.left.now turn c.args.image (sym c.fits.ensures ∙ c.if-not-fits.false)),
+        ),
+      ),
+    )
 
 pub search-may_go_on-requires-clause-left : goal.search-may_go_on-requires-clause-left
 search-may_go_on-requires-clause-left t c =
