@@ -1,19 +1,17 @@
 -- What the counts tell: a covering takes no more threads to a location than are there, and no more atoms to a predicate.
-use Rattle.std.proofs.Common.{◌≡◌, ◌≢◌, ◌≤◌, ◌+◌, ℕ, Bool, true, false, cond, ◌==◌, List, [], ◌∷◌, ◌++◌, length, map, refl, sym, ap, ap₂, ◌∙◌, subst, inl, inr, ◌⊎◌, Contains, arith}
+use Rattle.std.proofs.Common.{◌≡◌, ◌≤◌, ℕ, Bool, true, false, cond, ◌==◌, List, [], ◌∷◌, length, map, refl, ap, ap₂, subst, Contains, arith}
 use Rattle.std.specs.List.{filter}
-use Rattle.std.proofs.lemmas.Bool.{eqb-true, eq-eqb}
-use Rattle.std.proofs.lemmas.List.{length-append, length-map}
-use Rattle.std.proofs.lemmas.List.Elements.{Contains-append_left, Contains-append_right, Contains-append_cases}
-use Rattle.ps_atom.specs.Atoms.{renamed, IsInjectiveOn}
+use Rattle.std.proofs.lemmas.List.{length-map}
+use Rattle.ps_atom.specs.Atoms.{renamed}
 use Rattle.ps_atom.specs.declared.atom.Atom.{Atom}
 use Rattle.ps_config.proofs.Once.{IsOnce, no_longer, once_mapped, once_kept}
 use Rattle.ps_config.specs.Forms.{IsConfig}
 use Rattle.ps_config.proofs.Few.{once_located}
 use Rattle.ps_cover.specs.Within.{times, IsWithin}
 use Rattle.ps_cover.specs.inner.Counts.{those_at, those_of}
-use Rattle.ps_list.proofs.Members.{nothing, cons_cases, here, there}
-use Rattle.ps_config.specs.Configurations.{Configuration, IsAt, threads_at, Embeds, Covers}
-use Rattle.ps_config.proofs.Lists.{mapped, from_mapped, kept, from_kept}
+use Rattle.ps_list.proofs.Members.{here, there}
+use Rattle.ps_config.specs.Configurations.{Configuration, Covers}
+use Rattle.ps_config.proofs.Lists.{from_mapped, kept, from_kept}
 use Rattle.ps_config.proofs.Occurring.{located_occurs, named_occurs}
 
 -- no more threads of the small one are at a location

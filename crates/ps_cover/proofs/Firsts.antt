@@ -1,27 +1,20 @@
 -- The search for the first injection, thread by thread and image by image.
-use Rattle.std.proofs.Common.{◌≡◌, ◌≢◌, ◌<◌, ◌≤◌, ◌+◌, ℕ, List, [], ◌∷◌, ◌++◌, length, map, refl, sym, ap, ap₂, ◌∙◌, subst, inl, inr, ◌⊎◌, Contains, arith}
+use Rattle.std.proofs.Common.{◌≡◌, ◌≢◌, ◌<◌, ◌+◌, ℕ, List, [], ◌∷◌, ◌++◌, length, map, refl, sym, ap, subst, Contains, arith}
 use Rattle.std.specs.Cmp.Lexicographic.{slice_cmp}
-use Rattle.std.specs.List.Sorted.{IsStrictlySortedBy}
 use Rattle.std.specs.Ordering.{nat_cmp, ordering_then}
 use Rattle.std.specs.declared.cmp.Ordering.{Ordering}
 use Rattle.std.specs.declared.cmp.Ordering.TheVariants.{Less, Equal, Greater}
-use Rattle.std.proofs.lemmas.Bool.{cases_eq}
 use Rattle.std.proofs.lemmas.Cmp.{ranked}
 use Rattle.std.proofs.lemmas.List.{length-append, append_assoc, append-nil}
-use Rattle.std.proofs.lemmas.List.Elements.{Contains-append_left, Contains-push, All-from_recursion, All-contains}
-use Rattle.std.proofs.lemmas.Map.Keys.{sorted_head, sorted_tail}
 use Rattle.ps_atom.specs.Atoms.{renamed}
 use Rattle.ps_atom.specs.declared.atom.Atom.{Atom}
-use Rattle.ps_list.proofs.Members.{nothing, cons_cases, here, there}
-use Rattle.ps_config.specs.Configurations.{Configuration, IsAt, threads_at, Embeds, Covers}
+use Rattle.ps_list.proofs.Members.{nothing, here}
+use Rattle.ps_config.specs.Configurations.{Configuration, Covers}
 use Rattle.ps_config.specs.Sent.{sent}
-use Rattle.ps_config.proofs.Covering.{image_occurs}
-use Rattle.ps_config.proofs.Occurring.{renamed_same}
-use Rattle.ps_config.proofs.Sent.{sent_first, sent_later, sent_front}
 use Rattle.ps_config.specs.Forms.{AreThreads}
 use Rattle.ps_cover.specs.inner.Counts.{HasBare}
-use Rattle.ps_cover.specs.Coverings.{IsCovering, IsFirstCovering}
-use Rattle.ps_cover.specs.inner.Rests.{Fits, IsFirstRest, NoWay}
+use Rattle.ps_cover.specs.Coverings.{IsFirstCovering}
+use Rattle.ps_cover.specs.inner.Rests.{Fits, IsFirstRest}
 use Rattle.ps_cover.proofs.Fitting.{covering_from_fits, fits_from_covering}
 use Rattle.ps_cover.proofs.Ways.{HasNoRest}
 

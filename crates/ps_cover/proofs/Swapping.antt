@@ -1,12 +1,12 @@
 -- Threads of the larger configuration that can be swapped are alike.
-use Rattle.std.proofs.Common.{◌≡◌, ◌≢◌, ◌+◌, ◌<◌, ℕ, suc, Bool, true, false, not, ◌&&◌, ◌||◌, ◌==◌, List, [], ◌∷◌, ◌++◌, length, get_or, drop, map, refl, sym, ap, ap₂, ◌∙◌, subst, inl, inr, ◌⊎◌, Contains, if◌then◌else◌, arith}
+use Rattle.std.proofs.Common.{◌≡◌, ◌≢◌, ℕ, Bool, true, false, not, ◌&&◌, ◌||◌, ◌==◌, List, [], ◌∷◌, ◌++◌, length, map, refl, sym, ap, ap₂, ◌∙◌, subst, inl, inr, Contains, if◌then◌else◌, arith}
 use Rattle.std.specs.List.{list_any, list_all}
-use Rattle.std.proofs.lemmas.Bool.{and_parts, cases_eq, cases_Bool, eqb-true, eq-eqb, ne_eqb, false≢true, or_cases, or_left, or_right, both_ways}
+use Rattle.std.proofs.lemmas.Bool.{and_parts, cases_eq, eqb-true, eq-eqb, ne_eqb, false≢true, or_cases, or_left, or_right, both_ways}
 use Rattle.ps_atom.specs.Atoms.{renamed}
 use Rattle.ps_atom.specs.declared.atom.Atom.{Atom}
-use Rattle.ps_list.proofs.Members.{nothing, cons_cases, here, there}
+use Rattle.ps_list.proofs.Members.{here, there}
 use Rattle.ps_config.specs.Configurations.{Configuration, IsAt, Embeds}
-use Rattle.ps_config.proofs.Lists.{has_to, is_in, same_map}
+use Rattle.ps_config.proofs.Lists.{has_to}
 use Rattle.ps_config.proofs.Occurring.{renamed_twice, renamed_stays}
 use Rattle.ps_cover.specs.inner.Rests.{NoWay}
 use Rattle.ps_cover.specs.inner.Swaps.{swapped, place_swaps, maps_swapped, swap_maps, atom_swaps, swap_keeps}

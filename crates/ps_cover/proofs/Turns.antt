@@ -1,22 +1,22 @@
 -- The images of the next thread, tried from the least on.
-use Rattle.std.proofs.Common.{◌≡◌, ◌≢◌, ◌<◌, ◌≤◌, ◌+◌, ◌-◌, ◌==◌, ℕ, Bool, true, false, List, [], ◌∷◌, ◌++◌, length, map, drop, get_or, refl, sym, ap, ◌∙◌, subst, inl, inr, ◌⊎◌, Contains, Option, Some, None, arith}
+use Rattle.std.proofs.Common.{◌≡◌, ◌<◌, ◌≤◌, ◌+◌, ◌-◌, ◌==◌, ℕ, Bool, true, false, List, [], ◌∷◌, ◌++◌, length, drop, get_or, refl, sym, ap, ◌∙◌, subst, inl, inr, ◌⊎◌, Contains, Some, None, arith}
 use Rattle.std.specs.List.{list_any}
 use Rattle.std.proofs.lemmas.Bool.{both_ways, cases_lt}
 use Rattle.std.proofs.lemmas.List.{append_assoc, append-nil, length-append, length_push, length-drop}
 use Rattle.std.proofs.lemmas.List.Elements.{Contains-get_or, Contains-push_cases}
-use Rattle.ps_list.proofs.Members.{nothing, cons_cases, here, there}
-use Rattle.ps_config.specs.Configurations.{Configuration, threads_at, Embeds}
+use Rattle.ps_list.proofs.Members.{nothing, here, there}
+use Rattle.ps_config.specs.Configurations.{Configuration, threads_at}
 use Rattle.ps_config.specs.Forms.{AreThreads}
 use Rattle.ps_config.specs.Next.{IsNext}
 use Rattle.ps_cover.specs.declared.partial.Partial.{Partial}
-use Rattle.ps_cover.specs.inner.Rests.{Fits, NoWay, IsFirstRest, IsAnswer, one_more, HaveFailed, AreLeft}
+use Rattle.ps_cover.specs.inner.Rests.{Fits, NoWay, IsAnswer, one_more, HaveFailed, AreLeft}
 use Rattle.ps_cover.specs.inner.Swaps.{swap_keeps}
-use Rattle.ps_cover.specs.inner.Tests.{can_go, is_listed}
+use Rattle.ps_cover.specs.inner.Tests.{can_go}
 use Rattle.ps_config.proofs.Covering.{image_occurs}
 use Rattle.ps_cover.proofs.Firsts.{first_at, first_done}
 use Rattle.ps_cover.proofs.Fitting.{fits_from_next}
 use Rattle.ps_cover.proofs.Swapping.{no_way_swapped}
-use Rattle.ps_cover.proofs.Testing.{any_from, fitting_from, not_listed}
+use Rattle.ps_cover.proofs.Testing.{any_from, fitting_from}
 use Rattle.ps_cover.proofs.Ways.{goes_nowhere, no_rest, left_of, goes_not, goes_absent, map_push}
 
 -- the images below this one have no way

@@ -1,23 +1,22 @@
 -- Embeddings that begin with given images.
-use Rattle.std.proofs.Common.{◌≡◌, ◌≢◌, ◌<◌, ◌≤◌, ◌+◌, ℕ, Bool, true, false, not, ◌&&◌, ◌||◌, ◌==◌, List, [], ◌∷◌, ◌++◌, length, map, refl, sym, ap, ap₂, ◌∙◌, subst, inl, inr, Contains, arith}
+use Rattle.std.proofs.Common.{◌≡◌, ℕ, true, false, not, ◌&&◌, ◌==◌, List, [], ◌∷◌, ◌++◌, length, map, refl, sym, ap, ap₂, ◌∙◌, subst, inl, inr, Contains, arith}
 use Rattle.std.specs.List.{list_any, list_all}
 use Rattle.std.proofs.lemmas.Bool.{and_from, both_ways, eqb-true}
 use Rattle.std.proofs.lemmas.List.Elements.{Contains-append_left, Contains-append_right}
 use Rattle.ps_atom.specs.Atoms.{renamed}
-use Rattle.ps_atom.specs.declared.atom.Atom.{Atom}
-use Rattle.ps_list.proofs.Members.{nothing, cons_cases, here, there}
-use Rattle.ps_config.specs.Configurations.{Configuration, IsAt, threads_at, Embeds}
+use Rattle.ps_list.proofs.Members.{nothing, cons_cases}
+use Rattle.ps_config.specs.Configurations.{Configuration, threads_at, Embeds}
 use Rattle.ps_config.specs.Forms.{AreThreads}
 use Rattle.ps_config.specs.Sent.{sent}
 use Rattle.ps_config.proofs.Covering.{image_occurs}
 use Rattle.ps_config.proofs.Few.{once_ascending}
-use Rattle.ps_config.proofs.Lists.{from_mapped, same_map, has_from}
+use Rattle.ps_config.proofs.Lists.{from_mapped, same_map}
 use Rattle.ps_config.proofs.Once.{IsOnce}
 use Rattle.ps_config.proofs.Sent.{sent_first, sent_later}
 use Rattle.ps_cover.specs.inner.Agreeing.{atom_agrees}
 use Rattle.ps_cover.specs.inner.Rests.{Fits, NoWay, AreLeft}
 use Rattle.ps_cover.specs.inner.Tests.{is_listed, is_placed, place_kept, atom_kept, can_go}
-use Rattle.ps_cover.proofs.Fitting.{covering_from_fits, fits_from_covering, images_of}
+use Rattle.ps_cover.proofs.Fitting.{covering_from_fits}
 use Rattle.ps_cover.proofs.Testing.{all_to, any_to, atom_image, listed_not, placed_to, unless_to}
 
 -- there is no way to go on, by lists of images

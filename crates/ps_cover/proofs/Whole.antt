@@ -1,10 +1,10 @@
 -- The whole call: counts first, then the search from no image.
-use Rattle.std.proofs.Common.{◌≡◌, ◌≢◌, ◌≤◌, ℕ, Bool, true, false, not, ◌&&◌, ◌||◌, ◌==◌, nat_le, List, [], ◌∷◌, ◌++◌, length, map, refl, sym, ap, ap₂, ◌∙◌, subst, inl, inr, Contains, Some, None, arith}
+use Rattle.std.proofs.Common.{◌≡◌, ◌≤◌, ℕ, true, false, not, ◌||◌, ◌==◌, nat_le, List, [], ◌∷◌, ◌++◌, length, map, refl, sym, ap, ap₂, ◌∙◌, subst, Contains, Some, arith}
 use Rattle.std.specs.List.{list_all, list_any}
 use Rattle.std.proofs.lemmas.Bool.{both_ways, and_parts, and_from, eqb-true, eq-eqb}
 use Rattle.std.proofs.lemmas.Bool.Decides.{nat_tests}
 use Rattle.ps_atom.specs.declared.atom.Atom.{Atom}
-use Rattle.ps_config.specs.Configurations.{Configuration, Covers, threads_at}
+use Rattle.ps_config.specs.Configurations.{Configuration, Covers}
 use Rattle.ps_config.proofs.Once.{IsOnce}
 use Rattle.ps_cover.specs.inner.Counts.{HasBare, those_at, those_of, place_counts, is_bare, atom_counts, counts_allow}
 use Rattle.ps_config.specs.Forms.{AreThreads, IsConfig}

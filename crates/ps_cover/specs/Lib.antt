@@ -1,4 +1,5 @@
 pub mod Coverings
+pub mod Examples
 pub mod Within
 pub mod Zeros
 pub mod inner

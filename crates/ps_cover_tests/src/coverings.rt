@@ -1,7 +1,7 @@
 //! Which injection is the first: a case is `SMALL in LARGE gives IMAGES`, or `none`.
 use crate::text::{Lists, config, numbers};
 use ps_atom::Atom;
-use ps_cover::{Injection, covers, covers_lists, within};
+use ps_cover::{Injection, covers, covers_lists};
 use ps_list::Sequence;
 use std::alloc::{AllocError, Global};
 use std::test::Fail;
@@ -125,23 +125,5 @@ fn finds_threads_among_many(rt: HostRuntime) -> Result<(), Fail> {
     );
     assert!(rt; in_many(alloc, "0:4 1:4 2:4 3:4 4:4 5:4 6:4 7:4 8:4", "none")?);
     assert!(rt; in_many(alloc, "7/0", "none")?);
-    Ok(())
-}
-
-fn is_within(alloc: Global, small: &str, large: &str) -> Result<bool, AllocError> {
-    let mut small = numbers(alloc, small, ' ')?;
-    let mut large = numbers(alloc, large, ' ')?;
-    small.sort_unstable();
-    large.sort_unstable();
-    Ok(within(small.as_slice(), large.as_slice()))
-}
-
-#[test]
-fn counts_each_number(rt: HostRuntime) -> Result<(), Fail> {
-    let alloc = rt.alloc();
-    assert!(rt; is_within(alloc, "3 1 3", "3 1 2 3")?);
-    assert!(rt; !is_within(alloc, "3 3", "1 3 4")?);
-    assert!(rt; !is_within(alloc, "2", "1 3")?);
-    assert!(rt; is_within(alloc, "1 4294967295", "0 1 1 4294967295")?);
     Ok(())
 }

@@ -58,7 +58,7 @@ fn some_lists(alloc: Global, seed: u64, atoms: u32, threads: u32) -> Result<List
     for thread in 0..threads.min(8) {
         state = next(state);
         if below(state, 3) < 2 {
-            at.push((thread, 3 + below(next(state), 2)))?;
+            at.push((thread, 3 + below(next(state), 2).min(1)))?;
         }
     }
     let atoms = some_atoms(alloc, state, atoms, threads)?;
@@ -68,7 +68,7 @@ fn some_lists(alloc: Global, seed: u64, atoms: u32, threads: u32) -> Result<List
 /// Whether both searches find the same, and whether they find one.
 fn agree(alloc: Global, seed: u64) -> Result<(bool, bool), AllocError> {
     let small = some_lists(alloc, seed, 2, 3)?;
-    let large = some_lists(alloc, seed + 1_000_000, 7, 5)?;
+    let large = some_lists(alloc, seed.wrapping_add(1_000_000), 7, 5)?;
     let slow = first(alloc, &small, &large)?;
     let Some(small) = config_of(small) else {
         return Ok((false, false));

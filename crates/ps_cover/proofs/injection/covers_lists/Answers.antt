@@ -1,5 +1,4 @@
 use Rattle.std.proofs.Common.{◌∙◌, [], ap₂, refl, sym}
-use Rattle.ps_config.specs.Forms.{AreThreads}
 use Rattle.ps_cover.specs.Coverings.{images}
 use Rattle.ps_cover.specs.inner.Rests.{large_of}
 use Rattle.ps_cover.proofs.Whole.{allow_bare, refused_by_counts, begins, found_images, found_none, listed_threads}

@@ -1,8 +1,8 @@
-use Rattle.std.proofs.Common.{◌≡◌, ◌<◌, ◌≤◌, ◌+◌, ◌-◌, ◌∙◌, ap, ℕ, List, [], ◌∷◌, ◌++◌, length, drop, get_or, sym, arith, rules}
+use Rattle.std.proofs.Common.{◌≡◌, ◌<◌, ◌-◌, ◌∙◌, ap, length, drop, get_or, sym, arith, rules}
 use Rattle.std.proofs.lemmas.List.{length-drop}
 use Rattle.ps_config.specs.declared.config.TheConstants.{MOST_THREADS}
 use Rattle.ps_cover.specs.inner.Rests.{large_of}
-use Rattle.ps_cover.proofs.Turns.{IsTurn, NoneBelow, turn_next, turn_more, turn_found, turn_none, turn_unfit, turn_fits, turn_unused, turn_alike, turn_threads, turn_later, one_failed, some_left, few_left}
+use Rattle.ps_cover.proofs.Turns.{IsTurn, NoneBelow, turn_next, turn_more, turn_found, turn_none, turn_unfit, turn_fits, turn_alike, turn_threads, turn_later, one_failed, some_left, few_left}
 use Rattle.ps_cover.proofs.search.+search.Goals as goal
 
 pub attempt-returns-then-not-fits : goal.attempt-returns-then-not-fits

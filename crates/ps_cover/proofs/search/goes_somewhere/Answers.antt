@@ -1,5 +1,5 @@
-use Rattle.std.proofs.Common.{◌≡◌, ◌<◌, ◌+◌, ◌∙◌, ℕ, sym, arith, rules}
-use Rattle.ps_config.specs.Configurations.{Configuration, threads_at}
+use Rattle.std.proofs.Common.{◌<◌, ◌∙◌, sym, arith, rules}
+use Rattle.ps_config.specs.Configurations.{threads_at}
 use Rattle.ps_cover.specs.inner.Rests.{large_of}
 use Rattle.ps_cover.specs.inner.Tests.{can_go}
 use Rattle.ps_cover.proofs.Turns.{nowhere_more, nowhere_all}

@@ -1,6 +1,5 @@
-use Rattle.std.proofs.Common.{◌≡◌, ◌<◌, ◌≤◌, ◌+◌, ℕ, List, [], ◌∷◌, ◌++◌, length, Some, None, arith, rules}
-use Rattle.ps_config.specs.Configurations.{Configuration, threads_at}
-use Rattle.ps_config.specs.Next.{IsNext}
+use Rattle.std.proofs.Common.{◌<◌, arith, rules}
+use Rattle.ps_config.specs.Configurations.{threads_at}
 use Rattle.ps_config.proofs.Few.{listed_few}
 use Rattle.ps_config.proofs.Nexts.{listed_more, listed_all}
 use Rattle.ps_cover.proofs.threads.threads_in.Goals as goal
