@@ -5,8 +5,8 @@ use Rattle.std.proofs.lemmas.List.{drop_all}
 use Rattle.std.proofs.lemmas.Result.{err_from_is_err_and}
 use Rattle.ps_term.specs.declared.var.Var.{Var}
 use Rattle.ps_term.specs.declared.var.Var.TheVariants.{Global}
-use Rattle.ps_term.proofs.Substitutions.{Substituted-step, Substituted-refused}
-use Rattle.ps_command.proofs.Putting.{put_end}
+use Rattle.ps_term.proofs.Substitutions.{Substituted-refused}
+use Rattle.ps_command.proofs.Putting.{put_step, put_end}
 use Rattle.ps_command.proofs.put.put_in.Goals as goal
 
 pub returns-in_err-sum-clause-past : goal.returns-in_err-sum-clause-past
@@ -16,7 +16,7 @@ returns-in_err-sum-clause-past c =
     let d : Var × ℤ = (Global 0, pos 0) in
     let fits : FitsSigned w128 (get_or ps i d).1 = search rules in
     let end = err_from_is_err_and c.from_residual.result c.from_residual.ensures.1 in
-    rw (end.1, end.2) (λ past. Substituted-refused c.args.after.now c.args.term.now.pairs ps c.args.term.now.constant c.loop-pair.sum i d c.loop-pair.invariant c.loop-pair-test.true (simp to_z-of_z at (c.in_err-sum.ensures.past past)))
+    rw (end.1, end.2) (λ past. Substituted-refused c.args.after.now c.args.term.now.pairs ps c.args.term.now.constant c.loop-pair.sum i d c.loop-pair.invariant.sums c.loop-pair-test.true (simp to_z-of_z at (c.in_err-sum.ensures.past past)))
 
 pub loop-pair-preserved : goal.loop-pair-preserved
 loop-pair-preserved c =
@@ -25,7 +25,7 @@ loop-pair-preserved c =
     let d : Var × ℤ = (Global 0, pos 0) in
     let fits : FitsSigned w128 (get_or ps i d).1 = search rules in
     let is = c.in_ok-sum.ensures in
-    Substituted-step c.args.after.now c.args.term.now.pairs ps c.args.term.now.constant c.loop-pair.sum c.in_ok-sum.sum i d c.loop-pair.invariant c.loop-pair-test.true is.canonical (λ v. simp to_z-of_z at (is.worth v)) (λ x. simp to_z-of_z at (is.coefficients x)) (simp to_z-of_z at is.constant) (simp to_z-of_z at is.fits)
+    put_step c.args.after.now c.args.term.now.pairs ps c.args.term.now.constant c.loop-pair.sum c.in_ok-sum.sum i d c.loop-pair.invariant c.loop-pair-test.true is.canonical (λ v. simp to_z-of_z at (is.worth v)) (λ x. simp to_z-of_z at (is.coefficients x)) (simp to_z-of_z at is.constant) (simp to_z-of_z at is.fits)
 
 pub returns-clause-term : goal.returns-clause-term
 returns-clause-term c =
