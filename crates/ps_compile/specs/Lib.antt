@@ -1,0 +1,6 @@
+pub mod Checks
+pub mod Compiled
+pub mod Examples
+pub mod Kept
+pub mod Layout
+pub mod Ops
