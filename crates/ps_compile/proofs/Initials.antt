@@ -12,7 +12,7 @@ use Rattle.ps_command.specs.Run.{holds}
 use Rattle.ps_command.specs.Values.{value_at}
 use Rattle.ps_command.specs.declared.setting.Setting.{Setting}
 use Rattle.ps_command.specs.declared.state.State.{State}
-use Rattle.ps_compile.proofs.Terms.{bound_worth}
+use Rattle.ps_compile.proofs.Worth.{bound_worth}
 use Rattle.ps_graph.proofs.Bools.{and_assoc, or_false, same_test}
 use Rattle.ps_graph.proofs.Truths.{any_hold-of_relation}
 use Rattle.ps_graph.specs.Alternatives.{Bound, all_hold, any_hold, of_relation}

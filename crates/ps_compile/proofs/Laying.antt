@@ -5,7 +5,7 @@ use Rattle.std.specs.List.{AllByRecursion}
 use Rattle.ps_command.specs.declared.command.Command.{Command}
 use Rattle.ps_graph.proofs.Members.{in_right}
 use Rattle.ps_compile.proofs.Spots.{NoneAt, AreApart}
-use Rattle.ps_compile.proofs.Terms.{says_ops}
+use Rattle.ps_compile.proofs.Worth.{says_ops}
 use Rattle.ps_compile.specs.Compiled.{IsEdge, AreEdges}
 use Rattle.ps_graph.proofs.Members.{IsIn}
 use Rattle.ps_graph.specs.Follows.{Says, AreRealised, leaving, StmtConnects, BlockConnects, RestBeginsAt}

@@ -5,4 +5,5 @@ pub mod Laying
 pub mod Meets
 pub mod OneWay
 pub mod Spots
-pub mod Terms
+pub mod Products
+pub mod Worth

@@ -2,10 +2,10 @@
 use Rattle.std.specs.Prelude.{ℕ, ◌+◌, true, false, List, [], ◌∷◌, ◌++◌, map}
 use Rattle.std.specs.List.{flat_map}
 use Rattle.ps_graph.specs.Follows.{going_to}
-use Rattle.ps_graph.specs.Paths.{Act, paths, ways}
+use Rattle.ps_graph.specs.Paths.{Act, paths, paths_all, ways}
 use Rattle.ps_token.specs.declared.place.Place.{Place}
 use Rattle.ps_tree.specs.declared.stmt.Stmt.{Stmt}
-use Rattle.ps_tree.specs.declared.stmt.StmtKind.{StmtKind, If', While', Row_of-Stmt, end_of-Stmt, more_of-Stmt}
+use Rattle.ps_tree.specs.declared.stmt.StmtKind.{StmtKind, Atomic', If', While', Row_of-Stmt, end_of-Stmt, more_of-Stmt}
 
 -- A statement that is laid out: its place in the text, the location at which it stands, its paths, each with the
 -- location to which it goes on, and how many locations there are by then, those that it needs included.
@@ -42,8 +42,9 @@ abbrev mutual
 
 -- The statements in text order, from one location to another, where this number is the next new location. Each goes on
 -- to where the rest of its block begins. `if` goes to the starts of its blocks, which end where it goes on to. `while`
--- goes to the start of its block, which ends where `while` stands, or on. The locations of a statement, where its blocks
--- start and where the rest begins, are made before those of what stands in its blocks.
+-- goes to the start of its block, which ends where `while` stands, or on. An atomic block is one step along each of its
+-- paths. The starts of a statement's blocks, the first before the second, and where the rest begins are made before what
+-- stands in the blocks.
 abbrev mutual
   pub sites : Place → StmtKind → ℕ → ℕ → ℕ → List Site
   sites place (If' t i held j failed) a z next =
@@ -55,6 +56,7 @@ abbrev mutual
       own_site place (While' t i block) a (next + opened block)
       (going_to (start block a next) (ways true t) ++ going_to z (ways false t))
       ∷ sites_all block (start block a next) a (next + opened block)
+  sites place (Atomic' n block) a z next = own_site place (Atomic' n block) a next (going_to z (paths_all block)) ∷ []
   sites place k a z next = own_site place k a next (going_to z (paths k)) ∷ []
 
   pub sites_all : {n : _} → Row_of-Stmt n → ℕ → ℕ → ℕ → List Site

@@ -4,3 +4,4 @@ pub mod Examples
 pub mod Kept
 pub mod Layout
 pub mod Ops
+pub mod inner

@@ -4,4 +4,5 @@
 
 pub mod laws;
 pub mod limits;
+mod terms;
 pub mod worked;
