@@ -1,0 +1,7 @@
+pub mod Checks
+pub mod Compiled
+pub mod Examples
+pub mod Kept
+pub mod Layout
+pub mod Ops
+pub mod inner

@@ -1,0 +1,13 @@
+-- Numbers, and terms, within a distance of 0.
+use Rattle.std.specs.Prelude.{ℕ, ℤ, pos, neg_ℤ, ◌≤ℤ◌}
+use Rattle.ps_term.specs.Pairs.{coefficient}
+use Rattle.ps_term.specs.declared.term.Term.{Term}
+use Rattle.ps_term.specs.declared.var.Var.{Var}
+
+-- the number is at most this far from 0
+abbrev pub IsNear : ℕ → ℤ → Type 0
+IsNear k n = (neg_ℤ (pos k) ≤ℤ n) × (n ≤ℤ pos k)
+
+-- and so is each coefficient, and the constant
+abbrev pub IsNearTerm : ℕ → Term → Type 0
+IsNearTerm k t = ((x : Var) → IsNear k (coefficient x t.pairs)) × IsNear k t.constant
