@@ -1,6 +1,7 @@
 pub mod Agreement
 pub mod Assignments
 pub mod Commands
+pub mod Examples
 pub mod Fitting
 pub mod Form
 pub mod Initial

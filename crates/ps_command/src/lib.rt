@@ -16,6 +16,7 @@ mod setting;
 mod state;
 mod symbolic_form;
 mod view;
+pub mod worked;
 
 pub use assignments::Assignments;
 pub use command::Command;
