@@ -1,7 +1,7 @@
 // The terms of sums and bounds, product by product.
-ghost use Rattle.std.specs.Prelude.{◌≡◌, ◌+◌, ◌<◌, ◌^◌, ℕ, IfOk, IsErrOf};
-ghost use Rattle.ps_compile.specs.Ops.{with_product};
-ghost use Rattle.ps_compile.specs.inner.Near.{IsNear, IsNearTerm};
+ghost use Rattle.std.specs.Prelude.{◌≡◌, ◌+◌, ◌*◌, ◌<◌, ◌^◌, ◌*ℤ◌, ℕ, IfOk, IsErrOf, length};
+ghost use Rattle.ps_compile.specs.Ops.{with_product, with_products};
+ghost use Rattle.ps_compile.specs.inner.Near.{AreSmall, IsNear, IsNearTerm, MOST_NUMBER};
 
 use ps_term::{Term, TermEnd, Var, add_scaled};
 use std::alloc::Global;
@@ -39,4 +39,46 @@ pub(crate) fn add_product(
             }
         }
     }
+}
+
+// The same with a number that is a product itself.
+fn add_times(
+    alloc: Global,
+    term: &Term,
+    by: i128,
+    number: i128,
+    variable: Option<Var>,
+) -> Result<Term, TermEnd>
+    ensures is { IfOk result (λ sum. sum ≡ with_product (by *ℤ number) variable term.now) }
+    ensures past { IsErrOf result TermEnd.Past128 → (k m : ℕ)
+        → IsNearTerm k term.now → IsNear m (by *ℤ number) → k + m < 2 ^ 127 → ⊥ }
+{
+    match by.checked_mul(number) {
+        Some(times) => add_product(alloc, term, times, variable),
+        None => Err(TermEnd::Past128),
+    }
+}
+
+// The term with all products, so many times each, from the last to the first: in time of their number
+// times that of the variables that they name.
+pub(crate) fn add_products(
+    alloc: Global,
+    term: Term,
+    by: i128,
+    products: &[(i128, Option<Var>)],
+) -> Result<Term, TermEnd>
+    ensures is { IfOk result (λ sum. sum ≡ with_products by products.now term) }
+    ensures past { IsErrOf result TermEnd.Past128 → (k : ℕ)
+        → IsNearTerm k term → AreSmall by products.now
+        → k + length products.now * MOST_NUMBER < 2 ^ 127 → ⊥ }
+{
+    let mut sum = term;
+    for i in (0..products.len()).rev() {
+        let product = products[i];
+        sum = match add_times(alloc, &sum, by, product.0, product.1) {
+            Ok(more) => more,
+            Err(end) => return Err(end),
+        };
+    }
+    Ok(sum)
 }
