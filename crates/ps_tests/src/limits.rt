@@ -1,5 +1,5 @@
 //! The most bytes that an input may have, and one more.
-ghost use Rattle.std.specs.Prelude.{None};
+ghost use Rattle.std.specs.Prelude.{None, false};
 
 use ps_io::{Fault, MemorySink, OpenGate, Source};
 use ps_modes::run;
@@ -19,6 +19,8 @@ impl Source for Zeros {
     ghost left = { λ _. None };
 
     ghost faults = { λ _. 0 };
+
+    ghost failed = { λ _. false };
 
     fn take(&mut self, into: &mut [u8]) -> Result<usize, Fault> {
         let count = self.left.min(into.len());
