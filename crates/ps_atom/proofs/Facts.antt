@@ -8,7 +8,7 @@ use Rattle.ps_term.specs.Pairs.{IsCanonical, pairs_value, coefficient}
 use Rattle.ps_term.specs.Row.{Holds}
 use Rattle.ps_atom.specs.Atoms.{at_threads, HoldsAt}
 use Rattle.ps_atom.specs.Canonical.{HasSlots, IsInSlots, IsCanonicalOf}
-use Rattle.ps_atom.specs.Slots.{placed}
+use Rattle.ps_atom.specs.inner.Slots.{placed}
 use Rattle.ps_atom.specs.Threads.{local_pairs}
 use Rattle.ps_atom.specs.declared.predicate.Predicate.{Predicate}
 use Rattle.ps_atom.proofs.Parts.{slot_of, slotted, AreAmong, placed_worth, placed_canonical}

@@ -8,8 +8,8 @@ use Rattle.ps_term.specs.declared.row.Row.{Row}
 use Rattle.ps_term.specs.declared.var.Var.{Var}
 use Rattle.ps_term.specs.Pairs.{IsCanonical}
 use Rattle.ps_atom.specs.Canonical.{IsInSlots, HasSlots}
-use Rattle.ps_atom.specs.Shares.{AreShares, IsShare}
-use Rattle.ps_atom.specs.Slots.{placed}
+use Rattle.ps_atom.specs.inner.Shares.{AreShares, IsShare}
+use Rattle.ps_atom.specs.inner.Slots.{placed}
 use Rattle.ps_atom.specs.Threads.{AreOccurring, AreSlots, local_pairs}
 use Rattle.ps_atom.specs.declared.share.Share.{Share}
 use Rattle.ps_atom.proofs.Chains.{rising_from_increasing}

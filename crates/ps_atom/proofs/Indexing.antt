@@ -5,11 +5,12 @@ use Rattle.std.proofs.lemmas.Bool.{false≢true, true≢false}
 use Rattle.std.proofs.lemmas.List.{take_more}
 use Rattle.ps_list.proofs.Members.{nothing, cons_cases}
 use Rattle.indexmap.specs.IndexMap.{get}
+use Rattle.ps_atom.specs.declared.predicates.TheConstants.Predicates.{MOST}
 use Rattle.ps_atom.specs.declared.key.Key.{Key}
 use Rattle.ps_atom.specs.declared.predicate.Predicate.{Predicate}
-use Rattle.ps_atom.specs.Index.{Index, key_of, or_else, least, IsIndex, IsNoted, IsSameIndex}
-use Rattle.ps_atom.specs.KeyLaws.{key_decides}
-use Rattle.ps_atom.specs.Keys.{key_eq}
+use Rattle.ps_atom.specs.inner.Index.{Index, key_of, or_else, least, IsIndex, IsNoted, IsSameIndex}
+use Rattle.ps_atom.specs.inner.KeyLaws.{key_decides}
+use Rattle.ps_atom.specs.inner.Keys.{key_eq}
 use Rattle.ps_atom.specs.Numbers.{IsNumberOf, IsTable, false_predicate}
 
 -- ---- the list grows
@@ -106,7 +107,7 @@ get-front : (xs : List Predicate) (y p : Predicate) → slice_get xs 0 ≡ Some 
 get-front [] y p e = absurd (let f : ⊥ = cc in f)
 get-front (x ∷ xs) y p e = e
 
-pub table-push : (list new : List Predicate) (predicate : Predicate) → IsTable list → length list < 128 → new ≡ list ++ predicate ∷ [] → IsTable new
+pub table-push : (list new : List Predicate) (predicate : Predicate) → IsTable list → length list < MOST → new ≡ list ++ predicate ∷ [] → IsTable new
 table-push list new predicate table room is =
     subst (λ (xs : List Predicate). IsTable xs) (sym is) (record {
       first = get-front list predicate false_predicate table.first;

@@ -7,7 +7,7 @@ use Rattle.ps_term.specs.declared.var.Var.{Var}
 use Rattle.ps_term.specs.declared.var.Var.TheVariants.{Global, Local, Havoc}
 use Rattle.ps_term.specs.Pairs.{IsCanonical, coefficient}
 use Rattle.ps_term.proofs.Uniqueness.{same_coefficients}
-use Rattle.ps_atom.specs.Slots.{in_slot}
+use Rattle.ps_atom.specs.inner.Slots.{in_slot}
 use Rattle.ps_atom.specs.Threads.{local_pairs}
 use Rattle.ps_atom.proofs.Parts.{IsCanonical-slot}
 

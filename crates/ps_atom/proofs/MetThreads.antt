@@ -11,7 +11,7 @@ use Rattle.ps_term.specs.Pairs.{IsCanonical, coefficient}
 use Rattle.ps_term.proofs.Variables.{var_eq-true}
 use Rattle.ps_term.proofs.Canonical.{IsBelowAll, IsBelowAll-canonical, coefficient-other, coefficient-below}
 use Rattle.ps_term.proofs.Uniqueness.{coefficient-first}
-use Rattle.ps_atom.specs.Slots.{next_thread, threads_after}
+use Rattle.ps_atom.specs.inner.Slots.{next_thread, threads_after}
 use Rattle.ps_atom.specs.Threads.{Occurs}
 
 -- each number is below all later ones

@@ -13,7 +13,7 @@ use Rattle.std.proofs.lemmas.List.Elements.{All-from_recursion, recursion_from_A
 use Rattle.std.proofs.lemmas.List.Kept.{AllPairs-cons}
 use Rattle.std.proofs.lemmas.List.Sorted.{ranks_by, sorted_far}
 use Rattle.ps_term.specs.declared.var.Var.{Var}
-use Rattle.ps_atom.specs.Shares.{share_cmp, IsShare}
+use Rattle.ps_atom.specs.inner.Shares.{share_cmp, IsShare}
 use Rattle.ps_atom.specs.Threads.{local_pairs, pair_cmp, pairs_cmp, thread_cmp}
 use Rattle.ps_atom.specs.declared.share.Share.{Share}
 use Rattle.ps_atom.proofs.Counts.{IsOnce, once-tail, once-first}

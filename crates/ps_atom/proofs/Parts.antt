@@ -10,7 +10,7 @@ use Rattle.ps_term.specs.declared.var.Var.TheVariants.{Global, Local, Havoc}
 use Rattle.ps_term.specs.Var.{var_lt}
 use Rattle.ps_term.specs.Pairs.{IsBelow, IsCanonical, pairs_value}
 use Rattle.ps_term.proofs.Canonical.{IsBelowAll, IsBelowAll-canonical, pairs_value-append}
-use Rattle.ps_atom.specs.Slots.{is_global, is_havoc, in_slot, in_slots, placed}
+use Rattle.ps_atom.specs.inner.Slots.{is_global, is_havoc, in_slot, in_slots, placed}
 use Rattle.ps_atom.specs.Threads.{local_pairs}
 use Rattle.ps_atom.proofs.Counts.{IsOnce, once-tail, once-first}
 

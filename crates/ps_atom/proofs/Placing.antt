@@ -10,7 +10,8 @@ use Rattle.ps_term.specs.Pairs.{IsCanonical, coefficient}
 use Rattle.ps_term.specs.Tightened.{IsTightened}
 use Rattle.ps_term.proofs.Ring.{mul-zero}
 use Rattle.ps_atom.specs.Canonical.{IsInSlots}
-use Rattle.ps_atom.specs.Places.{HasForm, IsEndOf, IsFormEnd, IsArityOf}
+use Rattle.ps_atom.specs.Places.{HasForm, IsEndOf, IsArityOf}
+use Rattle.ps_atom.specs.inner.Ends.{IsFormEnd}
 use Rattle.ps_atom.specs.Threads.{AreOccurring, Occurs}
 use Rattle.ps_atom.specs.declared.predicate.Predicate.{Predicate}
 use Rattle.ps_atom.specs.declared.place.PlaceEnd.{PlaceEnd}

@@ -17,7 +17,7 @@ use Rattle.ps_term.specs.Whole.{IsCeiling}
 use Rattle.ps_term.proofs.Uniqueness.{same_coefficients}
 use Rattle.ps_atom.specs.Canonical.{IsInSlots, IsCanonicalOf}
 use Rattle.ps_atom.specs.Renaming.{IsRenaming}
-use Rattle.ps_atom.specs.Slots.{in_slot}
+use Rattle.ps_atom.specs.inner.Slots.{in_slot}
 use Rattle.ps_atom.specs.Threads.{local_pairs, pairs_cmp, thread_cmp, Occurs, AreSlots}
 use Rattle.ps_atom.specs.declared.predicate.Predicate.{Predicate}
 use Rattle.ps_atom.proofs.Chains.{IsChain, chain_from_pairs, once_from_chain}

@@ -11,7 +11,7 @@ use Rattle.ps_term.specs.declared.var.Var.TheVariants.{Global, Local, Havoc}
 use Rattle.ps_term.specs.Pairs.{IsCanonical, pairs_value, coefficient}
 use Rattle.ps_term.proofs.Uniqueness.{unit_at, pairs_value-unit_at, pairs_value-zero, same_coefficients}
 use Rattle.ps_atom.specs.Canonical.{HasSlots}
-use Rattle.ps_atom.specs.Slots.{placed}
+use Rattle.ps_atom.specs.inner.Slots.{placed}
 use Rattle.ps_atom.specs.Threads.{local_pairs, Occurs, AreSlots, thread_cmp}
 use Rattle.ps_atom.proofs.Chains.{IsChain, chain_from_pairs, once_from_chain, same_chain}
 use Rattle.ps_atom.proofs.Counts.{IsOnce, once-tail, once-first}

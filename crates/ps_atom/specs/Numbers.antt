@@ -1,6 +1,7 @@
 -- The table of predicates as a list.
 use Rattle.std.specs.Prelude.{◌≡◌, ◌≢◌, ℕ, ◌<◌, ◌≤◌, pos, List, [], Some, length, slice_get}
 use Rattle.ps_atom.specs.declared.predicate.Predicate.{Predicate}
+use Rattle.ps_atom.specs.declared.predicates.TheConstants.Predicates.{MOST}
 
 -- the predicate `1 <= 0`, which no values satisfy
 abbrev pub false_predicate : Predicate
@@ -11,7 +12,7 @@ pub record IsNumberOf (list : List Predicate) (predicate : Predicate) (number : 
   pub stands : slice_get list number ≡ Some predicate
   pub least : (k : ℕ) → k < number → slice_get list k ≢ Some predicate
 
--- a list that begins with `1 <= 0` and has at most 128 members
+-- a list that begins with `1 <= 0` and has no more members than the most
 pub record IsTable (list : List Predicate) : Type 0 where
   pub first : slice_get list 0 ≡ Some false_predicate
-  pub within : length list ≤ 128
+  pub within : length list ≤ MOST

@@ -2,7 +2,7 @@
 ghost use Rattle.std.specs.Prelude.{◌≡◌, ◌≤◌, ◌-◌, ◌^◌, IfErr, IfOk, length, map, min};
 ghost use Rattle.std.specs.List.Sorted.{IsStrictlyIncreasing};
 ghost use Rattle.ps_atom.specs.Canonical.{IsInSlots};
-ghost use Rattle.ps_atom.specs.Places.{IsFormEnd};
+ghost use Rattle.ps_atom.specs.inner.Ends.{IsFormEnd};
 ghost use Rattle.ps_atom.specs.Threads.{AreOccurring};
 
 use crate::place::PlaceEnd;

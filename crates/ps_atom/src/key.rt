@@ -10,8 +10,8 @@ pub(crate) struct Key {
 }
 
 impl PartialEq for Key {
-    ghost use Rattle.ps_atom.specs.KeyLaws.{key_laws};
-    ghost use Rattle.ps_atom.specs.Keys.{key_eq};
+    ghost use Rattle.ps_atom.specs.inner.KeyLaws.{key_laws};
+    ghost use Rattle.ps_atom.specs.inner.Keys.{key_eq};
 
     ghost eq = { key_eq };
 
@@ -27,14 +27,14 @@ impl PartialEq for Key {
 }
 
 impl Eq for Key {
-    ghost use Rattle.ps_atom.specs.KeyLaws.{key_equiv};
+    ghost use Rattle.ps_atom.specs.inner.KeyLaws.{key_equiv};
 
     ghost laws = { key_equiv };
 }
 
 impl Hash for Key {
-    ghost use Rattle.ps_atom.specs.KeyLaws.{key_alike};
-    ghost use Rattle.ps_atom.specs.Keys.{key_fed};
+    ghost use Rattle.ps_atom.specs.inner.KeyLaws.{key_alike};
+    ghost use Rattle.ps_atom.specs.inner.Keys.{key_fed};
 
     ghost hash_input = { key_fed };
 

@@ -12,6 +12,7 @@ mod predicates;
 mod share;
 mod slots;
 mod threads;
+pub mod worked;
 
 pub use atom::Atom;
 pub use place::{Place128, PlaceEnd};

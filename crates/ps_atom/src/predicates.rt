@@ -1,10 +1,12 @@
 //! Tables of predicates.
 ghost use Rattle.std.specs.Prelude.{◌≡◌, ◌<◌, ◌≤◌, ◌++◌, ◌∷◌, [], IfErr, IfOk, IsErrOf, OnErr, OnOk, length};
 ghost use Rattle.indexmap.specs.IndexMap.{get};
-ghost use Rattle.ps_atom.specs.Index.{IsIndex, IsNoted, IsSameIndex, key_of};
-ghost use Rattle.ps_atom.specs.Keys.{key_eq};
+ghost use Rattle.ps_atom.specs.inner.Index.{IsIndex, IsNoted, IsSameIndex, key_of};
+ghost use Rattle.ps_atom.specs.inner.Keys.{key_eq};
 ghost use Rattle.ps_atom.specs.Numbers.{IsTable, false_predicate};
-ghost use Rattle.ps_atom.specs.Places.{IsBarePlace, IsEndOf, IsPlaceOf};
+ghost use Rattle.ps_atom.specs.Places.{IsEndOf, IsPlaceOf};
+ghost use Rattle.ps_atom.specs.inner.Ends.{IsBarePlace};
+ghost use Rattle.ps_atom.specs.declared.predicates.TheConstants.Predicates.{MOST};
 
 use crate::canonical::{Form, form_of};
 use crate::key::Key;
@@ -40,7 +42,7 @@ pub enum PushEnd {
 impl Model for Predicates {
     ghost use Rattle.std.specs.Prelude.{List};
     ghost use Rattle.ps_atom.specs.declared.predicate.Predicate.{Predicate};
-    ghost use Rattle.ps_atom.specs.Index.{IsIndexed};
+    ghost use Rattle.ps_atom.specs.inner.Index.{IsIndexed};
 
     ghost Value = { List Predicate };
 
@@ -84,8 +86,8 @@ impl Predicates {
         ensures number { IfOk result (λ number. number ≡ length self.old) }
         ensures appended { OnOk result (self.new ≡ self.old ++ predicate ∷ []) }
         ensures unchanged { OnErr result (self.new ≡ self.old) }
-        ensures room { OnOk result (length self.old < 128) }
-        ensures full { IsErrOf result PushEnd.Full → length self.old ≡ 128 }
+        ensures room { OnOk result (length self.old < MOST) }
+        ensures full { IsErrOf result PushEnd.Full → length self.old ≡ MOST }
         ensures table { IsTable self.new }
     {
         let number = self.list.len();
@@ -159,7 +161,7 @@ fn bare_place(constant: i128) -> Place128
 
 // The index of a list.
 fn index_of(alloc: Global, list: &[Predicate]) -> Result<IndexMap<Key, u32>, AllocError>
-    requires { length list.now ≤ 128 }
+    requires { length list.now ≤ MOST }
     ensures { IfOk result (IsIndex list.now) }
 {
     let mut index = IndexMap::new(alloc);

@@ -1,6 +1,6 @@
 // What a thread has in a row, and the order of threads by it.
 ghost use Rattle.std.specs.Prelude.{◌≡◌, All, IfOk, map};
-ghost use Rattle.ps_atom.specs.Shares.{AreShares, IsShare};
+ghost use Rattle.ps_atom.specs.inner.Shares.{AreShares, IsShare};
 ghost use Rattle.ps_atom.specs.Threads.{local_pairs, own_pair};
 
 use ps_term::Var;

@@ -1,6 +1,6 @@
 // The pairs of a row with slots put for its threads.
 ghost use Rattle.std.specs.Prelude.{◌≡◌, ◌++◌, ◌<◌, ◌^◌, IfOk, OnOk, filter, length, map};
-ghost use Rattle.ps_atom.specs.Slots.{in_slot, in_slots, is_global, is_havoc, placed};
+ghost use Rattle.ps_atom.specs.inner.Slots.{in_slot, in_slots, is_global, is_havoc, placed};
 
 use crate::share::Share;
 use ps_term::Var;

@@ -2,7 +2,7 @@
 ghost use Rattle.std.specs.Prelude.{◌≡◌, IfOk, None, OnOk};
 ghost use Rattle.std.specs.List.Sorted.{IsStrictlyIncreasing};
 ghost use Rattle.ps_term.specs.Pairs.{IsCanonical};
-ghost use Rattle.ps_atom.specs.Slots.{next_thread, threads_after};
+ghost use Rattle.ps_atom.specs.inner.Slots.{next_thread, threads_after};
 ghost use Rattle.ps_atom.specs.Threads.{AreOccurring};
 
 use ps_term::Var;

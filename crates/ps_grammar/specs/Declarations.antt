@@ -5,6 +5,7 @@ use Rattle.ps_tree.specs.declared.relation.Relation.{Relation}
 use Rattle.ps_tree.specs.declared.relation.Sign.{Sign}
 use Rattle.ps_tree.specs.declared.relation.Sign.TheVariants as sign
 use Rattle.ps_grammar.specs.Names.{Names}
+use Rattle.ps_grammar.specs.declared.limits.TheConstants.{MOST_GLOBALS, MOST_LEVELS, MOST_LOCALS, MOST_ROWS}
 
 -- What is declared so far, and how many rows hold at the start: two for a declared value and for `==`, one for
 -- another sign.
@@ -15,16 +16,16 @@ pub record Declared : Type 0 where
   pub rows : ℕ
 
 abbrev pub most_globals : ℕ
-most_globals = 16
+most_globals = MOST_GLOBALS
 
 abbrev pub most_locals : ℕ
-most_locals = 8
+most_locals = MOST_LOCALS
 
 abbrev pub most_rows : ℕ
-most_rows = 64
+most_rows = MOST_ROWS
 
 abbrev pub most_levels : ℕ
-most_levels = 64
+most_levels = MOST_LEVELS
 
 abbrev pub nothing_declared : Declared
 nothing_declared = record { globals = []; locals = []; inits = []; rows = 0 }

@@ -4,3 +4,7 @@
 //! `Numbers` and `Declarations` (what words stand for, and how many there may be), `Trees` (the program that a text is),
 //! `Fits` (which texts are programs), and `Programs` (the same of bytes).
 #![tactic(auto)]
+
+mod limits;
+
+pub use limits::{MOST_GLOBALS, MOST_LEVELS, MOST_LOCALS, MOST_ROWS};

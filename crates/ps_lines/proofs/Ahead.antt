@@ -4,7 +4,8 @@ use Rattle.std.proofs.lemmas.Bool.{eqb-true, ne_eqb, or_left, or_right, cond-tru
 use Rattle.std.proofs.lemmas.List.{nil_from_length}
 use Rattle.ps_lines.specs.declared.form_name.FormName.TheVariants as name
 use Rattle.ps_lines.specs.Reading.{At, end_from, done_from, field_from, end_at, done_at, field_at, fault_at, line_fault}
-use Rattle.ps_lines.specs.Tokens.{Token, Field, Newline, onto, token_onto, tokens, next_field, field_len, ahead}
+use Rattle.ps_lines.specs.Tokens.{Token, Field, Newline, onto, token_onto, tokens, next_field, ahead}
+use Rattle.ps_lines.specs.inner.Ahead.{field_len}
 
 -- a byte is a blank, a line feed, or one of a field
 pub data Byte (b : ℕ) : Type 0 where

@@ -7,4 +7,3 @@ pub mod Exact
 pub mod Decimals
 pub mod Forms
 pub mod LineList
-pub mod Examples

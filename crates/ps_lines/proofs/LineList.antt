@@ -5,8 +5,10 @@ use Rattle.std.proofs.lemmas.List.{append-nil, map-append, drop-drop, nil_from_l
 use Rattle.std.proofs.lemmas.List.Elements.{All-push, All-nil}
 use Rattle.ps_lines.specs.declared.span.Span.{Span}
 use Rattle.ps_lines.specs.declared.line.Line.{Line}
-use Rattle.ps_lines.specs.Tokens.{Token, Field, Newline, tokens, field_len, ahead}
-use Rattle.ps_lines.specs.Lines.{onto_line, lines_of, numbered, span_text, numbered_fields, IsWithin, IsLineWithin, IsLineAhead}
+use Rattle.ps_lines.specs.Tokens.{Token, Field, Newline, tokens, ahead}
+use Rattle.ps_lines.specs.inner.Ahead.{field_len}
+use Rattle.ps_lines.specs.Lines.{onto_line, lines_of, numbered, span_text, numbered_fields, IsWithin, IsLineWithin}
+use Rattle.ps_lines.specs.inner.Ahead.{IsLineAhead}
 use Rattle.ps_lines.proofs.Ahead.{behind, cut_tokens}
 
 -- fields before what they stand before

@@ -4,3 +4,5 @@ pub mod Lines
 pub mod Parts
 pub mod Until
 pub mod Reading
+pub mod Examples
+pub mod inner

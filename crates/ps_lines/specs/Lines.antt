@@ -1,8 +1,8 @@
 -- The lines of a text, as the texts of their fields.
-use Rattle.std.specs.Prelude.{◌≡◌, ℕ, ◌+◌, ◌-◌, ◌≤◌, ◌<◌, List, [], ◌∷◌, map, length, take, drop, Option, Some, None, All}
+use Rattle.std.specs.Prelude.{ℕ, ◌+◌, ◌-◌, ◌≤◌, List, [], ◌∷◌, map, take, drop, All}
 use Rattle.ps_lines.specs.declared.span.Span.{Span}
 use Rattle.ps_lines.specs.declared.line.Line.{Line}
-use Rattle.ps_lines.specs.Tokens.{Token, Field, Newline, tokens}
+use Rattle.ps_lines.specs.Tokens.{Token, Field, Newline}
 
 -- A field before what it stands before: it is of the first line, or of none where no line ends ahead.
 abbrev pub onto_line : List ℕ → List (List (List ℕ)) → List (List (List ℕ))
@@ -36,9 +36,3 @@ pub record IsWithin (len : ℕ) (span : Span) : Type 0 where
 -- The spans of a line are.
 abbrev pub IsLineWithin : ℕ → Line → Type 0
 IsLineWithin len line = All (IsWithin len) line.fields
-
--- The line that begins at a place: its spans and the place after it, or none where no line ends ahead.
-abbrev pub IsLineAhead : List ℕ → ℕ → Option (List Span × ℕ) → Type 0
-IsLineAhead bytes start None = lines_of (tokens (drop start bytes)) ≡ []
-IsLineAhead bytes start (Some p) =
-    (lines_of (tokens (drop start bytes)) ≡ map (span_text bytes) p.0 ∷ lines_of (tokens (drop p.1 bytes))) × All (IsWithin (length bytes)) p.0 × (start < p.1) × (p.1 ≤ length bytes)

@@ -1,12 +1,12 @@
 -- Reading a text from left to right, with the first fault that is met.
-use Rattle.std.specs.Prelude.{◌≡◌, ℕ, zero, suc, ◌+◌, Bool, false, ◌&&◌, List, [], ◌∷◌, Option, Some, None, ok_or, Result, Ok, Err, nat_le, if◌then◌else◌, ℤ}
+use Rattle.std.specs.Prelude.{◌≡◌, ℕ, zero, suc, ◌+◌, Bool, false, ◌&&◌, List, [], ◌∷◌, Option, ok_or, Result, Ok, Err, nat_le, if◌then◌else◌, ℤ}
 use Rattle.std.specs.Str.{bytes_eq}
 use Rattle.ps_lines.specs.declared.form_name.FormName.{FormName}
 use Rattle.ps_lines.specs.declared.form_name.FormName.TheVariants as name
 use Rattle.ps_lines.specs.declared.form_fault.FormFault.{FormFault}
 use Rattle.ps_lines.specs.declared.form_end.FormEnd.{FormEnd}
 use Rattle.ps_lines.specs.declared.form_end.FormEnd.TheVariants.{Fault, Memory}
-use Rattle.ps_lines.specs.Tokens.{Token, Field, Newline, tokens, has_newline, next_field}
+use Rattle.ps_lines.specs.Tokens.{Token, Field, Newline, tokens, has_newline}
 use Rattle.ps_lines.specs.Decimal.{counts_as_decimal, u32_of, u128_of, i128_of}
 
 -- A place in a text: the line's number, the next field's number, and the tokens that are left.
@@ -156,15 +156,6 @@ list_from goes leaf step state line field (Field f ∷ ts) =
 -- The same, from a place.
 abbrev pub list_at : {A S : Type 0} → (List ℕ → Bool) → (S → List ℕ → Result A FormName) → (S → A → S) → S → Read (List A)
 list_at goes leaf step state at = list_from goes leaf step state at.line at.field at.tokens
-
--- Whether a list goes on with what stands next.
-abbrev pub goes_on : (List ℕ → Bool) → Option (List ℕ) → Bool
-goes_on goes None = false
-goes_on goes (Some f) = goes f
-
--- The next member of a list, or none where the list ends.
-abbrev pub member_at : {A : Type 0} → (List ℕ → Bool) → (List ℕ → Result A FormName) → Read (Option A)
-member_at goes leaf at = if goes_on goes (next_field at.tokens) then (leaf_at leaf at >>= λ x. Ok (Some x.0, x.1)) else Ok (None, at)
 
 -- Whether the tokens begin with this word, in a line that is ended.
 abbrev pub begins_from : List ℕ → List Token → Bool

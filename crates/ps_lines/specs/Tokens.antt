@@ -1,5 +1,5 @@
 -- A text as one list: its fields, and the ends of its lines.
-use Rattle.std.specs.Prelude.{ℕ, ◌+◌, Bool, true, false, ◌||◌, Option, Some, None, List, [], ◌∷◌, ◌++◌, map, ◌==◌, if◌then◌else◌}
+use Rattle.std.specs.Prelude.{ℕ, ◌+◌, Bool, true, false, Option, Some, None, List, [], ◌∷◌, ◌++◌, map, ◌==◌, if◌then◌else◌}
 use Rattle.std.specs.List.{flat_map}
 
 -- A field with its bytes, or the end of a line.
@@ -20,11 +20,6 @@ token_onto b ts = if b == 32 then Field [] ∷ ts else (if b == 10 then Field []
 abbrev pub tokens : List ℕ → List Token
 tokens [] = []
 tokens (b ∷ bs) = token_onto b (tokens bs)
-
--- How many bytes stand before the first blank or line feed.
-abbrev pub field_len : List ℕ → ℕ
-field_len [] = 0
-field_len (b ∷ bs) = if b == 32 || b == 10 then 0 else field_len bs + 1
 
 -- The tokens ahead, the line's end first where its last field was taken with the line feed.
 abbrev pub ahead : Bool → List ℕ → List Token

@@ -3,7 +3,8 @@
 ghost use Rattle.std.specs.Prelude.{◌≡◌, List, Option, Result, Some, None, ℕ};
 ghost use Rattle.ps_lines.specs.Until.{goes};
 ghost use Rattle.ps_lines.specs.Tokens.{next_field};
-ghost use Rattle.ps_lines.specs.Reading.{Reads, Gives, leaf_at, list_at, goes_on, member_at};
+ghost use Rattle.ps_lines.specs.Reading.{Reads, Gives, leaf_at, list_at};
+ghost use Rattle.ps_lines.specs.inner.Ahead.{goes_on, member_at};
 ghost use Rattle.ps_lines.specs.declared.form_name.FormName.{FormName};
 
 use crate::form_end::FormEnd;

@@ -18,6 +18,7 @@ mod span;
 mod spans;
 mod splitting;
 mod until;
+pub mod worked;
 
 pub use decimal::{counts_as_decimal, read_digits, read_i128, read_u32, read_u128};
 pub use form::{Form, times, while_lines};

@@ -1,7 +1,8 @@
 //! A place in a text, from which fields and ends of lines are taken one after the other.
 
 ghost use Rattle.std.specs.Prelude.{◌≡◌, ℕ, ◌+◌, ◌<◌, ◌≤◌, ◌^◌, List, length, drop, option_map, if◌then◌else◌};
-ghost use Rattle.ps_lines.specs.Tokens.{field_len, has_newline, next_field, tokens, ahead};
+ghost use Rattle.ps_lines.specs.Tokens.{has_newline, next_field, tokens, ahead};
+ghost use Rattle.ps_lines.specs.inner.Ahead.{field_len};
 ghost use Rattle.ps_lines.specs.Reading.{start, Reads, fault_at, line_fault, field_at, leaf_at, word_at, line_at, end_at, only_at, done_at, natural32, natural, integer, count, header_at, begins_at};
 
 use crate::decimal::{count, integer, natural, natural32};

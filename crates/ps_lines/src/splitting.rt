@@ -1,8 +1,10 @@
 //! Cutting a text into lines and fields, whatever its form.
 
 ghost use Rattle.std.specs.Prelude.{◌≡◌, ◌+◌, ◌<◌, ◌≤◌, ◌^◌, length, drop, map, IfOk, All};
-ghost use Rattle.ps_lines.specs.Tokens.{tokens, field_len};
-ghost use Rattle.ps_lines.specs.Lines.{lines_of, numbered, numbered_fields, IsLineAhead, IsLineWithin};
+ghost use Rattle.ps_lines.specs.Tokens.{tokens};
+ghost use Rattle.ps_lines.specs.inner.Ahead.{field_len};
+ghost use Rattle.ps_lines.specs.Lines.{lines_of, numbered, numbered_fields, IsLineWithin};
+ghost use Rattle.ps_lines.specs.inner.Ahead.{IsLineAhead};
 
 use crate::line::Line;
 use crate::reader::field_len;

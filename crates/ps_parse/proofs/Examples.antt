@@ -1,56 +1,29 @@
--- Worked examples of the definitions of which program words are: `global x = - 1 ; thread { havoc x ; if (*) { skip ; } }`.
-use Rattle.std.proofs.Common.{◌≡◌, ◌≢◌, ℕ, true, List, [], ◌∷◌, Some, None, Ok, Err, refl, arith}
-use Rattle.std.specs.Prelude.{negsuc}
-use Rattle.ps_token.specs.declared.token_kind.TokenKind.{TokenKind}
-use Rattle.ps_token.specs.declared.token_kind.TokenKind.TheVariants as kind
-use Rattle.ps_term.specs.declared.var.Var.TheVariants.{Global}
-use Rattle.ps_tree.specs.declared.cond.Test.TheVariants as test
-use Rattle.ps_tree.specs.declared.program.Program.{Program}
-use Rattle.ps_parse.specs.declared.read_refusal.ReadRefusal.TheVariants.{Grammar}
-use Rattle.ps_tree.specs.declared.stmt.StmtKind.TheVariants as stmt
-use Rattle.ps_grammar.specs.Grammar.{either, havoc, skip, if_then, block_end, block_more, global}
+-- The worked examples that take more than computing.
+use Rattle.std.proofs.Common.{◌≡◌, ◌≢◌, ℕ, ◌≤◌, true, List, [], ◌∷◌, length, Some, None, Err, inl, inr, refl, subst, arith}
+use Rattle.std.proofs.lemmas.List.Elements.{All-cons, All-nil}
+use Rattle.ps_grammar.specs.Grammar.{ProductText, RelationText, block_end, block_more, either, global, havoc, if_then, name, number_name, skip}
 use Rattle.ps_grammar.specs.Words.{Word}
-use Rattle.ps_parse.specs.Reading.{and_then, word_at, after_word, while_at}
-use Rattle.ps_parse.specs.Blocks.{skip_at, kind_at, stmt_at, block_at}
-use Rattle.ps_parse.specs.Items.{program_of, program_at, items_at}
-use Rattle.ps_grammar.specs.Programs.{IsProgramText}
-use Rattle.ps_parse.specs.Reads.{IsFirstFault}
-use Rattle.ps_parse.proofs.ProgramLaws.{program_of_again}
+use Rattle.ps_parse.specs.Blocks.{block_at, kind_at, skip_at, stmt_at}
+use Rattle.ps_parse.specs.Causes.{GivesRows}
+use Rattle.ps_parse.specs.Examples.{CausesStand, FaultStandsAtBrace, ItemsGiveNoMore, ItemsGiveRows, TextIsRead, mark, mark_at, quadratic, unequal, unfinished, valueless, x, y, zero}
+use Rattle.ps_parse.specs.Items.{item_rows, items_at, number_at, program_at, program_of, rows_from, value_at}
+use Rattle.ps_parse.specs.Reading.{At, after_word, and_then, while_at, word_at}
+use Rattle.ps_parse.specs.Sums.{factor_at, first_product_at, further_product_at, name_product_at, number_product_at, product_at, relation_at, sign_at, sum_at}
+use Rattle.ps_parse.specs.Variables.{variable_at}
+use Rattle.ps_parse.specs.declared.read_refusal.ReadRefusal.TheVariants.{Grammar}
+use Rattle.ps_term.specs.declared.var.Var.TheVariants.{Global}
+use Rattle.ps_token.specs.declared.token_kind.TokenKind.TheVariants as kind
+use Rattle.ps_tree.specs.declared.relation.Sign.{Sign}
+use Rattle.ps_tree.specs.declared.relation.Sign.TheVariants as sign
 use Rattle.ps_parse.proofs.ProgramGuards.{program_of_grammar}
-
-abbrev mark : TokenKind → ℕ → Word
-mark k column = record { kind = k; text = []; place = record { line = 1; column = column } }
-
-abbrev x : List ℕ
-x = 120 ∷ []
-
-abbrev name_at : ℕ → Word
-name_at column = record { kind = kind.Name; text = x; place = record { line = 1; column = column } }
-
-abbrev words : List Word
-words =
-    mark kind.Global 1 ∷ name_at 2 ∷ mark kind.Equal 3 ∷ mark kind.Minus 4 ∷ record { kind = kind.Number; text = 49 ∷ []; place = record { line = 1; column = 5 } } ∷ mark kind.Semicolon 6
-    ∷ mark kind.Thread 7 ∷ mark kind.OpenBrace 8 ∷ mark kind.Havoc 9 ∷ name_at 10 ∷ mark kind.Semicolon 11
-    ∷ mark kind.If 12 ∷ mark kind.OpenParen 13 ∷ mark kind.Star 14 ∷ mark kind.CloseParen 15 ∷ mark kind.OpenBrace 16 ∷ mark kind.Skip 17 ∷ mark kind.Semicolon 18 ∷ mark kind.CloseBrace 19
-    ∷ mark kind.CloseBrace 20 ∷ []
-
--- `x` is global 0 with the value -1, and each statement stands at its first word
-abbrev program : Program
-program = record {
-  globals = record { name = x; value = Some (negsuc 0) } ∷ [];
-  locals = [];
-  inits = [];
-  body =
-      record { place = record { line = 1; column = 9 }; kind = stmt.Havoc (Global 0) }
-      ∷ record { place = record { line = 1; column = 12 }; kind = stmt.If test.Star (record { place = record { line = 1; column = 17 }; kind = stmt.Skip } ∷ []) [] } ∷ [];
-}
+use Rattle.ps_parse.proofs.RowLaws.{rows_counted}
 
 known : Some (Global 0) ≢ None
 known e = cc
 
-is_program : IsProgramText words program
-is_program = record {
-  text = record { items = global x (Some (record { negative = true; digits = 49 ∷ [] })) ∷ []; body = block_more (havoc x) (block_more (if_then either (block_more skip block_end)) block_end) };
+pub text_is_read : TextIsRead
+text_is_read = record {
+  text = record { items = global (120 ∷ []) (Some (record { negative = true; digits = 49 ∷ [] })) ∷ []; body = block_more (havoc (120 ∷ [])) (block_more (if_then either (block_more skip block_end)) block_end) };
   spelled = refl;
   fits = record {
     items = ((refl, omega arith, omega arith), tt);
@@ -59,16 +32,95 @@ is_program = record {
   tree = refl;
 }
 
-is_read : program_of words (record { line = 1; column = 21 }) ≡ Ok program
-is_read = program_of_again words (record { line = 1; column = 21 }) program is_program
-
--- `thread { skip }` has its first fault at the closing brace, where `;` is wanted
 abbrev cut_words : List Word
-cut_words = mark kind.Thread 1 ∷ mark kind.OpenBrace 2 ∷ mark kind.Skip 3 ∷ mark kind.CloseBrace 4 ∷ []
+cut_words = mark_at kind.Thread 1 ∷ mark_at kind.OpenBrace 2 ∷ mark_at kind.Skip 3 ∷ mark_at kind.CloseBrace 4 ∷ []
 
 is_refused : program_of cut_words (record { line = 1; column = 5 }) ≡ Err (Grammar (record { line = 1; column = 4 }))
 unfolding program_at items_at block_at stmt_at kind_at skip_at after_word word_at while_at and_then
 is_refused = refl
 
-is_fault : IsFirstFault cut_words (record { line = 1; column = 5 }) (record { line = 1; column = 4 })
-is_fault = program_of_grammar cut_words (record { line = 1; column = 5 }) (record { line = 1; column = 4 }) is_refused
+pub fault_stands : FaultStandsAtBrace
+fault_stands = program_of_grammar cut_words (record { line = 1; column = 5 }) (record { line = 1; column = 4 }) is_refused
+
+-- ---- the rows of an item
+
+-- a relation of two products
+abbrev relation : ProductText → Sign → ProductText → RelationText
+relation left s right = record { left = record { negative = false; first = left; further = [] }; sign = s; right = record { negative = false; first = right; further = [] } }
+
+gives_one : GivesRows (mark kind.Init ∷ x ∷ mark kind.Greater ∷ zero ∷ mark kind.Star ∷ y ∷ mark kind.Star ∷ []) 1
+gives_one = inr (
+  record {
+    first = relation (name x.text) sign.Greater (number_name zero.text y.text);
+    further = [];
+    front = mark kind.Init ∷ x ∷ mark kind.Greater ∷ zero ∷ mark kind.Star ∷ y ∷ [];
+    rest = mark kind.Star ∷ [];
+    split = refl;
+    spelled = refl;
+    signs = All-cons (λ (r : RelationText). r.sign ≢ sign.NotEqual) (relation (name x.text) sign.Greater (number_name zero.text y.text)) [] (λ e. cc) (All-nil (λ (r : RelationText). r.sign ≢ sign.NotEqual));
+    whole = refl;
+  },
+  refl,
+)
+
+gives_two : GivesRows (mark kind.Init ∷ x ∷ mark kind.EqualEqual ∷ y ∷ mark kind.And ∷ x ∷ mark kind.Semicolon ∷ []) 2
+gives_two = inr (
+  record {
+    first = relation (name x.text) sign.Equal (name y.text);
+    further = [];
+    front = mark kind.Init ∷ x ∷ mark kind.EqualEqual ∷ y ∷ [];
+    rest = mark kind.And ∷ x ∷ mark kind.Semicolon ∷ [];
+    split = refl;
+    spelled = refl;
+    signs = All-cons (λ (r : RelationText). r.sign ≢ sign.NotEqual) (relation (name x.text) sign.Equal (name y.text)) [] (λ e. cc) (All-nil (λ (r : RelationText). r.sign ≢ sign.NotEqual));
+    whole = refl;
+  },
+  refl,
+)
+
+gives_value : GivesRows (mark kind.Global ∷ x ∷ mark kind.Equal ∷ mark kind.Minus ∷ zero ∷ zero ∷ []) 2
+gives_value = inl (
+  record {
+    named = x.text;
+    value = record { negative = true; digits = zero.text };
+    front = mark kind.Global ∷ x ∷ mark kind.Equal ∷ mark kind.Minus ∷ zero ∷ [];
+    rest = zero ∷ [];
+    split = refl;
+    spelled = refl;
+  },
+  refl,
+)
+
+pub items_give : ItemsGiveRows
+items_give = (gives_one, gives_two, gives_value)
+
+abbrev at_words : List Word → At
+at_words ws = record { words = ws; end = x.place }
+
+abbrev rows_counted_of : List Word → ℕ
+rows_counted_of ws = item_rows (length ws) (at_words ws)
+
+are_counted : (rows_counted_of quadratic ≡ 0) × (rows_counted_of unequal ≡ 0) × (rows_counted_of unfinished ≡ 2) × (rows_counted_of valueless ≡ 0)
+unfolding item_rows rows_from number_at value_at relation_at sign_at sum_at first_product_at further_product_at product_at number_product_at name_product_at factor_at variable_at word_at after_word while_at and_then
+are_counted = (refl, refl, refl, refl)
+
+no_more : (ws : List Word) (rows most : ℕ) → rows_counted_of ws ≡ most → GivesRows ws rows → rows ≤ most
+no_more ws rows most e g = subst (λ (n : ℕ). rows ≤ n) e (rows_counted (length ws) (at_words ws) rows (omega arith) g)
+
+quadratic_gives : (rows : ℕ) → GivesRows quadratic rows → rows ≤ 0
+quadratic_gives rows g = no_more quadratic rows 0 are_counted.0 g
+
+unequal_gives : (rows : ℕ) → GivesRows unequal rows → rows ≤ 0
+unequal_gives rows g = no_more unequal rows 0 are_counted.1 g
+
+unfinished_gives : (rows : ℕ) → GivesRows unfinished rows → rows ≤ 2
+unfinished_gives rows g = no_more unfinished rows 2 are_counted.2 g
+
+valueless_gives : (rows : ℕ) → GivesRows valueless rows → rows ≤ 0
+valueless_gives rows g = no_more valueless rows 0 are_counted.3 g
+
+pub items_give_no_more : ItemsGiveNoMore
+items_give_no_more = (quadratic_gives, unequal_gives, unfinished_gives, valueless_gives)
+
+pub causes_stand : CausesStand
+causes_stand = ((refl, refl, λ c. omega (arith, c.1)), (refl, refl, (0, omega arith, refl)), (refl, refl), refl, (refl, (0, omega arith, refl)))

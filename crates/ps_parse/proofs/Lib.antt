@@ -31,5 +31,4 @@ pub mod ItemCauses
 pub mod SumCauses
 pub mod CondCauses
 pub mod StmtCauses
-pub mod CauseExamples
 pub mod ProgramCauses

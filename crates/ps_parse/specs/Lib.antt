@@ -8,4 +8,5 @@ pub mod Reads
 pub mod Causes
 pub mod Texts
 pub mod Refusals
+pub mod Examples
 pub mod Inner

@@ -2,7 +2,7 @@
 
 ghost use Rattle.std.specs.Prelude.{◌≡◌, ◌<◌, ◌≤◌, [], ◌∷◌, ◌++◌, map, length, IfOk};
 ghost use Rattle.ps_grammar.specs.Names.{variable_of, position_from};
-ghost use Rattle.ps_grammar.specs.Declarations.{nothing_declared, names_of};
+ghost use Rattle.ps_grammar.specs.Declarations.{most_globals, most_locals, most_rows, names_of, nothing_declared};
 ghost use Rattle.ps_parse.specs.Items.{with_rows};
 ghost use Rattle.ps_tree.specs.declared.global_decl.GlobalDecl.{GlobalDecl};
 
@@ -11,15 +11,6 @@ use ps_tree::{GlobalDecl, Name, Program, Relation, Stmt};
 use sqlite_items::Items;
 use std::alloc::{AllocError, Global};
 use std::marker::Model;
-
-/// How many globals a program may have.
-pub(crate) const MOST_GLOBALS: usize = 16;
-
-/// How many locals a program may have.
-pub(crate) const MOST_LOCALS: usize = 8;
-
-/// How many rows may hold at the start.
-pub(crate) const MOST_ROWS: u64 = 64;
 
 /// What is declared so far, and how many rows hold at the start.
 #[derive(Debug, Drop)]
@@ -32,18 +23,18 @@ pub(crate) struct Declared {
 
 impl Model for Declared {
     ghost use Rattle.std.specs.Prelude.{◌≤◌, length};
-    ghost use Rattle.ps_grammar.specs.Declarations.{Declared};
+    ghost use Rattle.ps_grammar.specs.Declarations.{Declared, most_globals, most_locals, most_rows};
 
     ghost Value = { Declared };
 
     ghost view = { λ d. record { globals = d.globals.items; locals = d.locals.items; inits = d.inits.items; rows = d.rows } };
 
-    ghost invariant = { λ d. (length d.globals.items ≤ 16) × (length d.locals.items ≤ 8) × (d.rows ≤ 64) };
+    ghost invariant = { λ d. (length d.globals.items ≤ most_globals) × (length d.locals.items ≤ most_locals) × (d.rows ≤ most_rows) };
 }
 
 // The place of a name among the globals.
 fn global_position(globals: &[GlobalDecl], name: &[u8]) -> Option<u32>
-    requires { length globals.now ≤ 16 }
+    requires { length globals.now ≤ most_globals }
     ensures { result ≡ position_from 0 name.now (map (λ (g : GlobalDecl). g.name) globals.now) }
 {
     for (i, global) in globals.iter().enumerate() {
@@ -56,7 +47,7 @@ fn global_position(globals: &[GlobalDecl], name: &[u8]) -> Option<u32>
 
 // The place of a name among the locals.
 fn local_position(locals: &[Name], name: &[u8]) -> Option<u32>
-    requires { length locals.now ≤ 8 }
+    requires { length locals.now ≤ most_locals }
     ensures { result ≡ position_from 0 name.now locals.now }
 {
     for (i, local) in locals.iter().enumerate() {
@@ -95,14 +86,14 @@ impl Declared {
     /// How many rows hold at the start.
     pub(crate) fn rows(&self) -> u64
         ensures is { result ≡ self.now.rows }
-        ensures few { result ≤ 64 }
+        ensures few { result ≤ most_rows }
     {
         self.rows
     }
 
     /// The same declarations with so many rows.
     pub(crate) fn with_rows(self, rows: u64) -> Declared
-        requires { rows ≤ 64 }
+        requires { rows ≤ most_rows }
         ensures { result ≡ with_rows rows self }
     {
         let Declared {
@@ -121,7 +112,7 @@ impl Declared {
 
     /// With a further global.
     pub(crate) fn with_global(self, global: GlobalDecl) -> Result<Declared, AllocError>
-        requires { length self.globals < 16 }
+        requires { length self.globals < most_globals }
         ensures { IfOk result
             (λ d. d ≡ record {
               globals = self.globals ++ global ∷ [];

@@ -11,11 +11,12 @@ ghost use Rattle.ps_parse.specs.Items.{new_name_at, number_at, value_at, counted
 ghost use Rattle.ps_grammar.specs.Declarations.{rows_of_sign, rows_of_value, nothing_declared};
 
 use crate::cursor::Cursor;
-use crate::declared::{Declared, MOST_GLOBALS, MOST_LOCALS, MOST_ROWS};
+use crate::declared::Declared;
 use crate::parser::Parser;
 use crate::read_refusal::ReadRefusal;
 use crate::scope::Scope;
 use crate::signs::Signs;
+use ps_grammar::{MOST_GLOBALS, MOST_LOCALS, MOST_ROWS};
 use ps_token::TokenKind;
 use ps_tree::{GlobalDecl, LimitName, Name, Relation, Sign};
 use std::alloc::{AllocError, Global};

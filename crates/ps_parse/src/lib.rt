@@ -19,6 +19,7 @@ mod scope;
 mod signs;
 mod sums;
 mod word;
+pub mod worked;
 
 pub use read_refusal::ReadRefusal;
 pub use reading::read_program;

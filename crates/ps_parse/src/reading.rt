@@ -18,12 +18,10 @@ use crate::items::items;
 use crate::parser::Parser;
 use crate::read_refusal::ReadRefusal;
 use crate::scope::Scope;
+use ps_grammar::MOST_LEVELS;
 use ps_token::{Token, TokenEnd, TokenKind, end_place, tokens};
 use ps_tree::Program;
 use std::alloc::Global;
-
-// How many levels of `{`, `(` and `!` a program may have.
-const MOST_LEVELS: u32 = 64;
 
 // The whole text, of at most so many words.
 #[tactic(auto, unfolding(crate::specs::Items::program_at, crate::specs::Reading::after_word, crate::specs::Reading::and_then))]

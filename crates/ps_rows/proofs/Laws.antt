@@ -11,6 +11,7 @@ use Rattle.ps_lines.proofs.Decimals.{natural_is_leaf}
 use Rattle.ps_lines.proofs.Exact.{Finds, Gets, found_bind, found_end, gets_bind, gets_end, Exact, Always, leaf_exact, line_exact, end_exact, ended-append}
 use Rattle.ps_lines.proofs.Forms.{only_exact, header_tokens, header_exact, times_exact, done_found, done_again, IsFormat}
 use Rattle.ps_term_text.proofs.Exact.{term_tokens, term_exact}
+use Rattle.ps_rows.specs.declared.reading.TheConstants.{MOST_ROWS}
 use Rattle.ps_rows.specs.declared.claim.Claim.{Claim}
 use Rattle.ps_rows.specs.Spelling.{row_line, multipliers_line, claim_lines, RowFits, ClaimFits}
 use Rattle.ps_rows.specs.Reading.{row_at, multipliers_at, claim_at}
@@ -118,7 +119,7 @@ rows_exact n = times_exact row_at row_tokens RowFits row_exact n
 claim_found : (at : At) → Finds (claim_at at) (λ claim. (at.tokens ≡ text_tokens (claim_lines claim)) × ClaimFits claim)
 unfolding claim_at
 claim_found at =
-    found_bind _ _ _ _ ((header_exact (codes "rows") 4096 rows_plain (omega arith)).found at) (λ n p.
+    found_bind _ _ _ _ ((header_exact (codes "rows") MOST_ROWS rows_plain (omega arith)).found at) (λ n p.
     found_bind _ _ _ _ ((rows_exact n.0).found n.1) (λ rows q.
     found_bind _ _ _ _ ((multipliers_exact n.0).found rows.1) (λ ns r.
     found_bind _ _ _ _ ((only_exact (codes "end") end_plain).found ns.1) (λ e s.
@@ -140,7 +141,7 @@ same_claim rows rows' ns ns' p q = ap (λ (r : List Row). make_claim r ns) p ∙
 claim_again : (at : At) (claim : Claim) → ClaimFits claim → at.tokens ≡ text_tokens (claim_lines claim) → Gets (claim_at at) (λ c. c ≡ claim)
 unfolding claim_at
 claim_again at claim fit e =
-    gets_bind _ _ _ _ ((header_exact (codes "rows") 4096 rows_plain (omega arith)).again at (length claim.rows) (tail_tokens claim.rows claim.multipliers end_tokens) fit.few (e ∙ claim_tokens claim) tt) (λ n p.
+    gets_bind _ _ _ _ ((header_exact (codes "rows") MOST_ROWS rows_plain (omega arith)).again at (length claim.rows) (tail_tokens claim.rows claim.multipliers end_tokens) fit.few (e ∙ claim_tokens claim) tt) (λ n p.
     gets_bind _ _ _ _ ((rows_exact n.0).again n.1 claim.rows (line_tokens (multipliers_line claim.multipliers) ++ end_tokens) (sym p.0, fit.rows) p.1 tt) (λ rows q.
     gets_bind _ _ _ _ ((multipliers_exact n.0).again rows.1 claim.multipliers end_tokens (fit.as_many ∙ sym p.0, fit.multipliers) q.1 tt) (λ ns r.
     gets_bind _ _ _ _ ((only_exact (codes "end") end_plain).again ns.1 tt [] tt r.1 tt) (λ e' s.
@@ -150,7 +151,7 @@ claim_again at claim fit e =
 claim_clean : (claim : Claim) → ClaimFits claim → AreClean (claim_lines claim)
 claim_clean claim fit =
     let parts : IsClean (header_tokens (codes "rows") (length claim.rows) ++ tail_tokens claim.rows claim.multipliers end_tokens) =
-    IsClean-append (header_tokens (codes "rows") (length claim.rows)) (tail_tokens claim.rows claim.multipliers end_tokens) ((header_exact (codes "rows") 4096 rows_plain (omega arith)).clean (length claim.rows) fit.few)
+    IsClean-append (header_tokens (codes "rows") (length claim.rows)) (tail_tokens claim.rows claim.multipliers end_tokens) ((header_exact (codes "rows") MOST_ROWS rows_plain (omega arith)).clean (length claim.rows) fit.few)
     (IsClean-append (flat_map row_tokens claim.rows) (line_tokens (multipliers_line claim.multipliers) ++ end_tokens) ((rows_exact (length claim.rows)).clean claim.rows (refl, fit.rows))
     (IsClean-append (line_tokens (multipliers_line claim.multipliers)) end_tokens ((multipliers_exact (length claim.rows)).clean claim.multipliers (fit.as_many, fit.multipliers)) (end_plain, tt))) in
     subst IsClean (sym (claim_tokens claim)) parts

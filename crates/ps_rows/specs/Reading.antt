@@ -5,6 +5,7 @@ use Rattle.ps_lines.specs.Reading.{At, Read, ◌>>=◌, leaf_at, natural, line_a
 use Rattle.ps_term.specs.declared.row.Row.{Row}
 use Rattle.ps_term_text.specs.Reading.{term_at}
 use Rattle.ps_rows.specs.declared.claim.Claim.{Claim}
+use Rattle.ps_rows.specs.declared.reading.TheConstants.{MOST_ROWS}
 
 -- A line `row TERM`.
 unfoldable pub row_at : Read Row
@@ -25,7 +26,7 @@ multipliers_at count at = do
 -- The whole text: `rows N`, so many rows, so many multipliers, `end`, and nothing after it.
 unfoldable pub claim_at : At → Result Claim FormFault
 claim_at at = do
-  count ← header_at (codes "rows") 4096 at
+  count ← header_at (codes "rows") MOST_ROWS at
   rows ← times_at row_at count.0 count.1
   multipliers ← multipliers_at count.0 rows.1
   e ← only_at (codes "end") multipliers.1

@@ -4,6 +4,7 @@ use Rattle.std.specs.List.{AllByRecursion}
 use Rattle.ps_term.specs.declared.row.Row.{Row}
 use Rattle.ps_term_text.specs.Spelling.{term_fields, TermFits}
 use Rattle.ps_rows.specs.declared.claim.Claim.{Claim}
+use Rattle.ps_rows.specs.declared.reading.TheConstants.{MOST_ROWS}
 
 -- A line `row` with the term's fields.
 abbrev pub row_line : Row → List ℕ × List (List ℕ)
@@ -22,9 +23,9 @@ claim_lines claim =
 abbrev pub RowFits : Row → Type 0
 RowFits row = TermFits row.term
 
--- At most 4,096 rows, each with a spelling, and as many multipliers of 128 bits.
+-- At most so many rows, each with a spelling, and as many multipliers of 128 bits.
 pub record ClaimFits (claim : Claim) : Type 0 where
-  pub few : length claim.rows ≤ 4096
+  pub few : length claim.rows ≤ MOST_ROWS
   pub rows : AllByRecursion RowFits claim.rows
   pub as_many : length claim.multipliers ≡ length claim.rows
   pub multipliers : AllByRecursion (λ n. n < 2 ^ 128) claim.multipliers

@@ -29,22 +29,23 @@ use Rattle.ps_lines.proofs.Digits.{u32_is, u32_from, i128_is, i128_from}
 use Rattle.ps_lines.proofs.Decimals.{decimal-of, decimal-is, signed_decimal-of, signed_decimal-is, decimal_plain, signed_decimal_plain, decimal_counts, signed_counts, integer_is_leaf}
 use Rattle.ps_lines.proofs.Exact.{Finds, Gets, found_bind, found_end, gets_bind, gets_end, Exact, Always, leaf_exact}
 use Rattle.ps_lines.proofs.Forms.{IsMember, Chain, Stops, member_tokens, list_exact}
+use Rattle.ps_term_text.specs.declared.limits.TheConstants.{MOST_NUMBER}
 use Rattle.ps_term_text.specs.Spelling.{variable_text, VariableFits, pair_text, PairFits, term_fields, TermFits}
 use Rattle.ps_term_text.specs.Reading.{looks_local, looks_variable, at_most_65535, number_of, local_of, variable_of, pair_of, ascends, ordered, pair_from, pair_after, has_star, term_at}
 
 -- ---- numbers of variables
 
-number_is : (f : List ℕ) (n : ℕ) → number_of f ≡ Some n → (f ≡ decimal n) × (n ≤ 65535)
+number_is : (f : List ℕ) (n : ℕ) → number_of f ≡ Some n → (f ≡ decimal n) × (n ≤ MOST_NUMBER)
 number_is f n e =
     option_and_then_some at_most_65535 (u32_of f) n e (λ m whole small.
     let p = cond_some _ _ _ small in
     let q = u32_is f m whole in
-    subst (λ (k : ℕ). (f ≡ decimal k) × (k ≤ 65535)) p.1 (decimal-of f m (omega (arith, q.0)) q.1, leb-true _ _ p.0))
+    subst (λ (k : ℕ). (f ≡ decimal k) × (k ≤ MOST_NUMBER)) p.1 (decimal-of f m (omega (arith, q.0)) q.1, leb-true _ _ p.0))
 
-number_from : (n : ℕ) → n ≤ 65535 → number_of (decimal n) ≡ Some n
+number_from : (n : ℕ) → n ≤ MOST_NUMBER → number_of (decimal n) ≡ Some n
 number_from n le = rw (u32_from (decimal n) n (omega (arith, le)) (decimal-is n (omega (arith, le)))) (cond-true _ _ _ (le-leb _ _ le))
 
-number_counts : (n : ℕ) → n ≤ 65535 → counts_as_decimal (decimal n) ≡ true
+number_counts : (n : ℕ) → n ≤ MOST_NUMBER → counts_as_decimal (decimal n) ≡ true
 number_counts n le = decimal_counts (decimal n) n (decimal-is n (omega (arith, le)))
 
 -- ---- variables
@@ -88,7 +89,7 @@ plain_append : (xs ys : List ℕ) → IsPlain xs → IsPlain ys → IsPlain (xs 
 plain_append [] ys p q = q
 plain_append (x ∷ xs) ys p q = (p.0, plain_append xs ys p.1 q)
 
-local_spelled : (s n : ℕ) → n ≤ 65535 → s ≤ 65535 → IsSpelled (Local s n) (108 ∷ (decimal n ++ 64 ∷ decimal s))
+local_spelled : (s n : ℕ) → n ≤ MOST_NUMBER → s ≤ MOST_NUMBER → IsSpelled (Local s n) (108 ∷ (decimal n ++ 64 ∷ decimal s))
 local_spelled s n ln ls =
     let cut : cut_at 64 (decimal n ++ 64 ∷ decimal s) ≡ Some (decimal n, decimal s) = cut_again 64 (decimal n) (decimal s) (decimal_free 64 n (omega arith) (omega (arith, ln))) in
     record {

@@ -10,6 +10,7 @@ use Rattle.ps_lines.specs.declared.form_name.FormName.{FormName}
 use Rattle.ps_lines.specs.declared.form_name.FormName.TheVariants.{Field, Number, Order}
 use Rattle.ps_lines.specs.Decimal.{counts_as_decimal, u32_of, i128_of}
 use Rattle.ps_lines.specs.Parts.{cut_at}
+use Rattle.ps_term_text.specs.declared.limits.TheConstants.{MOST_NUMBER}
 use Rattle.ps_lines.specs.Reading.{Read, ◌>>=◌, leaf_at, list_at, integer}
 
 -- ---- variables
@@ -26,12 +27,12 @@ looks_variable field =
     else (if slice_index field 0 == 108 then looks_local (cut_at 64 (drop 1 field)) else false)
 
 -- A number that a variable may have.
-abbrev pub at_most_65535 : ℕ → Option ℕ
-at_most_65535 n = if nat_le n 65535 then Some n else None
+abbrev pub in_range : ℕ → Option ℕ
+in_range n = if nat_le n MOST_NUMBER then Some n else None
 
 -- The number of a variable that a field is.
 abbrev pub number_of : List ℕ → Option ℕ
-number_of field = option_and_then at_most_65535 (u32_of field)
+number_of field = option_and_then in_range (u32_of field)
 
 -- The local of its number and its slot.
 abbrev pub local_of : Option (List ℕ × List ℕ) → Option Var

@@ -7,6 +7,7 @@ use Rattle.ps_term.specs.declared.var.Var.{Var}
 use Rattle.ps_term.specs.declared.var.Var.TheVariants.{Global, Local, Havoc}
 use Rattle.ps_term.specs.declared.term.Term.{Term}
 use Rattle.ps_term.specs.Pairs.{IsCanonical}
+use Rattle.ps_term_text.specs.declared.limits.TheConstants.{MOST_NUMBER}
 
 -- A global is `gN`, and local N of thread or slot S is `lN@S`. A havoc has no spelling.
 abbrev pub variable_text : Var → List ℕ
@@ -14,10 +15,10 @@ variable_text (Global n) = 103 ∷ decimal n
 variable_text (Local s n) = 108 ∷ (decimal n ++ 64 ∷ decimal s)
 variable_text (Havoc n) = []
 
--- The numbers are at most 65,535, and the variable isn't a havoc.
+-- The numbers are in range, and the variable isn't a havoc.
 abbrev pub VariableFits : Var → Type 0
-VariableFits (Global n) = n ≤ 65535
-VariableFits (Local s n) = (n ≤ 65535) × (s ≤ 65535)
+VariableFits (Global n) = n ≤ MOST_NUMBER
+VariableFits (Local s n) = (n ≤ MOST_NUMBER) × (s ≤ MOST_NUMBER)
 VariableFits (Havoc n) = ⊥
 
 -- The coefficient, `*`, and the variable.

@@ -1,6 +1,7 @@
 //! How variables and terms are spelled as fields of a line, one definition for all formats.
 #![tactic(auto)]
 
+mod limits;
 mod pair;
 mod printing;
 mod term;

@@ -2,7 +2,7 @@
 
 ghost use Rattle.std.specs.Prelude.{◌≡◌, option_map, true};
 ghost use Rattle.ps_term.specs.Var.{var_lt};
-ghost use Rattle.ps_lines.specs.Reading.{Reads, leaf_at, member_at};
+ghost use Rattle.ps_lines.specs.Reading.{Reads, leaf_at};
 ghost use Rattle.ps_term_text.specs.Reading.{ascends, ordered, pair_of, pair_from, pair_after, has_star};
 
 use crate::variable::{looks_variable, variable_of};

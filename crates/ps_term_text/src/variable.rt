@@ -1,8 +1,9 @@
 //! Variables: `gN`, and `lN@S` for local N of thread or slot S.
 
 ghost use Rattle.std.specs.Prelude.{◌≡◌, option_map};
-ghost use Rattle.ps_term_text.specs.Reading.{looks_local, looks_variable, at_most_65535, number_of, local_of, variable_of};
+ghost use Rattle.ps_term_text.specs.Reading.{looks_local, looks_variable, in_range, number_of, local_of, variable_of};
 
+use crate::limits::MOST_NUMBER;
 use ps_term::Var;
 use ps_text::{counts_as_decimal, cut, read_u32};
 
@@ -25,17 +26,17 @@ pub(crate) fn looks_variable(field: &[u8]) -> bool
     }
 }
 
-fn at_most_65535(n: u32) -> Option<u32>
-    ensures { result ≡ at_most_65535 n }
+fn in_range(n: u32) -> Option<u32>
+    ensures { result ≡ in_range n }
 {
-    if n <= 65_535 { Some(n) } else { None }
+    if n <= MOST_NUMBER { Some(n) } else { None }
 }
 
 fn number_of(field: &[u8]) -> Option<u32>
     ensures { result ≡ number_of field.now }
 {
     match read_u32(field) {
-        Some(n) => at_most_65535(n),
+        Some(n) => in_range(n),
         None => None,
     }
 }

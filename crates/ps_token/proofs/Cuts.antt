@@ -6,7 +6,7 @@ use Rattle.ps_token.specs.declared.place.Place.{Place}
 use Rattle.ps_token.specs.declared.token.Token.{Token}
 use Rattle.ps_token.specs.declared.token_kind.TokenKind.{TokenKind}
 use Rattle.ps_token.specs.Lexing.{next_place, place_after, first_place, place_of, IsTokenOf, IsGapBetween, AreUpTo, AreTokens, IsBadAt, StartsNoToken}
-use Rattle.ps_token.specs.Scanning.{gap_len, token_at, IsFrom}
+use Rattle.ps_token.specs.inner.Scanning.{gap_len, token_at, IsFrom}
 use Rattle.ps_token.proofs.Gaps.{gap_is, gap_stops, starts_no_gap}
 use Rattle.ps_token.proofs.Front.{IsAhead, Ahead, token_ahead, token_found}
 

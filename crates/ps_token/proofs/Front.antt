@@ -14,7 +14,7 @@ use Rattle.ps_token.specs.declared.token_kind.TokenKind.{TokenKind}
 use Rattle.ps_token.specs.declared.token_kind.TokenKind.TheVariants.{Name, Number, Global, Local, Init, Thread, Havoc, Assume, Assert, Skip, Atomic, If, Else, While, Becomes, LessEq, GreaterEq, EqualEqual, NotEqual, And, Or, Less, Greater, Not, Equal, Plus, Minus, Star, OpenParen, CloseParen, OpenBrace, CloseBrace, Semicolon}
 use Rattle.ps_lines.specs.Decimal.{are_digits}
 use Rattle.ps_token.specs.Lexing.{is_letter, is_digit, is_name_byte, spelling, IsWord, IsName, IsNumber, IsSpelled, carries_on, IsWhole, IsToken}
-use Rattle.ps_token.specs.Scanning.{first_spelled, reserved, double_signs, single_signs, word_kind, double_sign, single_sign, sign_at, number_at, word_at, token_at}
+use Rattle.ps_token.specs.inner.Scanning.{first_spelled, reserved, double_signs, single_signs, word_kind, double_sign, single_sign, sign_at, number_at, word_at, token_at}
 
 -- ---- runs of bytes that pass a test
 

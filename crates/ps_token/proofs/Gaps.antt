@@ -4,7 +4,7 @@ use Rattle.std.specs.List.{list_all}
 use Rattle.std.proofs.lemmas.Bool.{eqb-true, and_parts}
 use Rattle.std.proofs.lemmas.List.{length-append, length-take-le, take-append-drop}
 use Rattle.ps_token.specs.Lexing.{is_blank, is_comment_byte, EndsComment, IsGap, Nothing, Blank, Comment, StartsNoGap}
-use Rattle.ps_token.specs.Scanning.{gap_step, gap_from, gap_len}
+use Rattle.ps_token.specs.inner.Scanning.{gap_step, gap_from, gap_len}
 
 -- ---- one byte
 

@@ -9,7 +9,7 @@ use Rattle.ps_token.specs.declared.place.Place.{Place}
 use Rattle.ps_token.specs.declared.token.Token.{Token}
 use Rattle.ps_token.specs.declared.token_kind.TokenKind.{TokenKind}
 use Rattle.ps_token.specs.Lexing.{is_blank, place_of, IsToken, IsTokenOf, IsInside, IsGapBetween, AreUpTo, AreTokens, IsBadAt, StartsNoToken, StartsNoGap}
-use Rattle.ps_token.specs.Scanning.{gap_len, token_at}
+use Rattle.ps_token.specs.inner.Scanning.{gap_len, token_at}
 use Rattle.ps_token.proofs.Gaps.{gap_counted, counts_no_gap, no_gap_at}
 use Rattle.ps_token.proofs.Front.{IsAhead, Ahead, token_ahead, token_found}
 use Rattle.ps_token.proofs.Cuts.{split_range, range_len}

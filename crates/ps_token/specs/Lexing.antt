@@ -3,6 +3,7 @@ use Rattle.std.specs.Prelude.{◌≡◌, ◌≢◌, ℕ, ◌+◌, ◌≤◌, ◌
 use Rattle.std.specs.Char.{digit_value}
 use Rattle.std.specs.List.{list_all}
 use Rattle.ps_lines.specs.Decimal.{are_digits}
+use Rattle.ps_token.specs.declared.number.TheConstants.{MOST_DIGITS}
 use Rattle.ps_token.specs.declared.place.Place.{Place}
 use Rattle.ps_token.specs.declared.token.Token.{Token}
 use Rattle.ps_token.specs.declared.token_kind.TokenKind.{TokenKind}
@@ -76,11 +77,11 @@ pub record IsName (text : List ℕ) : Type 0 where
   pub word : IsWord text
   pub free : (kind : TokenKind) → text ≢ spelling kind
 
--- One to eighteen digits.
+-- Digits, at least one and no more than the most.
 pub record IsNumber (text : List ℕ) : Type 0 where
   pub digits : are_digits text ≡ true
   pub some : 1 ≤ length text
-  pub few : length text ≤ 18
+  pub few : length text ≤ MOST_DIGITS
 
 -- The text is one of this kind.
 abbrev pub IsSpelled : TokenKind → List ℕ → Type 0

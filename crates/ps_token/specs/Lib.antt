@@ -1,2 +1,3 @@
+pub mod Examples
 pub mod Lexing
-pub mod Scanning
+pub mod inner

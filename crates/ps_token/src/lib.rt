@@ -10,8 +10,9 @@ mod token;
 mod token_end;
 mod token_kind;
 mod tokenizing;
+pub mod worked;
 
-pub use number::number_value;
+pub use number::{MOST_DIGITS, number_value};
 pub use place::Place;
 pub use token::{Token, text_of};
 pub use token_end::TokenEnd;

@@ -1,11 +1,55 @@
 //! What stands at the front of a program text: blanks and comments, or a token.
 
-ghost use Rattle.std.specs.Prelude.{◌≡◌, ◌≤◌, ◌<◌, length, slice_index};
+ghost use Rattle.std.specs.Prelude.{◌≡◌, ◌≤◌, ◌<◌, length, slice_index, Some, None};
 ghost use Rattle.std.specs.List.{prefix_len};
 ghost use Rattle.ps_token.specs.Lexing.{is_blank, is_letter, is_digit, is_name_byte};
-ghost use Rattle.ps_token.specs.Scanning.{gap_step, gap_len, word_kind, double_sign, single_sign, sign_at, number_at, token_at};
+ghost use Rattle.ps_token.specs.inner.Scanning.{first_spelled, gap_step, gap_len, word_kind, double_sign, single_sign, sign_at, number_at, token_at};
 
+use crate::number::MOST_DIGITS;
 use crate::token_kind::TokenKind;
+
+// The reserved names.
+const RESERVED: [TokenKind; 12] = [
+    TokenKind::Global,
+    TokenKind::Local,
+    TokenKind::Init,
+    TokenKind::Thread,
+    TokenKind::Havoc,
+    TokenKind::Assume,
+    TokenKind::Assert,
+    TokenKind::Skip,
+    TokenKind::Atomic,
+    TokenKind::If,
+    TokenKind::Else,
+    TokenKind::While,
+];
+
+// The signs of two bytes.
+const DOUBLE_SIGNS: [TokenKind; 7] = [
+    TokenKind::Becomes,
+    TokenKind::LessEq,
+    TokenKind::GreaterEq,
+    TokenKind::EqualEqual,
+    TokenKind::NotEqual,
+    TokenKind::And,
+    TokenKind::Or,
+];
+
+// The signs of one byte.
+const SINGLE_SIGNS: [TokenKind; 12] = [
+    TokenKind::Less,
+    TokenKind::Greater,
+    TokenKind::Not,
+    TokenKind::Equal,
+    TokenKind::Plus,
+    TokenKind::Minus,
+    TokenKind::Star,
+    TokenKind::OpenParen,
+    TokenKind::CloseParen,
+    TokenKind::OpenBrace,
+    TokenKind::CloseBrace,
+    TokenKind::Semicolon,
+];
 
 fn is_blank(byte: u8) -> bool
     ensures { result ≡ is_blank byte }
@@ -82,59 +126,37 @@ fn digits_len(bytes: &[u8]) -> usize
     bytes.iter().take_while(|byte| is_digit(**byte)).count()
 }
 
+// The kind, of these, that is spelled by the bytes.
+fn spelled(kinds: &[TokenKind], text: &[u8]) -> Option<TokenKind>
+    ensures { result ≡ first_spelled (λ kind. Some kind) None kinds.now text.now }
+{
+    for kind in kinds {
+        if text == kind.spelling() {
+            return Some(*kind);
+        }
+    }
+    None
+}
+
 fn word_kind(word: &[u8]) -> TokenKind
     ensures { result ≡ word_kind word.now }
 {
-    match word {
-        b"global" => TokenKind::Global,
-        b"local" => TokenKind::Local,
-        b"init" => TokenKind::Init,
-        b"thread" => TokenKind::Thread,
-        b"havoc" => TokenKind::Havoc,
-        b"assume" => TokenKind::Assume,
-        b"assert" => TokenKind::Assert,
-        b"skip" => TokenKind::Skip,
-        b"atomic" => TokenKind::Atomic,
-        b"if" => TokenKind::If,
-        b"else" => TokenKind::Else,
-        b"while" => TokenKind::While,
-        _ => TokenKind::Name,
+    match spelled(&RESERVED, word) {
+        Some(kind) => kind,
+        None => TokenKind::Name,
     }
 }
 
 fn double_sign(first: u8, second: u8) -> Option<TokenKind>
     ensures { result ≡ double_sign first second }
 {
-    match (first, second) {
-        (b':', b'=') => Some(TokenKind::Becomes),
-        (b'<', b'=') => Some(TokenKind::LessEq),
-        (b'>', b'=') => Some(TokenKind::GreaterEq),
-        (b'=', b'=') => Some(TokenKind::EqualEqual),
-        (b'!', b'=') => Some(TokenKind::NotEqual),
-        (b'&', b'&') => Some(TokenKind::And),
-        (b'|', b'|') => Some(TokenKind::Or),
-        _ => None,
-    }
+    spelled(&DOUBLE_SIGNS, &[first, second])
 }
 
 fn single_sign(first: u8) -> Option<TokenKind>
     ensures { result ≡ single_sign first }
 {
-    match first {
-        b'<' => Some(TokenKind::Less),
-        b'>' => Some(TokenKind::Greater),
-        b'!' => Some(TokenKind::Not),
-        b'=' => Some(TokenKind::Equal),
-        b'+' => Some(TokenKind::Plus),
-        b'-' => Some(TokenKind::Minus),
-        b'*' => Some(TokenKind::Star),
-        b'(' => Some(TokenKind::OpenParen),
-        b')' => Some(TokenKind::CloseParen),
-        b'{' => Some(TokenKind::OpenBrace),
-        b'}' => Some(TokenKind::CloseBrace),
-        b';' => Some(TokenKind::Semicolon),
-        _ => None,
-    }
+    spelled(&SINGLE_SIGNS, &[first])
 }
 
 // The sign at the front, the longer one first, and how many bytes it has.
@@ -150,11 +172,11 @@ fn sign_at(first: u8, second: u8) -> Option<(TokenKind, usize)>
     }
 }
 
-// A number has at most 18 digits.
+// A number has no more digits than the most.
 fn number_at(digits: usize) -> Option<(TokenKind, usize)>
     ensures { result ≡ number_at digits }
 {
-    if digits <= 18 {
+    if digits <= MOST_DIGITS {
         Some((TokenKind::Number, digits))
     } else {
         None

@@ -2,7 +2,7 @@
 
 ghost use Rattle.std.specs.Prelude.{◌≡◌, ◌+◌, ◌<◌, ◌≤◌, ◌^◌, length, drop, IfOk, IfErr, All};
 ghost use Rattle.ps_token.specs.Lexing.{next_place, place_of, AreTokens, IsRefused, IsInside};
-ghost use Rattle.ps_token.specs.Scanning.{gap_len, IsFrom};
+ghost use Rattle.ps_token.specs.inner.Scanning.{gap_len, IsFrom};
 
 use crate::place::Place;
 use crate::scanning::{gap_len, token_at};

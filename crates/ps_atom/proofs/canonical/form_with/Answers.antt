@@ -1,7 +1,7 @@
 use Rattle.std.proofs.Common.{◌≡◌, ℤ, List, length, sym, ap, ◌∙◌, subst, arith, rules}
 use Rattle.ps_term.specs.declared.var.Var.{Var}
 use Rattle.ps_term.specs.Pairs.{IsCanonical}
-use Rattle.ps_atom.specs.Slots.{placed}
+use Rattle.ps_atom.specs.inner.Slots.{placed}
 use Rattle.ps_atom.specs.declared.share.Share.{Share}
 use Rattle.ps_atom.proofs.Forming.{few_shares, share_pairs, share_threads, shares_canonical, shares_form}
 use Rattle.ps_atom.proofs.canonical.form_with.Goals as goal

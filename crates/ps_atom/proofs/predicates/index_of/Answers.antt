@@ -1,5 +1,5 @@
 use Rattle.std.proofs.Common.{arith, subst}
-use Rattle.ps_atom.specs.Index.{IsNoted, key_of}
+use Rattle.ps_atom.specs.inner.Index.{IsNoted, key_of}
 use Rattle.ps_atom.specs.declared.predicate.Predicate.{Predicate}
 use Rattle.ps_atom.proofs.Indexing.{index-step}
 use Rattle.ps_atom.proofs.predicates.index_of.Goals as goal

@@ -1,5 +1,5 @@
 use Rattle.std.proofs.Common.{◌≡◌, take}
-use Rattle.ps_atom.specs.Index.{IsIndex}
+use Rattle.ps_atom.specs.inner.Index.{IsIndex}
 use Rattle.ps_atom.proofs.predicates.index_of.Given as goal
 
 abbrev pub invariant-loop-predicate : goal.invariant-loop-predicate

@@ -1,5 +1,5 @@
 use Rattle.std.proofs.Common.{sym, ◌∙◌}
-use Rattle.ps_atom.specs.Index.{key_of}
+use Rattle.ps_atom.specs.inner.Index.{key_of}
 use Rattle.ps_atom.proofs.Indexing.{noted_known, noted_new, unknown}
 use Rattle.ps_atom.proofs.predicates.note.Goals as goal
 

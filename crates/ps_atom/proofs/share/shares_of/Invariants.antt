@@ -1,6 +1,6 @@
 use Rattle.std.proofs.Common.{◌≡◌, map, take, All}
 use Rattle.ps_atom.specs.declared.share.Share.{Share}
-use Rattle.ps_atom.specs.Shares.{IsShare}
+use Rattle.ps_atom.specs.inner.Shares.{IsShare}
 use Rattle.ps_atom.proofs.share.shares_of.Given as goal
 
 abbrev pub invariant-loop-thread : goal.invariant-loop-thread

@@ -1,5 +1,5 @@
 use Rattle.std.proofs.Common.{◌≡◌, ◌++◌, filter, take}
-use Rattle.ps_atom.specs.Slots.{is_global}
+use Rattle.ps_atom.specs.inner.Slots.{is_global}
 use Rattle.ps_atom.proofs.slots.push_globals.Given as goal
 
 abbrev pub invariant-loop-pair : goal.invariant-loop-pair

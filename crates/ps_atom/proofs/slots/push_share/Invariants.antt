@@ -1,5 +1,5 @@
 use Rattle.std.proofs.Common.{◌≡◌, ◌++◌, take}
-use Rattle.ps_atom.specs.Slots.{in_slot}
+use Rattle.ps_atom.specs.inner.Slots.{in_slot}
 use Rattle.ps_atom.proofs.slots.push_share.Given as goal
 
 abbrev pub invariant-loop-pair : goal.invariant-loop-pair

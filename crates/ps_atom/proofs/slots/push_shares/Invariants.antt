@@ -1,6 +1,6 @@
 use Rattle.std.proofs.Common.{◌≡◌, ◌++◌, map, drop}
 use Rattle.ps_atom.specs.declared.share.Share.{Share}
-use Rattle.ps_atom.specs.Slots.{in_slots}
+use Rattle.ps_atom.specs.inner.Slots.{in_slots}
 use Rattle.ps_atom.proofs.slots.push_shares.Given as goal
 
 abbrev pub invariant-loop-share : goal.invariant-loop-share

@@ -3,7 +3,7 @@ use Rattle.std.proofs.lemmas.Result.{IfOk-weaker}
 use Rattle.std.specs.List.Sorted.{IsStrictlyIncreasing}
 use Rattle.ps_term.specs.declared.var.Var.{Var}
 use Rattle.ps_term.specs.Pairs.{IsCanonical}
-use Rattle.ps_atom.specs.Slots.{threads_after}
+use Rattle.ps_atom.specs.inner.Slots.{threads_after}
 use Rattle.ps_atom.specs.Threads.{AreOccurring}
 use Rattle.ps_atom.proofs.MetThreads.{increasing_from_rising, met_rising, met_occurring}
 use Rattle.ps_atom.proofs.threads.occurring.Goals as goal

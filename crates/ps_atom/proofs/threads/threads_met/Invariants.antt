@@ -1,5 +1,5 @@
 use Rattle.std.proofs.Common.{◌≡◌, ◌++◌, drop, None}
-use Rattle.ps_atom.specs.Slots.{threads_after}
+use Rattle.ps_atom.specs.inner.Slots.{threads_after}
 use Rattle.ps_atom.proofs.threads.threads_met.Given as goal
 
 abbrev pub invariant-loop-pair : goal.invariant-loop-pair

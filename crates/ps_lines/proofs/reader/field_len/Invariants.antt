@@ -1,5 +1,5 @@
 use Rattle.std.proofs.Common.{◌≡◌, ◌+◌, drop}
-use Rattle.ps_lines.specs.Tokens.{field_len}
+use Rattle.ps_lines.specs.inner.Ahead.{field_len}
 use Rattle.ps_lines.proofs.reader.field_len.Given as goal
 
 abbrev pub invariant-loop-i : goal.invariant-loop-i

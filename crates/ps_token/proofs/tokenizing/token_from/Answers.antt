@@ -1,5 +1,5 @@
 use Rattle.std.proofs.Common.{◌≡◌, ◌+◌, ◌≤◌, length, drop, Some, arith, sym, ◌∙◌, ap}
-use Rattle.ps_token.specs.Scanning.{token_at}
+use Rattle.ps_token.specs.inner.Scanning.{token_at}
 use Rattle.ps_token.proofs.Cuts.{from_ahead}
 use Rattle.ps_token.proofs.tokenizing.token_from.Goals as goal
 

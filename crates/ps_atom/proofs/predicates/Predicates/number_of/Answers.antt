@@ -1,5 +1,6 @@
 use Rattle.std.proofs.Common.{◌≡◌, ◌≢◌, ◌<◌, List, [], Some, None, Contains, length, sym, ap, ◌∙◌, subst, arith}
-use Rattle.ps_atom.specs.Index.{key_of, least}
+use Rattle.ps_atom.specs.declared.predicates.TheConstants.Predicates.{MOST}
+use Rattle.ps_atom.specs.inner.Index.{key_of, least}
 use Rattle.ps_atom.specs.Numbers.{IsNumberOf}
 use Rattle.ps_atom.specs.declared.predicate.Predicate.{Predicate}
 use Rattle.ps_atom.proofs.Indexing.{number-Some, number-None}
@@ -28,7 +29,7 @@ returns-in-None-clause-end c =
     let list = c.self.inside.list.items in
     let some : row.term.pairs ≢ [] = not_empty_by c.as_slice.result.now row.term.pairs c.is_empty.result c.as_slice.ensures.list c.is_empty.ensures c.if-is_empty.false in
     let none : least (key_of form.predicate) list ≡ None = sym (c.self.invariant.indexed (key_of form.predicate)) ∙ (sym c.number_in-number.ensures ∙ c.in-None.is) in
-    let full : length list ≡ 128 = omega (arith, c.self.invariant.table.within, c.len.ensures, c.if-len.true, c.self.inside.list.ok.0) in
+    let full : length list ≡ MOST = omega (arith, c.self.invariant.table.within, c.len.ensures, c.if-len.true, c.self.inside.list.ok.0) in
     (form.predicate, form.threads, (has_form row c.in-Ok.tight form.predicate form.threads some (c.in-Ok.ensures.tightened some) c.in-Ok.ensures.canonical c.in-Ok-form_of.ensures.form, subst (λ (xs : List Predicate). ¬ Contains xs form.predicate) c.self.view_is (number-None 0 list form.predicate none), sym (ap (λ (xs : List Predicate). length xs) c.self.view_is) ∙ full))
 
 pub returns-clause-place : goal.returns-clause-place
@@ -38,5 +39,5 @@ returns-clause-place c =
     let list = c.self.inside.list.items in
     let some : row.term.pairs ≢ [] = not_empty_by c.as_slice.result.now row.term.pairs c.is_empty.result c.as_slice.ensures.list c.is_empty.ensures c.if-is_empty.false in
     let none : least (key_of form.predicate) list ≡ None = sym (c.self.invariant.indexed (key_of form.predicate)) ∙ (sym c.number_in-number.ensures ∙ c.in-None-2.is) in
-    let room : length list < 128 = omega (arith, c.len.ensures, c.if-len.false, c.self.inside.list.ok.0) in
-    (has_form row c.in-Ok.tight form.predicate form.threads some (c.in-Ok.ensures.tightened some) c.in-Ok.ensures.canonical c.in-Ok-form_of.ensures.form, subst (λ (xs : List Predicate). ¬ Contains xs form.predicate) c.self.view_is (number-None 0 list form.predicate none), subst (λ (xs : List Predicate). length xs < 128) c.self.view_is room)
+    let room : length list < MOST = omega (arith, c.len.ensures, c.if-len.false, c.self.inside.list.ok.0) in
+    (has_form row c.in-Ok.tight form.predicate form.threads some (c.in-Ok.ensures.tightened some) c.in-Ok.ensures.canonical c.in-Ok-form_of.ensures.form, subst (λ (xs : List Predicate). ¬ Contains xs form.predicate) c.self.view_is (number-None 0 list form.predicate none), subst (λ (xs : List Predicate). length xs < MOST) c.self.view_is room)

@@ -1,5 +1,5 @@
 use Rattle.std.proofs.Common.{◌≡◌, ◌++◌, ◌∷◌, [], ℕ, List, length, sym, ap, ◌∙◌, subst, arith}
-use Rattle.ps_atom.specs.Index.{IsIndex, IsNoted, key_of}
+use Rattle.ps_atom.specs.inner.Index.{IsIndex, IsNoted, key_of}
 use Rattle.ps_atom.specs.declared.predicate.Predicate.{Predicate}
 use Rattle.ps_atom.proofs.Indexing.{index-push, table-push}
 use Rattle.ps_atom.proofs.predicates.Predicates.push.Goals as goal

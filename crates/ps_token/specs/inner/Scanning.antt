@@ -2,6 +2,7 @@
 use Rattle.std.specs.Prelude.{◌≡◌, ℕ, ◌+◌, ◌<◌, ◌≤◌, Bool, true, false, not, ◌&&◌, ◌==◌, nat_le, List, [], ◌∷◌, length, take, drop, slice_range, Option, Some, None, option_map, slice_index, if◌then◌else◌}
 use Rattle.std.specs.List.{prefix_len}
 use Rattle.std.specs.Str.{bytes_eq}
+use Rattle.ps_token.specs.declared.number.TheConstants.{MOST_DIGITS}
 use Rattle.ps_token.specs.declared.token_kind.TokenKind.{TokenKind}
 use Rattle.ps_token.specs.declared.token_kind.TokenKind.TheVariants.{Name, Number, Global, Local, Init, Thread, Havoc, Assume, Assert, Skip, Atomic, If, Else, While, Becomes, LessEq, GreaterEq, EqualEqual, NotEqual, And, Or, Less, Greater, Not, Equal, Plus, Minus, Star, OpenParen, CloseParen, OpenBrace, CloseBrace, Semicolon}
 use Rattle.ps_token.specs.Lexing.{is_blank, is_letter, is_digit, is_name_byte, spelling, IsToken}
@@ -55,7 +56,7 @@ sign_at first second = elim (double_sign first second) [ None ↦ option_map (λ
 
 -- A number of so many digits.
 abbrev pub number_at : ℕ → Option (TokenKind × ℕ)
-number_at digits = if nat_le digits 18 then Some (Number, digits) else None
+number_at digits = if nat_le digits MOST_DIGITS then Some (Number, digits) else None
 
 -- A word of so many bytes at the front.
 abbrev pub word_at : ℕ → List ℕ → Option (TokenKind × ℕ)

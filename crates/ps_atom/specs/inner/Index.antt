@@ -6,7 +6,7 @@ use Rattle.std.specs.declared.hash.BuildHasherDefault.{BuildHasherDefault}
 use Rattle.indexmap.specs.IndexMap.{IndexMap, get}
 use Rattle.ps_atom.specs.declared.key.Key.{Key}
 use Rattle.ps_atom.specs.declared.predicate.Predicate.{Predicate}
-use Rattle.ps_atom.specs.Keys.{key_eq}
+use Rattle.ps_atom.specs.inner.Keys.{key_eq}
 use Rattle.ps_atom.specs.Numbers.{IsTable}
 
 -- a map from predicates to numbers

@@ -11,7 +11,7 @@ use Rattle.ps_term.specs.declared.var.Var.{Var}
 use Rattle.ps_term.specs.declared.var.Var.TheVariants.{Global, Local, Havoc}
 use Rattle.ps_term.specs.contracts.var.VarPartialEq.TheImpl as tests
 use Rattle.ps_atom.specs.declared.key.Key.{Key}
-use Rattle.ps_atom.specs.Keys.{pair_eq, key_eq, key_fed}
+use Rattle.ps_atom.specs.inner.Keys.{pair_eq, key_eq, key_fed}
 
 var_decides : (a b : Var) → Decides (tests.ghosts.eq a b) (a ≡ b)
 var_decides (Global m) (Global n) = ((λ e. grind (arith, nat_tests)), (λ e. grind (arith, nat_tests)))

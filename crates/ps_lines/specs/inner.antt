@@ -1,0 +1,2 @@
+-- What only clauses within the crate speak of.
+pub mod Ahead
