@@ -1,0 +1,10 @@
+pub mod Atoms
+pub mod Canonical
+pub mod Examples
+pub mod Numbers
+pub mod Places
+pub mod Range
+pub mod Renaming
+pub mod Says
+pub mod Threads
+pub mod inner

@@ -31,13 +31,13 @@ use Rattle.ps_lines.proofs.Exact.{Finds, Gets, found_bind, found_end, gets_bind,
 use Rattle.ps_lines.proofs.Forms.{IsMember, Chain, Stops, member_tokens, list_exact}
 use Rattle.ps_term_text.specs.declared.limits.TheConstants.{MOST_NUMBER}
 use Rattle.ps_term_text.specs.Spelling.{variable_text, VariableFits, pair_text, PairFits, term_fields, TermFits}
-use Rattle.ps_term_text.specs.Reading.{looks_local, looks_variable, at_most_65535, number_of, local_of, variable_of, pair_of, ascends, ordered, pair_from, pair_after, has_star, term_at}
+use Rattle.ps_term_text.specs.Reading.{looks_local, looks_variable, in_range, number_of, local_of, variable_of, pair_of, ascends, ordered, pair_from, pair_after, has_star, term_at}
 
 -- ---- numbers of variables
 
 number_is : (f : List ℕ) (n : ℕ) → number_of f ≡ Some n → (f ≡ decimal n) × (n ≤ MOST_NUMBER)
 number_is f n e =
-    option_and_then_some at_most_65535 (u32_of f) n e (λ m whole small.
+    option_and_then_some in_range (u32_of f) n e (λ m whole small.
     let p = cond_some _ _ _ small in
     let q = u32_is f m whole in
     subst (λ (k : ℕ). (f ≡ decimal k) × (k ≤ MOST_NUMBER)) p.1 (decimal-of f m (omega (arith, q.0)) q.1, leb-true _ _ p.0))
