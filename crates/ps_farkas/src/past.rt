@@ -2,6 +2,6 @@
 use thiserror::Error;
 
 /// A product or a partial sum of the weighted rows lies outside `i128`.
-#[derive(Clone, Copy, Debug, PartialEq, Eq, PartialOrd, Ord, Hash, Error)]
+#[derive(Clone, Copy, Debug, PartialEq, Eq, Error)]
 #[error("a value is past 128 bits")]
 pub struct Past128;

@@ -5,7 +5,7 @@ use ps_list::{Duplicate, Sequence};
 use std::alloc::{AllocError, Global};
 
 /// What an edge does with one choice of a step.
-#[derive(Clone, Copy, Debug, PartialEq, Eq, PartialOrd, Ord, Hash)]
+#[derive(Clone, Copy, Debug, PartialEq, Eq)]
 pub enum Pick {
     /// The choice of a `*`: 1 where it is true, and 0 where it is false.
     Star(bool),

@@ -7,7 +7,7 @@ ghost use Rattle.ps_hit.specs.Covers.{cover_with, covers_with, HasOwn};
 use std::alloc::{AllocError, Global};
 
 /// Which of the numbers chosen so far a set has.
-#[derive(Clone, Copy, Debug, PartialEq, Eq, Hash)]
+#[derive(Clone, Copy, Debug, PartialEq, Eq)]
 pub enum Cover {
     /// None of them.
     Unmet,

@@ -1,7 +1,7 @@
 //! The gate that a worker passes between its turns at the lock.
 
 /// Where a worker stands when it passes the gate.
-#[derive(Clone, Copy, Debug, PartialEq, Eq, PartialOrd, Ord, Hash)]
+#[derive(Clone, Copy, Debug, PartialEq, Eq)]
 pub enum Point {
     /// A task was claimed and the lock released.
     Claimed,
@@ -17,7 +17,7 @@ pub trait Gate {
 }
 
 /// The gate that holds nobody up.
-#[derive(Clone, Copy, Debug, PartialEq, Eq, Hash)]
+#[derive(Clone, Copy, Debug, PartialEq, Eq)]
 pub struct OpenGate;
 
 impl Gate for OpenGate {

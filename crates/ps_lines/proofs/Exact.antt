@@ -9,7 +9,8 @@ use Rattle.ps_lines.specs.declared.form_name.FormName.{FormName}
 use Rattle.ps_lines.specs.declared.form_name.FormName.TheVariants as name
 use Rattle.ps_lines.specs.declared.form_fault.FormFault.{FormFault}
 use Rattle.ps_lines.specs.Tokens.{Token, Field, Newline, has_newline}
-use Rattle.ps_lines.specs.Reading.{At, Read, and_then, ◌>>=◌, placed, field_from, leaf_at, word_leaf, word_at, line_at, end_from, end_at}
+use Rattle.ps_lines.specs.Reading.{At, Read, placed, field_from, leaf_at, word_leaf, word_at, line_at, end_from, end_at}
+use Rattle.ps_lines.specs.Steps.{and_then, ◌>>=◌}
 use Rattle.ps_lines.proofs.Bytes.{IsPlain, IsClean}
 
 -- what a step that didn't fail found

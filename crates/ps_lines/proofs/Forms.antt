@@ -8,7 +8,8 @@ use Rattle.ps_lines.specs.declared.form_name.FormName.TheVariants as name
 use Rattle.ps_lines.specs.declared.form_fault.FormFault.{FormFault}
 use Rattle.ps_lines.specs.declared.form_end.FormEnd.{FormEnd}
 use Rattle.ps_lines.specs.Tokens.{Token, Field, Newline, tokens, text_bytes, text_tokens}
-use Rattle.ps_lines.specs.Reading.{At, Read, start, and_then, ◌>>=◌, Tells, placed, leaf_at, end_at, only_at, done_from, done_at, count, header_at, times_at, list_from, list_at, begins_from, begins_at, while_at}
+use Rattle.ps_lines.specs.Reading.{At, Read, start, Tells, placed, leaf_at, end_at, only_at, done_from, done_at, count, header_at, times_at, list_from, list_at, begins_from, begins_at, while_at}
+use Rattle.ps_lines.specs.Steps.{and_then, ◌>>=◌}
 use Rattle.ps_lines.proofs.Bytes.{IsPlain, IsClean, AreClean, IsClean-append, text_read, text_back}
 use Rattle.ps_lines.proofs.Exact.{Finds, Gets, found_bind, found_end, gets_bind, gets_end, Exact, Always, leaf_exact, placed_found, line_exact, end_exact}
 use Rattle.ps_lines.proofs.Decimals.{count_is_leaf}

@@ -7,7 +7,8 @@ use Rattle.ps_lines.specs.declared.form_name.FormName.TheVariants as name
 use Rattle.ps_lines.specs.declared.form_fault.FormFault.{FormFault}
 use Rattle.ps_lines.specs.declared.form_end.FormEnd.{FormEnd}
 use Rattle.ps_lines.specs.declared.form_end.FormEnd.TheVariants.{Fault, Memory}
-use Rattle.ps_lines.specs.Reading.{At, Read, and_then, ◌>>=◌, Gives, placed, leaf_at, times_at, list_from, list_at, begins_at, line_fault, while_at}
+use Rattle.ps_lines.specs.Reading.{At, Read, Gives, placed, leaf_at, times_at, list_from, list_at, begins_at, line_fault, while_at}
+use Rattle.ps_lines.specs.Steps.{and_then, ◌>>=◌}
 use Rattle.ps_lines.specs.inner.Ahead.{member_at}
 use Rattle.ps_lines.specs.Tokens.{Token, Field, Newline}
 

@@ -3,6 +3,7 @@ pub mod Tokens
 pub mod Lines
 pub mod Parts
 pub mod Until
+pub mod Steps
 pub mod Reading
 pub mod Examples
 pub mod inner

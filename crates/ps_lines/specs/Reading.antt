@@ -7,6 +7,7 @@ use Rattle.ps_lines.specs.declared.form_fault.FormFault.{FormFault}
 use Rattle.ps_lines.specs.declared.form_end.FormEnd.{FormEnd}
 use Rattle.ps_lines.specs.declared.form_end.FormEnd.TheVariants.{Fault, Memory}
 use Rattle.ps_lines.specs.Tokens.{Token, Field, Newline, tokens, has_newline}
+use Rattle.ps_lines.specs.Steps.{Reading, ◌>>=◌}
 use Rattle.ps_lines.specs.Decimal.{counts_as_decimal, u32_of, u128_of, i128_of}
 
 -- A place in a text: the line's number, the next field's number, and the tokens that are left.
@@ -21,17 +22,7 @@ start first bytes = record { line = first; field = 1; tokens = tokens bytes }
 
 -- A reading function gives what it read and the place after it, or the first fault.
 abbrev pub Read : Type 0 → Type 0
-Read A = At → Result (A × At) FormFault
-
--- One step, and then another from its value.
-infixl 10 ◌>>=◌
-unfoldable pub and_then : {A B : Type 0} → Result A FormFault → (A → Result B FormFault) → Result B FormFault
-and_then (Ok x) f = f x
-and_then (Err e) f = Err e
-
--- The same, between the lines of a `do`.
-abbrev pub ◌>>=◌ : {A B : Type 0} → Result A FormFault → (A → Result B FormFault) → Result B FormFault
-r >>= f = and_then r f
+Read A = Reading At FormFault A
 
 -- A fault at the next field.
 abbrev pub fault_at : At → FormName → FormFault

@@ -1,7 +1,7 @@
 //! What a text of lines can lack.
 
 /// What is wrong with a text that isn't of its form.
-#[derive(Clone, Copy, Debug, PartialEq, Eq, PartialOrd, Ord, Hash)]
+#[derive(Clone, Copy, Debug, PartialEq, Eq)]
 pub enum FormName {
     /// The text ends before the line feed of a line that is due.
     Cut,

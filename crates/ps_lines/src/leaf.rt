@@ -27,7 +27,7 @@ pub trait Leaf {
 }
 
 /// Takes the next field, as a value.
-#[tactic(auto, unfolding(crate::specs::Reading::leaf_at, crate::specs::Reading::and_then))]
+#[tactic(auto, unfolding(crate::specs::Reading::leaf_at, crate::specs::Steps::and_then))]
 pub fn take_leaf<'a, L: Leaf>(
     before: Option<L::Value>,
     reader: &mut Reader<'a>,
@@ -52,7 +52,7 @@ fn goes_on<'a>(until: &Until<'_>, reader: &Reader<'a>) -> bool
 }
 
 // The next member of a list, or none where the list ends.
-#[tactic(auto, unfolding(crate::specs::Reading::and_then))]
+#[tactic(auto, unfolding(crate::specs::Steps::and_then))]
 fn member<'a, L: Leaf>(
     until: &Until<'_>,
     before: Option<L::Value>,

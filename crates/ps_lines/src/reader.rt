@@ -159,7 +159,7 @@ impl<'a> Reader<'a> {
     }
 
     /// Takes the next field, which is this word.
-    #[tactic(auto, unfolding(crate::specs::Reading::leaf_at, crate::specs::Reading::and_then))]
+    #[tactic(auto, unfolding(crate::specs::Reading::leaf_at, crate::specs::Steps::and_then))]
     pub fn word(&mut self, word: &[u8]) -> Result<(), FormFault>
         ensures { Reads (λ x. x) result self.new (word_at word.now self.old) }
     {
@@ -180,7 +180,7 @@ impl<'a> Reader<'a> {
     }
 
     /// Takes a line that is this word alone.
-    #[tactic(auto, unfolding(crate::specs::Reading::only_at, crate::specs::Reading::and_then))]
+    #[tactic(auto, unfolding(crate::specs::Reading::only_at, crate::specs::Steps::and_then))]
     pub fn only(&mut self, word: &[u8]) -> Result<(), FormFault>
         ensures { Reads (λ x. x) result self.new (only_at word.now self.old) }
     {
@@ -189,7 +189,7 @@ impl<'a> Reader<'a> {
     }
 
     /// Takes the next field, a decimal of 32 bits.
-    #[tactic(auto, unfolding(crate::specs::Reading::leaf_at, crate::specs::Reading::and_then))]
+    #[tactic(auto, unfolding(crate::specs::Reading::leaf_at, crate::specs::Steps::and_then))]
     pub fn natural32(&mut self) -> Result<u32, FormFault>
         ensures { Reads (λ x. x) result self.new (leaf_at natural32 self.old) }
     {
@@ -202,7 +202,7 @@ impl<'a> Reader<'a> {
     }
 
     /// Takes the next field, a decimal of 128 bits.
-    #[tactic(auto, unfolding(crate::specs::Reading::leaf_at, crate::specs::Reading::and_then))]
+    #[tactic(auto, unfolding(crate::specs::Reading::leaf_at, crate::specs::Steps::and_then))]
     pub fn natural(&mut self) -> Result<u128, FormFault>
         ensures { Reads (λ x. x) result self.new (leaf_at natural self.old) }
     {
@@ -215,7 +215,7 @@ impl<'a> Reader<'a> {
     }
 
     /// Takes the next field, a signed decimal of 128 bits.
-    #[tactic(auto, unfolding(crate::specs::Reading::leaf_at, crate::specs::Reading::and_then))]
+    #[tactic(auto, unfolding(crate::specs::Reading::leaf_at, crate::specs::Steps::and_then))]
     pub fn integer(&mut self) -> Result<i128, FormFault>
         ensures { Reads (λ x. x) result self.new (leaf_at integer self.old) }
     {
@@ -228,7 +228,7 @@ impl<'a> Reader<'a> {
     }
 
     /// Takes the next field, a stated count, at most `limit`.
-    #[tactic(auto, unfolding(crate::specs::Reading::leaf_at, crate::specs::Reading::and_then))]
+    #[tactic(auto, unfolding(crate::specs::Reading::leaf_at, crate::specs::Steps::and_then))]
     pub fn count(&mut self, limit: u32) -> Result<u32, FormFault>
         ensures { Reads (λ x. x) result self.new (leaf_at (count limit) self.old) }
     {
@@ -241,7 +241,7 @@ impl<'a> Reader<'a> {
     }
 
     /// Takes a line of a word and a stated count, at most `limit`.
-    #[tactic(auto, unfolding(crate::specs::Reading::header_at, crate::specs::Reading::and_then))]
+    #[tactic(auto, unfolding(crate::specs::Reading::header_at, crate::specs::Steps::and_then))]
     pub fn header(&mut self, word: &[u8], limit: u32) -> Result<u32, FormFault>
         ensures { Reads (λ x. x) result self.new (header_at word.now limit self.old) }
     {

@@ -1,7 +1,7 @@
 //! Parts of a text.
 
 /// A part of a text, from the byte at `start` up to the one before `end`.
-#[derive(Clone, Copy, Debug, PartialEq, Eq, PartialOrd, Ord, Hash)]
+#[derive(Clone, Copy, Debug, PartialEq, Eq)]
 pub struct Span {
     pub start: u32,
     pub end: u32,

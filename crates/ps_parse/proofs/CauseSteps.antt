@@ -16,7 +16,8 @@ use Rattle.ps_grammar.specs.Names.{Names, variable_of}
 use Rattle.ps_parse.specs.Reads.{refusal_place}
 use Rattle.ps_grammar.specs.Spelling.{Piece, Mark, pieces}
 use Rattle.ps_grammar.specs.Words.{Word}
-use Rattle.ps_parse.specs.Reading.{At, Read, ◌>>=◌, is_kind, begins_with, place_of_next, word_from, word_at, after_word}
+use Rattle.ps_parse.specs.Reading.{At, Read, is_kind, begins_with, place_of_next, word_from, word_at, after_word}
+use Rattle.ps_lines.specs.Steps.{◌>>=◌}
 use Rattle.ps_parse.proofs.Steps.{one_kind, same_kind, Takes, takes_pieces, begins_piece, begins_pieces}
 use Rattle.ps_parse.proofs.Guards.{Keeps, keeps_bind, keeps_more}
 

@@ -15,7 +15,8 @@ use Rattle.ps_grammar.specs.Declarations.{most_levels}
 use Rattle.ps_grammar.specs.Names.{Names}
 use Rattle.ps_parse.specs.Sums.{sign_of, relation_at}
 use Rattle.ps_grammar.specs.Words.{Word}
-use Rattle.ps_parse.specs.Reading.{At, Read, ◌>>=◌, is_kind, begins_with, next_is, place_of_next, place_at, word_at, after_word}
+use Rattle.ps_parse.specs.Reading.{At, Read, is_kind, begins_with, next_is, place_of_next, place_at, word_at, after_word}
+use Rattle.ps_lines.specs.Steps.{◌>>=◌}
 use Rattle.ps_parse.proofs.Steps.{one_kind}
 use Rattle.ps_parse.proofs.Guards.{Keeps, keeps_end, keeps_more}
 use Rattle.ps_parse.proofs.RelationLaws.{all_signs}

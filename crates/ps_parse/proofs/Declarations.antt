@@ -3,7 +3,8 @@ use Rattle.std.proofs.Common.{◌≡◌, ℕ, zero, suc, ◌-◌, ◌+◌, ◌�
 use Rattle.ps_token.specs.declared.token_kind.TokenKind.TheVariants as kind
 use Rattle.ps_parse.specs.declared.read_refusal.ReadRefusal.{ReadRefusal}
 use Rattle.ps_tree.specs.declared.relation.Relation.{Relation}
-use Rattle.ps_parse.specs.Reading.{At, word_at, after_word, next_is, while_at, with_front, and_then, Refuses}
+use Rattle.ps_parse.specs.Reading.{At, word_at, after_word, next_is, while_at, with_front, Refuses}
+use Rattle.ps_lines.specs.Steps.{and_then}
 use Rattle.ps_grammar.specs.Words.{Word}
 use Rattle.ps_grammar.specs.Names.{Names}
 use Rattle.ps_parse.specs.Blocks.{ended_at}

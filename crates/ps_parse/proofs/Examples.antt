@@ -1,5 +1,5 @@
 -- The worked examples that take more than computing.
-use Rattle.std.proofs.Common.{◌≡◌, ◌≢◌, ℕ, ◌≤◌, true, List, [], ◌∷◌, length, Some, None, Err, inl, inr, refl, subst, arith}
+use Rattle.std.proofs.Common.{◌≡◌, ◌≢◌, ℕ, ◌≤◌, true, false, List, [], ◌∷◌, length, Some, None, Err, inl, inr, refl, subst, arith}
 use Rattle.std.proofs.lemmas.List.Elements.{All-cons, All-nil}
 use Rattle.ps_grammar.specs.Grammar.{ProductText, RelationText, block_end, block_more, either, global, havoc, if_then, name, number_name, skip}
 use Rattle.ps_grammar.specs.Words.{Word}
@@ -7,7 +7,8 @@ use Rattle.ps_parse.specs.Blocks.{block_at, kind_at, skip_at, stmt_at}
 use Rattle.ps_parse.specs.Causes.{GivesRows}
 use Rattle.ps_parse.specs.Examples.{CausesStand, FaultStandsAtBrace, ItemsGiveNoMore, ItemsGiveRows, TextIsRead, mark, mark_at, quadratic, unequal, unfinished, valueless, x, y, zero}
 use Rattle.ps_parse.specs.Items.{item_rows, items_at, number_at, program_at, program_of, rows_from, value_at}
-use Rattle.ps_parse.specs.Reading.{At, after_word, and_then, while_at, word_at}
+use Rattle.ps_parse.specs.Reading.{At, after_word, while_at, word_at}
+use Rattle.ps_lines.specs.Steps.{and_then}
 use Rattle.ps_parse.specs.Sums.{factor_at, first_product_at, further_product_at, name_product_at, number_product_at, product_at, relation_at, sign_at, sum_at}
 use Rattle.ps_parse.specs.Variables.{variable_at}
 use Rattle.ps_parse.specs.declared.read_refusal.ReadRefusal.TheVariants.{Grammar}

@@ -6,7 +6,8 @@ use Rattle.std.proofs.lemmas.List.{append-nil}
 use Rattle.ps_token.specs.declared.place.Place.{Place}
 use Rattle.ps_parse.specs.declared.read_refusal.ReadRefusal.{ReadRefusal}
 use Rattle.ps_grammar.specs.Words.{Word}
-use Rattle.ps_parse.specs.Reading.{At, Read, ◌>>=◌, place_of_next, while_at}
+use Rattle.ps_parse.specs.Reading.{At, Read, place_of_next, while_at}
+use Rattle.ps_lines.specs.Steps.{◌>>=◌}
 use Rattle.ps_grammar.specs.Spelling.{Piece, pieces}
 use Rattle.ps_parse.specs.Reads.{BeginAlike}
 use Rattle.ps_parse.proofs.Steps.{Ahead, ahead_so, Gets, gets_bind, gets_end, gets_true, gets_false}

@@ -6,7 +6,8 @@ use Rattle.ps_token.specs.declared.token_kind.TokenKind.{TokenKind}
 use Rattle.ps_parse.specs.declared.read_refusal.ReadRefusal.{ReadRefusal}
 use Rattle.ps_parse.specs.declared.read_refusal.ReadRefusal.TheVariants.{Grammar}
 use Rattle.ps_grammar.specs.Words.{Word}
-use Rattle.ps_parse.specs.Reading.{At, Read, and_then, ◌>>=◌, next_is, place_of_next, place_at, word_at, after_word}
+use Rattle.ps_parse.specs.Reading.{At, Read, next_is, place_of_next, place_at, word_at, after_word}
+use Rattle.ps_lines.specs.Steps.{and_then, ◌>>=◌}
 use Rattle.ps_grammar.specs.Spelling.{Piece, Mark, pieces}
 use Rattle.ps_parse.specs.Reads.{BeginAlike, refusal_place}
 use Rattle.ps_parse.proofs.Steps.{Ahead, ahead_so, begins_piece, next_ahead, Always, Gets, gets_bind, gets_end, gets_true, gets_false}

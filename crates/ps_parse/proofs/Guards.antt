@@ -9,7 +9,8 @@ use Rattle.ps_token.specs.declared.token_kind.TokenKind.{TokenKind}
 use Rattle.ps_parse.specs.declared.read_refusal.ReadRefusal.{ReadRefusal}
 use Rattle.ps_parse.specs.declared.read_refusal.ReadRefusal.TheVariants.{Grammar}
 use Rattle.ps_grammar.specs.Words.{Word}
-use Rattle.ps_parse.specs.Reading.{At, Read, and_then, ◌>>=◌, is_kind, begins_with, next_is, place_of_next, word_from, word_at}
+use Rattle.ps_parse.specs.Reading.{At, Read, is_kind, begins_with, next_is, place_of_next, word_from, word_at}
+use Rattle.ps_lines.specs.Steps.{and_then, ◌>>=◌}
 use Rattle.ps_grammar.specs.Spelling.{Piece, Mark, piece_of_kind, pieces}
 use Rattle.ps_parse.specs.Reads.{BeginAlike, PassesGrammar, refusal_place}
 use Rattle.ps_parse.proofs.Steps.{Finds, found_if, one_kind, kind_of, kind_of_piece, begins_piece, begins_pieces, Ahead, Always, Gets, gets_end, gets_true}

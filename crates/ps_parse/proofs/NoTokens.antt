@@ -22,7 +22,8 @@ use Rattle.ps_parse.specs.Items.{refused_name, is_declared, new_name_at, number_
 use Rattle.ps_grammar.specs.Names.{Names, variable_of}
 use Rattle.ps_parse.specs.Variables.{variable_in, variable_at}
 use Rattle.ps_parse.specs.Sums.{factor_at, number_product_at, name_product_at, product_at, first_product_at, further_product_at, adds, sum_at, sign_from, sign_at, sign_of, init_sign_of, relation_at}
-use Rattle.ps_parse.specs.Reading.{At, Read, and_then, is_kind, next_is, word_from, word_at, after_word, while_at, end_from}
+use Rattle.ps_parse.specs.Reading.{At, Read, is_kind, next_is, word_from, word_at, after_word, while_at, end_from}
+use Rattle.ps_lines.specs.Steps.{and_then}
 use Rattle.ps_grammar.specs.Words.{Word}
 
 -- It isn't the refusal of a bad byte.

@@ -13,7 +13,8 @@ use Rattle.ps_parse.specs.declared.read_refusal.ReadRefusal.{ReadRefusal}
 use Rattle.ps_parse.specs.declared.read_refusal.ReadRefusal.TheVariants.{Grammar}
 use Rattle.ps_grammar.specs.Grammar.{ItemText, BlockText, ProgramText}
 use Rattle.ps_grammar.specs.Words.{Word}
-use Rattle.ps_parse.specs.Reading.{At, Read, ◌>>=◌, next_is, place_of_next, after_word, end_from, end_at}
+use Rattle.ps_parse.specs.Reading.{At, Read, next_is, place_of_next, after_word, end_from, end_at}
+use Rattle.ps_lines.specs.Steps.{◌>>=◌}
 use Rattle.ps_grammar.specs.Names.{Names}
 use Rattle.ps_parse.specs.Blocks.{block_at}
 use Rattle.ps_grammar.specs.Declarations.{Declared, most_levels, nothing_declared, names_of}

@@ -4,7 +4,8 @@ use Rattle.std.proofs.lemmas.List.{append-nil}
 use Rattle.ps_token.specs.declared.token_kind.TokenKind.{TokenKind}
 use Rattle.ps_parse.specs.declared.read_refusal.ReadRefusal.{ReadRefusal}
 use Rattle.ps_parse.specs.declared.read_refusal.ReadRefusal.TheVariants as refusal
-use Rattle.ps_parse.specs.Reading.{At, word_at, after_word, Read, and_then, ◌>>=◌, while_at, with_front, Refuses}
+use Rattle.ps_parse.specs.Reading.{At, word_at, after_word, Read, while_at, with_front, Refuses}
+use Rattle.ps_lines.specs.Steps.{and_then, ◌>>=◌}
 use Rattle.ps_grammar.specs.Words.{Word}
 
 pub with_front-none : {A : Type 0} (read : Result (List A × At) ReadRefusal) → with_front [] read ≡ read

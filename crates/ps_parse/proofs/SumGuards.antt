@@ -14,7 +14,8 @@ use Rattle.ps_tree.specs.declared.relation.Sign.TheVariants as sign
 use Rattle.ps_tree.specs.declared.sum.Sum.{Sum}
 use Rattle.ps_grammar.specs.Grammar.{ProductText, number, name, number_name, name_number, SumText}
 use Rattle.ps_grammar.specs.Words.{Word}
-use Rattle.ps_parse.specs.Reading.{At, Read, ◌>>=◌, next_is, place_at, word_at, after_word}
+use Rattle.ps_parse.specs.Reading.{At, Read, next_is, place_at, word_at, after_word}
+use Rattle.ps_lines.specs.Steps.{◌>>=◌}
 use Rattle.ps_grammar.specs.Names.{Names}
 use Rattle.ps_parse.specs.Variables.{variable_in, variable_at}
 use Rattle.ps_grammar.specs.Numbers.{number_value, signed}

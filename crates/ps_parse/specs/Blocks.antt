@@ -12,7 +12,8 @@ use Rattle.ps_parse.specs.Conds.{cond_at, parens_at}
 use Rattle.ps_grammar.specs.Names.{Names}
 use Rattle.ps_parse.specs.Variables.{variable_at}
 use Rattle.ps_parse.specs.Sums.{sum_at}
-use Rattle.ps_parse.specs.Reading.{At, Read, ◌>>=◌, after_word, next_is, place_at, while_at, word_at}
+use Rattle.ps_parse.specs.Reading.{At, Read, after_word, next_is, place_at, while_at, word_at}
+use Rattle.ps_lines.specs.Steps.{◌>>=◌}
 
 -- What is read, and the `;` after it.
 unfoldable pub ended_at : {A : Type 0} → Read A → Read A

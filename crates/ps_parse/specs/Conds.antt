@@ -10,7 +10,8 @@ use Rattle.ps_tree.specs.declared.limit_name.LimitName.TheVariants as limit
 use Rattle.ps_parse.specs.declared.read_refusal.ReadRefusal.TheVariants.{Limit}
 use Rattle.ps_grammar.specs.Names.{Names}
 use Rattle.ps_parse.specs.Sums.{relation_at, sign_of}
-use Rattle.ps_parse.specs.Reading.{At, Read, ◌>>=◌, after_word, next_is, place_at, while_at, word_at}
+use Rattle.ps_parse.specs.Reading.{At, Read, after_word, next_is, place_at, while_at, word_at}
+use Rattle.ps_lines.specs.Steps.{◌>>=◌}
 
 -- one member is itself, several are a condition of them
 abbrev pub one_or_all : (List Cond → Cond) → Cond → List Cond → Cond

@@ -16,7 +16,8 @@ use Rattle.ps_parse.specs.Blocks.{block_at, ended_at}
 use Rattle.ps_grammar.specs.Names.{Names, variable_of}
 use Rattle.ps_parse.specs.Sums.{init_sign_of, relation_at}
 use Rattle.ps_grammar.specs.Numbers.{number_value, signed}
-use Rattle.ps_parse.specs.Reading.{At, Read, ◌>>=◌, after_word, end_at, next_is, place_at, while_at, word_at}
+use Rattle.ps_parse.specs.Reading.{At, Read, after_word, end_at, next_is, place_at, while_at, word_at}
+use Rattle.ps_lines.specs.Steps.{◌>>=◌}
 use Rattle.ps_grammar.specs.Words.{Word}
 use Rattle.ps_grammar.specs.Declarations.{Declared, most_globals, most_levels, most_locals, most_rows, names_of, nothing_declared, rows_of_sign, rows_of_value}
 

@@ -1,5 +1,6 @@
 -- Reading words from left to right, with the first refusal.
 use Rattle.std.specs.Prelude.{◌≡◌, ℕ, zero, suc, Bool, false, List, [], ◌∷◌, ◌++◌, ◌==◌, Result, Ok, Err, if◌then◌else◌}
+use Rattle.ps_lines.specs.Steps.{Reading, ◌>>=◌}
 use Rattle.ps_token.specs.declared.place.Place.{Place}
 use Rattle.ps_token.specs.declared.token_kind.TokenKind.{TokenKind}
 use Rattle.ps_token.specs.declared.token_kind.TokenKind.TheVariants as kind
@@ -56,17 +57,7 @@ is_kind a b = kind_number a == kind_number b
 
 -- A reading function gives what it read and the place after it, or the first refusal.
 abbrev pub Read : Type 0 → Type 0
-Read A = At → Result (A × At) ReadRefusal
-
--- One step, and then another from its value.
-infixl 10 ◌>>=◌
-unfoldable pub and_then : {A B : Type 0} → Result A ReadRefusal → (A → Result B ReadRefusal) → Result B ReadRefusal
-and_then (Ok x) f = f x
-and_then (Err e) f = Err e
-
--- The same, between the lines of a `do`.
-abbrev pub ◌>>=◌ : {A B : Type 0} → Result A ReadRefusal → (A → Result B ReadRefusal) → Result B ReadRefusal
-r >>= f = and_then r f
+Read A = Reading At ReadRefusal A
 
 -- where the next word stands, or where the text ends
 abbrev pub place_of_next : List Word → Place → Place

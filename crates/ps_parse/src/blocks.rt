@@ -14,7 +14,7 @@ use ps_token::TokenKind;
 use ps_tree::{LimitName, Stmt, StmtKind};
 use sqlite_items::Items;
 
-#[tactic(auto, unfolding(crate::specs::Blocks::skip_at, crate::specs::Reading::after_word, crate::specs::Reading::and_then))]
+#[tactic(auto, unfolding(crate::specs::Blocks::skip_at, crate::specs::Reading::after_word, ps_lines::specs::Steps::and_then))]
 fn skip<'b>(cursor: &mut Cursor<'b>) -> Result<StmtKind, ReadRefusal>
     ensures { Gives (λ x. x) result cursor.new (skip_at cursor.old) }
 {
@@ -24,7 +24,7 @@ fn skip<'b>(cursor: &mut Cursor<'b>) -> Result<StmtKind, ReadRefusal>
 }
 
 impl<'a> Parser<'a> {
-    #[tactic(auto, unfolding(crate::specs::Blocks::assign_at, crate::specs::Blocks::ended_at, crate::specs::Reading::after_word, crate::specs::Reading::and_then))]
+    #[tactic(auto, unfolding(crate::specs::Blocks::assign_at, crate::specs::Blocks::ended_at, crate::specs::Reading::after_word, ps_lines::specs::Steps::and_then))]
     fn assign<'b>(&self, cursor: &mut Cursor<'b>) -> Result<StmtKind, ReadRefusal>
         ensures { Gives (λ x. x) result cursor.new
             (assign_at (names_in self.now.scope) self.now.most cursor.old) }
@@ -36,7 +36,7 @@ impl<'a> Parser<'a> {
         Ok(StmtKind::Assign(variable, sum))
     }
 
-    #[tactic(auto, unfolding(crate::specs::Blocks::havoc_at, crate::specs::Blocks::ended_at, crate::specs::Reading::after_word, crate::specs::Reading::and_then))]
+    #[tactic(auto, unfolding(crate::specs::Blocks::havoc_at, crate::specs::Blocks::ended_at, crate::specs::Reading::after_word, ps_lines::specs::Steps::and_then))]
     fn havoc<'b>(&self, cursor: &mut Cursor<'b>) -> Result<StmtKind, ReadRefusal>
         ensures { Gives (λ x. x) result cursor.new (havoc_at (names_in self.now.scope) cursor.old) }
     {
@@ -46,7 +46,7 @@ impl<'a> Parser<'a> {
         Ok(StmtKind::Havoc(variable))
     }
 
-    #[tactic(auto, unfolding(crate::specs::Blocks::cond_stmt_at, crate::specs::Blocks::ended_at, crate::specs::Reading::after_word, crate::specs::Reading::and_then))]
+    #[tactic(auto, unfolding(crate::specs::Blocks::cond_stmt_at, crate::specs::Blocks::ended_at, crate::specs::Reading::after_word, ps_lines::specs::Steps::and_then))]
     fn assume<'b>(&self, levels: u32, cursor: &mut Cursor<'b>) -> Result<StmtKind, ReadRefusal>
         ensures { Gives (λ x. x) result cursor.new
             (cond_stmt_at kind.Assume stmt.Assume
@@ -58,7 +58,7 @@ impl<'a> Parser<'a> {
         Ok(StmtKind::Assume(cond))
     }
 
-    #[tactic(auto, unfolding(crate::specs::Blocks::cond_stmt_at, crate::specs::Blocks::ended_at, crate::specs::Reading::after_word, crate::specs::Reading::and_then))]
+    #[tactic(auto, unfolding(crate::specs::Blocks::cond_stmt_at, crate::specs::Blocks::ended_at, crate::specs::Reading::after_word, ps_lines::specs::Steps::and_then))]
     fn assertion<'b>(&self, levels: u32, cursor: &mut Cursor<'b>) -> Result<StmtKind, ReadRefusal>
         ensures { Gives (λ x. x) result cursor.new
             (cond_stmt_at kind.Assert stmt.Assert
@@ -71,7 +71,7 @@ impl<'a> Parser<'a> {
     }
 
     #[cycle(block)]
-    #[tactic(auto, unfolding(crate::specs::Blocks::atomic_at, crate::specs::Reading::after_word, crate::specs::Reading::and_then))]
+    #[tactic(auto, unfolding(crate::specs::Blocks::atomic_at, crate::specs::Reading::after_word, ps_lines::specs::Steps::and_then))]
     fn atomic<'b>(&self, levels: u32, cursor: &mut Cursor<'b>) -> Result<StmtKind, ReadRefusal>
         ensures { Gives (λ x. x) result cursor.new
             (atomic_at (block_at (names_in self.now.scope) self.now.most levels true) cursor.old) }
@@ -83,7 +83,7 @@ impl<'a> Parser<'a> {
 
     // `else` and its block, or nothing.
     #[cycle(block)]
-    #[tactic(auto, unfolding(crate::specs::Blocks::else_at, crate::specs::Reading::after_word, crate::specs::Reading::and_then))]
+    #[tactic(auto, unfolding(crate::specs::Blocks::else_at, crate::specs::Reading::after_word, ps_lines::specs::Steps::and_then))]
     fn otherwise<'b>(
         &self,
         levels: u32,
@@ -101,7 +101,7 @@ impl<'a> Parser<'a> {
     }
 
     #[cycle(block)]
-    #[tactic(auto, unfolding(crate::specs::Blocks::if_at, crate::specs::Reading::after_word, crate::specs::Reading::and_then))]
+    #[tactic(auto, unfolding(crate::specs::Blocks::if_at, crate::specs::Reading::after_word, ps_lines::specs::Steps::and_then))]
     fn choice<'b>(
         &self,
         levels: u32,
@@ -120,7 +120,7 @@ impl<'a> Parser<'a> {
     }
 
     #[cycle(block)]
-    #[tactic(auto, unfolding(crate::specs::Blocks::while_stmt_at, crate::specs::Reading::after_word, crate::specs::Reading::and_then))]
+    #[tactic(auto, unfolding(crate::specs::Blocks::while_stmt_at, crate::specs::Reading::after_word, ps_lines::specs::Steps::and_then))]
     fn repetition<'b>(
         &self,
         levels: u32,
@@ -175,7 +175,7 @@ impl<'a> Parser<'a> {
     }
 
     #[cycle(block)]
-    #[tactic(auto, unfolding(crate::specs::Blocks::stmt_at, crate::specs::Reading::and_then))]
+    #[tactic(auto, unfolding(crate::specs::Blocks::stmt_at, ps_lines::specs::Steps::and_then))]
     fn stmt<'b>(
         &self,
         levels: u32,
@@ -217,7 +217,7 @@ impl<'a> Parser<'a> {
 
     // A block, where so many levels may be opened in it.
     #[cycle(block)]
-    #[tactic(auto, unfolding(crate::specs::Blocks::block_at, crate::specs::Reading::and_then))]
+    #[tactic(auto, unfolding(crate::specs::Blocks::block_at, ps_lines::specs::Steps::and_then))]
     fn nested_block<'b>(
         &self,
         levels: u32,
@@ -235,7 +235,7 @@ impl<'a> Parser<'a> {
 
     /// Takes a block, where so many levels may still be opened. No `while` stands in an atomic one.
     #[cycle(block)]
-    #[tactic(auto, unfolding(crate::specs::Blocks::block_at, crate::specs::Reading::and_then))]
+    #[tactic(auto, unfolding(crate::specs::Blocks::block_at, ps_lines::specs::Steps::and_then))]
     pub(crate) fn block<'b>(
         &self,
         levels: u32,

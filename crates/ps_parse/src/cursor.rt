@@ -3,7 +3,8 @@
 ghost use Rattle.std.specs.Prelude.{◌≡◌, ℕ, Ok, IfOk, if◌then◌else◌};
 ghost use Rattle.ps_token.specs.declared.token_kind.TokenKind.TheVariants.{Number};
 ghost use Rattle.ps_token.specs.Lexing.{IsNumber};
-ghost use Rattle.ps_parse.specs.Reading.{At, is_kind, place_at, next_is, word_at, end_at, and_then, Gives, Tells};
+ghost use Rattle.ps_parse.specs.Reading.{At, is_kind, place_at, next_is, word_at, end_at, Gives, Tells};
+ghost use Rattle.ps_lines.specs.Steps.{and_then};
 ghost use Rattle.ps_grammar.specs.Words.{words_of};
 ghost use Rattle.ps_parse.specs.Inner.Seen.{seen};
 ghost use Rattle.ps_parse.specs.Inner.Steps.{passed};
@@ -96,7 +97,7 @@ impl<'a> Cursor<'a> {
     }
 
     /// Takes the next word, which is a number.
-    #[tactic(auto, unfolding(crate::specs::Reading::and_then))]
+    #[tactic(auto, unfolding(ps_lines::specs::Steps::and_then))]
     pub(crate) fn number(&mut self) -> Result<i64, ReadRefusal>
         ensures { Gives (λ n. n) result self.new
             (and_then (word_at Number self.old) (λ w. Ok (number_value w.0.text, w.1))) }
@@ -106,7 +107,7 @@ impl<'a> Cursor<'a> {
     }
 
     /// Takes the next word, which is a sign.
-    #[tactic(auto, unfolding(crate::specs::Sums::sign_at, crate::specs::Reading::and_then))]
+    #[tactic(auto, unfolding(crate::specs::Sums::sign_at, ps_lines::specs::Steps::and_then))]
     pub(crate) fn sign(&mut self, signs: Signs) -> Result<Sign, ReadRefusal>
         ensures { Gives (λ sign. sign) result self.new (sign_at (signs_of signs) self.old) }
     {

@@ -22,7 +22,7 @@ use ps_tree::{GlobalDecl, LimitName, Name, Relation, Sign};
 use std::alloc::{AllocError, Global};
 
 // A number, which may have a `-` before it.
-#[tactic(auto, unfolding(crate::specs::Items::number_at, crate::specs::Reading::after_word, crate::specs::Reading::and_then))]
+#[tactic(auto, unfolding(crate::specs::Items::number_at, crate::specs::Reading::after_word, ps_lines::specs::Steps::and_then))]
 fn number<'b>(cursor: &mut Cursor<'b>) -> Result<i128, ReadRefusal>
     ensures { Gives (λ x. x) result cursor.new (number_at cursor.old) }
 {
@@ -36,7 +36,7 @@ fn number<'b>(cursor: &mut Cursor<'b>) -> Result<i128, ReadRefusal>
 }
 
 // `=` and a number, or nothing.
-#[tactic(auto, unfolding(crate::specs::Items::value_at, crate::specs::Reading::after_word, crate::specs::Reading::and_then))]
+#[tactic(auto, unfolding(crate::specs::Items::value_at, crate::specs::Reading::after_word, ps_lines::specs::Steps::and_then))]
 fn value<'b>(cursor: &mut Cursor<'b>) -> Result<Option<i128>, ReadRefusal>
     ensures { Gives (λ x. x) result cursor.new (value_at cursor.old) }
 {
@@ -49,7 +49,7 @@ fn value<'b>(cursor: &mut Cursor<'b>) -> Result<Option<i128>, ReadRefusal>
 }
 
 // A name that isn't declared yet, and that isn't one too many.
-#[tactic(auto, unfolding(crate::specs::Items::new_name_at, crate::specs::Reading::and_then))]
+#[tactic(auto, unfolding(crate::specs::Items::new_name_at, ps_lines::specs::Steps::and_then))]
 fn new_name<'b>(
     alloc: Global,
     declared: &Declared,
@@ -127,7 +127,7 @@ fn init_rows<'b>(alloc: Global, most: u32, cursor: &mut Cursor<'b>) -> Result<u6
 }
 
 // The value of a global, which stands after its name.
-#[tactic(auto, unfolding(crate::specs::Inner::Steps::declared_value_at, crate::specs::Reading::after_word, crate::specs::Reading::and_then))]
+#[tactic(auto, unfolding(crate::specs::Inner::Steps::declared_value_at, crate::specs::Reading::after_word, ps_lines::specs::Steps::and_then))]
 fn declared_value<'b>(cursor: &mut Cursor<'b>) -> Result<Option<i128>, ReadRefusal>
     ensures { Gives (λ x. x) result cursor.new (declared_value_at cursor.old) }
 {
@@ -172,7 +172,7 @@ fn item_rows<'b>(alloc: Global, most: u32, cursor: &mut Cursor<'b>) -> Result<u6
 // ---- items
 
 // `global NAME (= number)? ;`
-#[tactic(auto, unfolding(crate::specs::Items::global_at, crate::specs::Blocks::ended_at, crate::specs::Reading::after_word, crate::specs::Reading::and_then))]
+#[tactic(auto, unfolding(crate::specs::Items::global_at, crate::specs::Blocks::ended_at, crate::specs::Reading::after_word, ps_lines::specs::Steps::and_then))]
 fn global<'b>(
     alloc: Global,
     declared: Declared,
@@ -196,7 +196,7 @@ fn global<'b>(
 }
 
 // `local NAME ;`
-#[tactic(auto, unfolding(crate::specs::Items::local_at, crate::specs::Blocks::ended_at, crate::specs::Reading::after_word, crate::specs::Reading::and_then))]
+#[tactic(auto, unfolding(crate::specs::Items::local_at, crate::specs::Blocks::ended_at, crate::specs::Reading::after_word, ps_lines::specs::Steps::and_then))]
 fn local<'b>(
     alloc: Global,
     declared: Declared,
@@ -220,7 +220,7 @@ fn local<'b>(
 
 impl<'a> Parser<'a> {
     // The further relations of an `init` item, after those that were read.
-    #[tactic(auto, using(crate::proofs::Repeated::repeats_none, crate::proofs::Repeated::repeats_more, crate::proofs::Repeated::repeats_stop, crate::proofs::Repeated::repeats_all), unfolding(crate::specs::Reading::after_word, crate::specs::Reading::and_then))]
+    #[tactic(auto, using(crate::proofs::Repeated::repeats_none, crate::proofs::Repeated::repeats_more, crate::proofs::Repeated::repeats_stop, crate::proofs::Repeated::repeats_all), unfolding(crate::specs::Reading::after_word, ps_lines::specs::Steps::and_then))]
     fn further_relations<'b>(
         &self,
         mut relations: Vec<Relation>,
@@ -244,7 +244,7 @@ impl<'a> Parser<'a> {
     }
 
     // The relations of an `init` item.
-    #[tactic(auto, unfolding(crate::specs::Inner::Steps::relations_at, crate::specs::Blocks::ended_at, crate::specs::Reading::after_word, crate::specs::Reading::and_then))]
+    #[tactic(auto, unfolding(crate::specs::Inner::Steps::relations_at, crate::specs::Blocks::ended_at, crate::specs::Reading::after_word, ps_lines::specs::Steps::and_then))]
     fn relations<'b>(&self, cursor: &mut Cursor<'b>) -> Result<Vec<Relation>, ReadRefusal>
         ensures { Gives (λ v. v.items) result cursor.new
             (relations_at (names_in self.now.scope) self.now.most cursor.old) }
@@ -260,7 +260,7 @@ impl<'a> Parser<'a> {
 }
 
 // `init rel (&& rel)* ;`
-#[tactic(auto, unfolding(crate::specs::Items::init_at, crate::specs::Inner::Steps::relations_at, crate::specs::Reading::and_then))]
+#[tactic(auto, unfolding(crate::specs::Items::init_at, crate::specs::Inner::Steps::relations_at, ps_lines::specs::Steps::and_then))]
 fn init<'b>(
     alloc: Global,
     most: u32,

@@ -24,7 +24,7 @@ use ps_tree::Program;
 use std::alloc::Global;
 
 // The whole text, of at most so many words.
-#[tactic(auto, unfolding(crate::specs::Items::program_at, crate::specs::Reading::after_word, crate::specs::Reading::and_then))]
+#[tactic(auto, unfolding(crate::specs::Items::program_at, crate::specs::Reading::after_word, ps_lines::specs::Steps::and_then))]
 fn program<'b>(alloc: Global, most: u32, cursor: &mut Cursor<'b>) -> Result<Program, ReadRefusal>
     ensures { Tells (λ x. x) result (program_at most cursor.old) }
 {

@@ -39,7 +39,7 @@ fn adds<'b>(cursor: &Cursor<'b>) -> bool
 
 impl<'a> Parser<'a> {
     /// Takes a declared name.
-    #[tactic(auto, unfolding(crate::specs::Variables::variable_at, crate::specs::Reading::and_then))]
+    #[tactic(auto, unfolding(crate::specs::Variables::variable_at, ps_lines::specs::Steps::and_then))]
     pub(crate) fn variable<'b>(&self, cursor: &mut Cursor<'b>) -> Result<Var, ReadRefusal>
         ensures { Gives (λ x. x) result cursor.new
             (variable_at (names_in self.now.scope) cursor.old) }
@@ -52,7 +52,7 @@ impl<'a> Parser<'a> {
     }
 
     // A number, and the name that follows it and `*`.
-    #[tactic(auto, unfolding(crate::specs::Sums::number_product_at, crate::specs::Reading::after_word, crate::specs::Reading::and_then))]
+    #[tactic(auto, unfolding(crate::specs::Sums::number_product_at, crate::specs::Reading::after_word, ps_lines::specs::Steps::and_then))]
     fn number_product<'b>(&self, cursor: &mut Cursor<'b>) -> Result<(i64, Option<Var>), ReadRefusal>
         ensures { Gives (λ x. x) result cursor.new
             (number_product_at (names_in self.now.scope) cursor.old) }
@@ -67,7 +67,7 @@ impl<'a> Parser<'a> {
     }
 
     // A name, and the number that follows it and `*`.
-    #[tactic(auto, unfolding(crate::specs::Sums::name_product_at, crate::specs::Reading::after_word, crate::specs::Reading::and_then))]
+    #[tactic(auto, unfolding(crate::specs::Sums::name_product_at, crate::specs::Reading::after_word, ps_lines::specs::Steps::and_then))]
     fn name_product<'b>(&self, cursor: &mut Cursor<'b>) -> Result<(i64, Option<Var>), ReadRefusal>
         ensures { Gives (λ x. x) result cursor.new
             (name_product_at (names_in self.now.scope) cursor.old) }
@@ -94,7 +94,7 @@ impl<'a> Parser<'a> {
     }
 
     // The first product of a sum, which may have a `-` before it.
-    #[tactic(auto, unfolding(crate::specs::Sums::first_product_at, crate::specs::Reading::after_word, crate::specs::Reading::and_then))]
+    #[tactic(auto, unfolding(crate::specs::Sums::first_product_at, crate::specs::Reading::after_word, ps_lines::specs::Steps::and_then))]
     fn first_product<'b>(&self, cursor: &mut Cursor<'b>) -> Result<(i128, Option<Var>), ReadRefusal>
         ensures { Gives (λ x. x) result cursor.new
             (first_product_at (names_in self.now.scope) cursor.old) }
@@ -109,7 +109,7 @@ impl<'a> Parser<'a> {
     }
 
     // A further product with its `+` or `-`.
-    #[tactic(auto, unfolding(crate::specs::Sums::further_product_at, crate::specs::Reading::after_word, crate::specs::Reading::and_then))]
+    #[tactic(auto, unfolding(crate::specs::Sums::further_product_at, crate::specs::Reading::after_word, ps_lines::specs::Steps::and_then))]
     fn further_product<'b>(
         &self,
         cursor: &mut Cursor<'b>,
@@ -148,7 +148,7 @@ impl<'a> Parser<'a> {
     }
 
     /// Takes a sum.
-    #[tactic(auto, unfolding(crate::specs::Sums::sum_at, crate::specs::Reading::and_then))]
+    #[tactic(auto, unfolding(crate::specs::Sums::sum_at, ps_lines::specs::Steps::and_then))]
     pub(crate) fn sum<'b>(&self, cursor: &mut Cursor<'b>) -> Result<Sum, ReadRefusal>
         ensures { Gives (λ x. x) result cursor.new
             (sum_at (names_in self.now.scope) self.now.most cursor.old) }
@@ -163,7 +163,7 @@ impl<'a> Parser<'a> {
     }
 
     /// Takes a relation.
-    #[tactic(auto, unfolding(crate::specs::Sums::relation_at, crate::specs::Reading::and_then))]
+    #[tactic(auto, unfolding(crate::specs::Sums::relation_at, ps_lines::specs::Steps::and_then))]
     pub(crate) fn relation<'b>(
         &self,
         signs: Signs,

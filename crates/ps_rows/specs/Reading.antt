@@ -1,7 +1,8 @@
 -- Reading rows and multipliers, with the first fault.
 use Rattle.std.specs.Prelude.{ℕ, List, Result, Ok, codes}
 use Rattle.ps_lines.specs.declared.form_fault.FormFault.{FormFault}
-use Rattle.ps_lines.specs.Reading.{At, Read, ◌>>=◌, leaf_at, natural, line_at, end_at, only_at, done_at, header_at, times_at}
+use Rattle.ps_lines.specs.Reading.{At, Read, leaf_at, natural, line_at, end_at, only_at, done_at, header_at, times_at}
+use Rattle.ps_lines.specs.Steps.{◌>>=◌}
 use Rattle.ps_term.specs.declared.row.Row.{Row}
 use Rattle.ps_term_text.specs.Reading.{term_at}
 use Rattle.ps_rows.specs.declared.claim.Claim.{Claim}

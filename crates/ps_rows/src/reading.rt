@@ -25,7 +25,7 @@ impl Form for RowLine {
 
     ghost reading = { row_at };
 
-    #[tactic(auto, unfolding(crate::specs::Reading::row_at, ps_lines::specs::Reading::and_then))]
+    #[tactic(auto, unfolding(crate::specs::Reading::row_at, ps_lines::specs::Steps::and_then))]
     fn take<'a>(alloc: Global, reader: &mut Reader<'a>) -> Result<Row, FormEnd> {
         reader.line(b"row")?;
         let term = take_term(alloc, reader)?;
@@ -35,7 +35,7 @@ impl Form for RowLine {
 }
 
 // The line of multipliers, as many as there are rows.
-#[tactic(auto, unfolding(crate::specs::Reading::multipliers_at, ps_lines::specs::Reading::and_then))]
+#[tactic(auto, unfolding(crate::specs::Reading::multipliers_at, ps_lines::specs::Steps::and_then))]
 fn take_multipliers<'a>(
     alloc: Global,
     count: u32,
@@ -49,7 +49,7 @@ fn take_multipliers<'a>(
     Ok(Sequence::from_list(list))
 }
 
-#[tactic(auto, unfolding(crate::specs::Reading::claim_at, ps_lines::specs::Reading::and_then))]
+#[tactic(auto, unfolding(crate::specs::Reading::claim_at, ps_lines::specs::Steps::and_then))]
 fn whole(alloc: Global, bytes: &[u8], first: u32) -> Result<Claim, FormEnd>
     requires from_one { 1 ≤ first }
     requires room { first + length bytes.now < 2 ^ 32 }

@@ -3,7 +3,7 @@
 use crate::var::Var;
 
 /// A stop of a walk at one variable.
-#[derive(Clone, Copy, Debug, PartialEq, Eq, Hash)]
+#[derive(Clone, Copy, Debug, PartialEq, Eq)]
 pub struct Stop {
     /// The variable's coefficient, which is 0 where it doesn't stand.
     pub coefficient: i128,

@@ -11,7 +11,8 @@ use Rattle.ps_lines.specs.declared.form_name.FormName.TheVariants.{Field, Number
 use Rattle.ps_lines.specs.Decimal.{counts_as_decimal, u32_of, i128_of}
 use Rattle.ps_lines.specs.Parts.{cut_at}
 use Rattle.ps_term_text.specs.declared.limits.TheConstants.{MOST_NUMBER}
-use Rattle.ps_lines.specs.Reading.{Read, ◌>>=◌, leaf_at, list_at, integer}
+use Rattle.ps_lines.specs.Reading.{Read, leaf_at, list_at, integer}
+use Rattle.ps_lines.specs.Steps.{◌>>=◌}
 
 -- ---- variables
 

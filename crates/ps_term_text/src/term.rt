@@ -12,7 +12,7 @@ use ps_term::{Pairs, Term};
 use ps_text::{FormEnd, Reader, Until, list};
 use std::alloc::Global;
 
-#[tactic(auto, unfolding(crate::specs::Reading::term_at, ps_lines::specs::Reading::and_then))]
+#[tactic(auto, unfolding(crate::specs::Reading::term_at, ps_lines::specs::Steps::and_then))]
 fn fields_of_term<'a>(alloc: Global, reader: &mut Reader<'a>) -> Result<Term, FormEnd>
     ensures { Gives (λ x. x) result reader.new (term_at reader.old) }
 {

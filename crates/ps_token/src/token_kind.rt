@@ -1,7 +1,7 @@
 //! What the tokens of a program text are.
 
 /// A name, a number, a reserved name or a sign.
-#[derive(Clone, Copy, Debug, PartialEq, Eq, PartialOrd, Ord, Hash)]
+#[derive(Clone, Copy, Debug, PartialEq, Eq)]
 pub enum TokenKind {
     Name,
     Number,

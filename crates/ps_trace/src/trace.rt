@@ -5,7 +5,7 @@ use ps_list::Sequence;
 use std::alloc::{AllocError, Global};
 
 /// A thread that takes an edge, both by number.
-#[derive(Clone, Copy, Debug, PartialEq, Eq, PartialOrd, Ord, Hash)]
+#[derive(Clone, Copy, Debug, PartialEq, Eq)]
 pub struct Letter {
     pub thread: u32,
     pub edge: u32,

@@ -1,7 +1,7 @@
 //! Limits of program texts.
 
 /// What there is too much of.
-#[derive(Clone, Copy, Debug, PartialEq, Eq, PartialOrd, Ord, Hash)]
+#[derive(Clone, Copy, Debug, PartialEq, Eq)]
 pub enum LimitName {
     Globals,
     Locals,

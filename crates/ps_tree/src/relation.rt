@@ -5,7 +5,7 @@ use crate::sum::Sum;
 use std::alloc::{AllocError, Global};
 
 /// How two sums are compared.
-#[derive(Clone, Copy, Debug, PartialEq, Eq, PartialOrd, Ord, Hash)]
+#[derive(Clone, Copy, Debug, PartialEq, Eq)]
 pub enum Sign {
     Less,
     LessEq,

@@ -3,7 +3,8 @@ use Rattle.std.specs.Prelude.{◌≡◌, ℕ, ◌+◌, ◌≤◌, ◌<◌, Bool,
 use Rattle.ps_lines.specs.declared.form_name.FormName.{FormName}
 use Rattle.ps_lines.specs.declared.span.Span.{Span}
 use Rattle.ps_lines.specs.Lines.{IsWithin, lines_of, span_text}
-use Rattle.ps_lines.specs.Reading.{Read, ◌>>=◌, leaf_at}
+use Rattle.ps_lines.specs.Reading.{Read, leaf_at}
+use Rattle.ps_lines.specs.Steps.{◌>>=◌}
 use Rattle.ps_lines.specs.Tokens.{next_field, tokens}
 
 -- How many bytes stand before the first blank or line feed.

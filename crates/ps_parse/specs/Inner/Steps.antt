@@ -7,7 +7,8 @@ use Rattle.ps_parse.specs.Blocks.{ended_at}
 use Rattle.ps_parse.specs.Items.{counted, value_at}
 use Rattle.ps_grammar.specs.Names.{Names}
 use Rattle.ps_parse.specs.Sums.{init_sign_of, relation_at}
-use Rattle.ps_parse.specs.Reading.{At, Read, ◌>>=◌, after_word, next_is, while_at}
+use Rattle.ps_parse.specs.Reading.{At, Read, after_word, next_is, while_at}
+use Rattle.ps_lines.specs.Steps.{◌>>=◌}
 use Rattle.ps_grammar.specs.Words.{Word}
 
 -- The value of a global, which stands after its name.

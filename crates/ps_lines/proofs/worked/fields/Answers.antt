@@ -1,5 +1,6 @@
 use Rattle.std.proofs.Common.{refl}
-use Rattle.ps_lines.specs.Reading.{and_then, header_at, leaf_at, line_at, only_at}
+use Rattle.ps_lines.specs.Reading.{header_at, leaf_at, line_at, only_at}
+use Rattle.ps_lines.specs.Steps.{and_then}
 use Rattle.ps_lines.proofs.worked.fields.Goals as goal
 
 pub returns-clause-decimals : goal.returns-clause-decimals
