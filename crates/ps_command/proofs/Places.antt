@@ -1,16 +1,18 @@
 -- The place of a variable in a list of terms whose variables ascend.
-use Rattle.std.proofs.Common.{◌≡◌, ◌≤◌, ℕ, suc, zero, ◌<◌, Bool, true, false, not, ◌&&◌, List, [], ◌∷◌, length, get_or, drop, if◌then◌else◌, refl, sym, ap, ◌∙◌, subst, arith}
-use Rattle.std.specs.Prelude.{slice_set, insert}
-use Rattle.std.specs.List.{list_all}
+use Rattle.std.proofs.Common.{◌≡◌, ◌≤◌, ℕ, suc, zero, ◌<◌, Bool, true, false, ◌&&◌, List, [], ◌∷◌, length, get_or, drop, if◌then◌else◌, refl, sym, ap, ◌∙◌, subst, arith}
+use Rattle.std.specs.Prelude.{◌≢◌, AllPairs, slice_set, insert}
+use Rattle.std.specs.List.{AllByRecursion}
 use Rattle.std.specs.List.Sorted.{IsPartitionedBy, IsPartitionPoint}
 use Rattle.std.proofs.lemmas.Bool.{false≢true, and_parts}
+use Rattle.std.proofs.lemmas.List.Elements.{All-from_recursion}
+use Rattle.std.proofs.lemmas.List.Kept.{AllPairs-cons}
 use Rattle.ps_term.specs.declared.term.Term.{Term}
 use Rattle.ps_term.specs.declared.var.Var.{Var}
 use Rattle.ps_term.specs.Substitution.{replacement}
 use Rattle.ps_term.specs.Term.{variable_term}
 use Rattle.ps_term.specs.Var.{var_lt, var_eq}
 use Rattle.ps_term.proofs.Variables.{var_eq-true, var_eq_refl, var_lt-var_eq, var_gt-var_eq, var_lt_or_gt, var_lt_trans}
-use Rattle.ps_command.specs.Assignments.{is_before_all, ascends, AreDistinct}
+use Rattle.ps_command.specs.Assignments.{is_before_all, ascends}
 use Rattle.ps_command.specs.Form.{with_term}
 use Rattle.ps_command.specs.inner.First.{is_first}
 use Rattle.ps_command.proofs.Forms.{var_eq_sym}
@@ -54,18 +56,20 @@ ascends_set x t (p ∷ ps) a = at (var_eq x p.0) refl (var_lt x p.0) refl (ascen
     at false e true f h = both (var_lt x p.0) (ascends (p ∷ ps)) f a
     at false e false f h = both (is_before_all p.0 (with_term x t ps)) (ascends (with_term x t ps)) (before_set p.0 x t ps (var_lt_or_gt x p.0 e f) parts.0) h
 
-others : (x : Var) (ps : List (Var × Term)) → is_before_all x ps ≡ true → ascends ps ≡ true → list_all (λ (q : Var × Term). not (var_eq x q.0)) ps ≡ true
-others x [] b a = refl
-others x (p ∷ ps) b a =
+differs : (x : Var) (ps : List (Var × Term)) → is_before_all x ps ≡ true → ascends ps ≡ true → AllByRecursion (λ (q : Var × Term). x ≢ q.0) ps
+differs x [] b a = tt
+differs x (p ∷ ps) b a =
     let parts : (is_before_all p.0 ps ≡ true) × (ascends ps ≡ true) = and_parts (is_before_all p.0 ps) (ascends ps) a in
-    both (not (var_eq x p.0)) (list_all (λ (q : Var × Term). not (var_eq x q.0)) ps) (ap not (var_lt-var_eq x p.0 b))
-    (others x ps (before_trans x p.0 ps b parts.0) parts.1)
+    let apart : x ≢ p.0 = λ e. false≢true (sym (var_lt-var_eq x p.0 b) ∙ (ap (λ (y : Var). var_eq x y) (sym e) ∙ var_eq_refl x)) in
+    (apart, differs x ps (before_trans x p.0 ps b parts.0) parts.1)
 
-pub distinct : (ps : List (Var × Term)) → ascends ps ≡ true → AreDistinct ps
-distinct [] a = tt
+-- no variable stands twice
+pub distinct : (ps : List (Var × Term)) → ascends ps ≡ true → AllPairs (λ (p q : Var × Term). p.0 ≢ q.0) ps
+distinct [] a = λ i j d lt within. absurd (omega arith)
 distinct (p ∷ ps) a =
     let parts : (is_before_all p.0 ps ≡ true) × (ascends ps ≡ true) = and_parts (is_before_all p.0 ps) (ascends ps) a in
-    (others p.0 ps parts.0 parts.1, distinct ps parts.1)
+    AllPairs-cons (λ (q r : Var × Term). q.0 ≢ r.0) p ps
+    (All-from_recursion (λ (q : Var × Term). p.0 ≢ q.0) ps (differs p.0 ps parts.0 parts.1)) (distinct ps parts.1)
 
 -- ---- what a search finds
 rises : (x : Var) (ps : List (Var × Term)) (j : ℕ) (d : Var × Term) → is_before_all x ps ≡ true → ascends ps ≡ true → j < length ps → var_lt x (get_or ps j d).0 ≡ true
