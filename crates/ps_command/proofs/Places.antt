@@ -11,11 +11,10 @@ use Rattle.ps_term.specs.declared.var.Var.{Var}
 use Rattle.ps_term.specs.Substitution.{replacement}
 use Rattle.ps_term.specs.Term.{variable_term}
 use Rattle.ps_term.specs.Var.{var_lt, var_eq}
-use Rattle.ps_term.proofs.Variables.{var_eq-true, var_eq_refl, var_lt-var_eq, var_gt-var_eq, var_lt_or_gt, var_lt_trans}
+use Rattle.ps_term.proofs.Variables.{var_eq-true, var_eq_refl, var_eq_sym, var_lt-var_eq, var_gt-var_eq, var_lt_or_gt, var_lt_trans}
 use Rattle.ps_command.specs.Assignments.{is_before_all, ascends}
 use Rattle.ps_command.specs.Form.{with_term}
 use Rattle.ps_command.specs.inner.First.{is_first}
-use Rattle.ps_command.proofs.Forms.{var_eq_sym}
 
 -- ---- what ascends
 var_lt_not_gt : (x y : Var) → var_lt x y ≡ true → var_lt y x ≡ false

@@ -8,7 +8,7 @@ use Rattle.std.proofs.lemmas.Bool.{false≢true}
 use Rattle.std.proofs.lemmas.Bool.Decides.{Decides-int_eq}
 use Rattle.std.proofs.lemmas.Int.{ints}
 use Rattle.std.proofs.lemmas.List.{drop_more}
-use Rattle.ps_term.specs.Accumulated.{IsRising, found_sum, put, standing, var_cmp}
+use Rattle.ps_term.specs.inner.Accumulated.{IsRising, found_sum, put, standing, var_cmp}
 use Rattle.ps_term.specs.Pairs.{IsBelow, IsCanonical, coefficient, pairs_value}
 use Rattle.ps_term.specs.Sums.{ScaledFits}
 use Rattle.ps_term.specs.Var.{var_eq, var_lt}

@@ -4,7 +4,6 @@ pub mod Ceilings
 pub mod Comparing
 pub mod Divisions
 pub mod ExactTerms
-mod Examples
 pub mod Lookups
 pub mod Merging
 pub mod Negations

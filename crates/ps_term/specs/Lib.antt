@@ -1,11 +1,9 @@
-pub mod Accumulated
-pub mod Bound
 pub mod Evaluation
+pub mod Examples
 pub mod Exact
 pub mod Factors
-pub mod Front
+pub mod inner
 pub mod Lookup
-pub mod Named
 pub mod Negation
 pub mod Pairs
 pub mod Row

@@ -1,7 +1,7 @@
 // Sums by variable, to which scaled terms are added one by one.
 ghost use Rattle.std.specs.Prelude.{◌≡◌, ◌+ℤ◌, ◌*ℤ◌, ℤ, IfOk, OnOk, IsErrOf};
 ghost use Rattle.ps_term.specs.declared.var.Var.{Var};
-ghost use Rattle.ps_term.specs.Accumulated.{IsRising, found_sum, put, standing};
+ghost use Rattle.ps_term.specs.inner.Accumulated.{IsRising, found_sum, put, standing};
 ghost use Rattle.ps_term.specs.Pairs.{coefficient, IsCanonical, pairs_value};
 ghost use Rattle.ps_term.specs.Sums.{PairsFit, ScaledFits};
 

@@ -1,8 +1,8 @@
 //! Terms put for variables.
 ghost use Rattle.std.specs.Prelude.{◌≡◌, ◌+ℤ◌, ◌*ℤ◌, ℤ, IfOk, IsTrue, OnOk, IsErrOf};
 ghost use Rattle.ps_term.specs.declared.var.Var.{Var};
-ghost use Rattle.ps_term.specs.Accumulated.{IsRising};
-ghost use Rattle.ps_term.specs.Named.{AreRising};
+ghost use Rattle.ps_term.specs.inner.Accumulated.{IsRising};
+ghost use Rattle.ps_term.specs.inner.Named.{AreRising};
 ghost use Rattle.ps_term.specs.Pairs.{IsCanonical, pairs_value};
 ghost use Rattle.ps_term.specs.Substitution.{replacement, SubstitutionFits, values_after};
 ghost use Rattle.ps_term.specs.Sums.{PairsFit, ScaledFits};

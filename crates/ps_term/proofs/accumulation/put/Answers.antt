@@ -2,7 +2,7 @@ use Rattle.std.proofs.Common.{◌≡◌, ◌∙◌, ℤ, List, ap}
 use Rattle.std.specs.BTreeMap.{insert_entry}
 use Rattle.std.specs.Int.{w128}
 use Rattle.std.proofs.lemmas.Int.{to_z-of_z}
-use Rattle.ps_term.specs.Accumulated.{put, var_cmp}
+use Rattle.ps_term.specs.inner.Accumulated.{put, var_cmp}
 use Rattle.ps_term.specs.declared.var.Var.{Var}
 use Rattle.ps_term.proofs.Adding.{put_is}
 use Rattle.ps_term.proofs.accumulation.put.Goals as goal

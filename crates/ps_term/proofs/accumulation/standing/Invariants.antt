@@ -1,5 +1,5 @@
 use Rattle.std.proofs.Common.{◌≡◌, ◌++◌}
-use Rattle.ps_term.specs.Accumulated.{standing}
+use Rattle.ps_term.specs.inner.Accumulated.{standing}
 use Rattle.ps_term.proofs.accumulation.standing.Given as goal
 
 abbrev pub invariant-loop-variable : goal.invariant-loop-variable

@@ -3,7 +3,7 @@ use Rattle.std.specs.Prelude.{ℤ, pos, List, [], ◌∷◌, ◌++◌, if◌then
 use Rattle.std.specs.BTreeMap.{is_at}
 use Rattle.std.specs.Map.{lookup}
 use Rattle.std.specs.declared.cmp.Ordering.{Ordering}
-use Rattle.ps_term.specs.Front.{kept_pair}
+use Rattle.ps_term.specs.inner.Front.{kept_pair}
 use Rattle.ps_term.specs.Pairs.{IsBelow}
 use Rattle.ps_term.specs.Var.{var_eq, var_lt}
 use Rattle.ps_term.specs.contracts.var.VarOrd.TheImpl as var_ord
