@@ -7,6 +7,7 @@ pub mod ExactTerms
 pub mod Lookups
 pub mod Merging
 pub mod Negations
+pub mod Placing
 pub mod Ring
 pub mod Searching
 pub mod Substitutions

@@ -6,6 +6,7 @@ pub mod inner
 pub mod Lookup
 pub mod Negation
 pub mod Pairs
+pub mod Placed
 pub mod Row
 pub mod Substitution
 pub mod Sums
