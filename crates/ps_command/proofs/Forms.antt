@@ -2,13 +2,12 @@
 use Rattle.std.proofs.Common.{◌≡◌, refl, sym, ap, ◌∙◌, Bool, true, false, ◌&&◌, ℕ, suc, ◌+◌, ℤ, pos, List, [], ◌∷◌, drop, if◌then◌else◌, int_le, arith}
 use Rattle.std.specs.Prelude.{slice_index_or, Option, Some, None}
 use Rattle.std.specs.List.{list_all}
-use Rattle.std.proofs.lemmas.Bool.{false≢true}
 use Rattle.std.proofs.lemmas.Int.{ints}
 use Rattle.std.proofs.lemmas.List.{drop-drop, get_or-drop}
 use Rattle.std.proofs.lemmas.List.Folds.{list_all-append}
 use Rattle.ps_term.proofs.ExactTerms.{put_worth}
 use Rattle.ps_term.proofs.Ring.{one-mul}
-use Rattle.ps_term.proofs.Variables.{var_eq-true, var_eq_refl}
+use Rattle.ps_term.proofs.Variables.{var_eq-true, var_eq_sym}
 use Rattle.ps_term.specs.Exact.{substituted}
 use Rattle.ps_term.specs.Substitution.{replacement, values_after}
 use Rattle.ps_term.specs.Term.{value, variable_term}
@@ -25,15 +24,6 @@ use Rattle.ps_command.specs.declared.op.Op.TheVariants.{Assume, Assign, Havoc as
 use Rattle.ps_command.specs.declared.symbolic_form.SymbolicForm.{SymbolicForm}
 
 -- ---- the term of a variable after one is set
-pub var_eq_sym : (x y : Var) → var_eq x y ≡ var_eq y x
-var_eq_sym x y = by_test (var_eq x y) refl (var_eq y x) refl
-  where
-    by_test : (t : Bool) → var_eq x y ≡ t → (u : Bool) → var_eq y x ≡ u → var_eq x y ≡ var_eq y x
-    by_test true e true f = e ∙ sym f
-    by_test false e false f = e ∙ sym f
-    by_test true e false f = absurd (false≢true (sym f ∙ (ap (λ (z : Var). var_eq y z) (var_eq-true x y e) ∙ var_eq_refl y)))
-    by_test false e true f = absurd (false≢true (sym e ∙ (ap (λ (z : Var). var_eq x z) (var_eq-true y x f) ∙ var_eq_refl x)))
-
 pub replacement-set : (x : Var) (t : Term) (ps : List (Var × Term)) (y : Var) → replacement (with_term x t ps) y ≡ (if var_eq x y then t else replacement ps y)
 replacement-set x t [] y = ap (λ (b : Bool). if b then t else variable_term y) (var_eq_sym y x)
 replacement-set x t (p ∷ ps) y = at (var_eq x p.0) refl (var_lt x p.0) (var_eq y p.0) refl (replacement-set x t ps y)

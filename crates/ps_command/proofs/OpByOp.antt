@@ -9,24 +9,24 @@ use Rattle.ps_command.specs.Named.{is_declared_op}
 use Rattle.ps_command.specs.Run.{run}
 use Rattle.ps_command.specs.RunFits.{RunFits}
 use Rattle.ps_command.specs.Values.{Values, value_at}
-use Rattle.ps_command.specs.inner.View.{after_op, goes_on, havocs_left, OpRunFits}
+use Rattle.ps_command.specs.inner.View.{after_op, is_passed, havocs_left, OpRunFits}
 use Rattle.ps_command.specs.declared.op.Op.{Op}
 use Rattle.ps_command.specs.declared.op.Op.TheVariants.{Assume, Assign, Havoc}
 use Rattle.ps_command.proofs.Sizes.{SameSizes, set_sizes}
 
 -- ---- one op
 
-run_op : (op : Op) (ops : List Op) (v : Values) (hs : List ℤ) → run (op ∷ ops) v hs ≡ (if goes_on v op then run ops (after_op v op (slice_index_or hs 0 (pos 0))) (havocs_left op hs) else None)
+run_op : (op : Op) (ops : List Op) (v : Values) (hs : List ℤ) → run (op ∷ ops) v hs ≡ (if is_passed v op then run ops (after_op v op (slice_index_or hs 0 (pos 0))) (havocs_left op hs) else None)
 run_op (Assume r) ops v hs = refl
 run_op (Assign x t) ops v hs = refl
 run_op (Havoc x) ops v hs = refl
 
-fits_op : (op : Op) (ops : List Op) (v : Values) (hs : List ℤ) → OpRunFits v op → (goes_on v op ≡ true → RunFits ops (after_op v op (slice_index_or hs 0 (pos 0))) (havocs_left op hs)) → RunFits (op ∷ ops) v hs
+fits_op : (op : Op) (ops : List Op) (v : Values) (hs : List ℤ) → OpRunFits v op → (is_passed v op ≡ true → RunFits ops (after_op v op (slice_index_or hs 0 (pos 0))) (havocs_left op hs)) → RunFits (op ∷ ops) v hs
 fits_op (Assume r) ops v hs f g = (f, g)
 fits_op (Assign x t) ops v hs f g = (f, g refl)
 fits_op (Havoc x) ops v hs f g = g refl
 
-op_fits : (op : Op) (ops : List Op) (v : Values) (hs : List ℤ) → RunFits (op ∷ ops) v hs → OpRunFits v op × (goes_on v op ≡ true → RunFits ops (after_op v op (slice_index_or hs 0 (pos 0))) (havocs_left op hs))
+op_fits : (op : Op) (ops : List Op) (v : Values) (hs : List ℤ) → RunFits (op ∷ ops) v hs → OpRunFits v op × (is_passed v op ≡ true → RunFits ops (after_op v op (slice_index_or hs 0 (pos 0))) (havocs_left op hs))
 op_fits (Assume r) ops v hs h = (h.0, h.1)
 op_fits (Assign x t) ops v hs h = (h.0, λ e. h.1)
 op_fits (Havoc x) ops v hs h = (tt, λ e. h)
@@ -56,7 +56,7 @@ running_named ops v hs w left op rest all e r =
     (and_parts (is_declared_op (length w.globals) (length w.locals) op) (list_all (is_declared_op (length w.globals) (length w.locals)) rest)
     (subst (λ (os : List Op). list_all (is_declared_op (length w.globals) (length w.locals)) os ≡ true) e r.named)).0
 
-turn : (ops : List Op) (v : Values) (hs : List ℤ) (w : Values) (left : List ℤ) (op : Op) (rest : List Op) → IsRunning ops v hs w left (op ∷ rest) → OpRunFits w op → goes_on w op ≡ true →
+turn : (ops : List Op) (v : Values) (hs : List ℤ) (w : Values) (left : List ℤ) (op : Op) (rest : List Op) → IsRunning ops v hs w left (op ∷ rest) → OpRunFits w op → is_passed w op ≡ true →
     IsRunning ops v hs (after_op w op (slice_index_or left 0 (pos 0))) (havocs_left op left) rest
 turn ops v hs w left op rest r f on = record {
   same = sym (run_op op rest w left ∙ ap (λ (b : Bool). if b then run rest next (havocs_left op left) else None) on) ∙ r.same;
@@ -75,13 +75,13 @@ turn ops v hs w left op rest r f on = record {
     declared = and_parts (is_declared_op (length w.globals) (length w.locals) op) (list_all (is_declared_op (length w.globals) (length w.locals)) rest) r.named
 
 pub running_step : (ops : List Op) (v : Values) (hs : List ℤ) (w new : Values) (left less : List ℤ) (op : Op) (rest all : List Op) → all ≡ op ∷ rest → IsRunning ops v hs w left all →
-    OpRunFits w op → goes_on w op ≡ true → new ≡ after_op w op (slice_index_or left 0 (pos 0)) → less ≡ havocs_left op left → IsRunning ops v hs new less rest
+    OpRunFits w op → is_passed w op ≡ true → new ≡ after_op w op (slice_index_or left 0 (pos 0)) → less ≡ havocs_left op left → IsRunning ops v hs new less rest
 running_step ops v hs w new left less op rest all e r f on is n =
     subst₂ (λ (x : Values) (gs : List ℤ). IsRunning ops v hs x gs rest) (sym is) (sym n)
     (turn ops v hs w left op rest (subst (λ (os : List Op). IsRunning ops v hs w left os) e r) f on)
 
 pub running_fails : (ops : List Op) (v : Values) (hs : List ℤ) (w : Values) (left : List ℤ) (op : Op) (rest all : List Op) → all ≡ op ∷ rest → IsRunning ops v hs w left all →
-    OpRunFits w op → goes_on w op ≡ false → (run ops v hs ≡ None) × RunFits ops v hs
+    OpRunFits w op → is_passed w op ≡ false → (run ops v hs ≡ None) × RunFits ops v hs
 running_fails ops v hs w left op rest all e r f off =
     let here : IsRunning ops v hs w left (op ∷ rest) = subst (λ (os : List Op). IsRunning ops v hs w left os) e r in (
       sym here.same ∙ (run_op op rest w left ∙ ap (λ (b : Bool). if b then run rest (after_op w op (slice_index_or left 0 (pos 0))) (havocs_left op left) else None) off),

@@ -1,23 +1,19 @@
 -- The symbolic form of ops: they are run on terms over the values before them and over their havoc values.
-use Rattle.std.specs.Prelude.{suc, List, [], ◌∷◌, ◌++◌, if◌then◌else◌}
+use Rattle.std.specs.Prelude.{suc, List, [], ◌∷◌, ◌++◌}
 use Rattle.ps_command.specs.declared.op.Op.{Op}
 use Rattle.ps_command.specs.declared.op.Op.TheVariants.{Assume, Assign, Havoc as HavocOp}
 use Rattle.ps_command.specs.declared.symbolic_form.SymbolicForm.{SymbolicForm}
 use Rattle.ps_term.specs.Exact.{substituted}
+use Rattle.ps_term.specs.Placed.{put}
 use Rattle.ps_term.specs.Substitution.{SubstitutionFits}
 use Rattle.ps_term.specs.Term.{variable_term}
-use Rattle.ps_term.specs.Var.{var_eq, var_lt}
 use Rattle.ps_term.specs.declared.term.Term.{Term}
 use Rattle.ps_term.specs.declared.var.Var.{Var}
 use Rattle.ps_term.specs.declared.var.Var.TheVariants.{Havoc}
 
 -- the list with this term for the variable, which stands in its place in the order of variables
 abbrev pub with_term : Var → Term → List (Var × Term) → List (Var × Term)
-with_term x t [] = (x, t) ∷ []
-with_term x t (p ∷ ps) =
-    if var_eq x p.0 then (x, t) ∷ ps
-    else if var_lt x p.0 then (x, t) ∷ p ∷ ps
-    else p ∷ with_term x t ps
+with_term x t ps = put x t ps
 
 -- a form with the row of one assume more, with a variable worth another term, with a variable worth one havoc more
 abbrev pub with_op : SymbolicForm → Op → SymbolicForm

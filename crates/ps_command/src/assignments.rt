@@ -1,9 +1,11 @@
 //! Terms that variables are worth after a command.
-ghost use Rattle.std.specs.Prelude.{◌≡◌, [], IfOk, OnOk, OnErr, IsErrOf, IsTrue};
-ghost use Rattle.ps_command.specs.Assignments.{AreDistinct, ascends};
+ghost use Rattle.std.specs.Prelude.{◌≡◌, ◌≢◌, [], AllPairs, IfOk, OnOk, OnErr, IsErrOf, IsTrue};
+ghost use Rattle.ps_command.specs.Assignments.{ascends};
 ghost use Rattle.ps_command.specs.Form.{with_term};
 ghost use Rattle.ps_term.specs.Exact.{substituted};
 ghost use Rattle.ps_term.specs.Substitution.{SubstitutionFits};
+ghost use Rattle.ps_term.specs.declared.term.Term.{Term};
+ghost use Rattle.ps_term.specs.declared.var.Var.{Var};
 
 use crate::look_up::set_term;
 use crate::put::put_in;
@@ -53,7 +55,7 @@ impl Assignments {
     pub fn into_list(self) -> Vec<(Var, Term)>
         ensures list { result.items ≡ self }
         ensures ascending { IsTrue (ascends result.items) }
-        ensures distinct { AreDistinct result.items }
+        ensures distinct { AllPairs (λ (p q : Var × Term). p.0 ≢ q.0) result.items }
     {
         self.list
     }
@@ -62,7 +64,7 @@ impl Assignments {
     pub fn as_slice(&self) -> &[(Var, Term)]
         ensures list { result.now ≡ self.now }
         ensures ascending { IsTrue (ascends result.now) }
-        ensures distinct { AreDistinct result.now }
+        ensures distinct { AllPairs (λ (p q : Var × Term). p.0 ≢ q.0) result.now }
     {
         self.list.as_slice()
     }

@@ -11,8 +11,16 @@ ghost use Rattle.ps_command.specs.Values.{value_at, value_in, values_of};
 ghost use Rattle.ps_command.specs.declared.op.Op.{Op};
 ghost use Rattle.ps_command.specs.declared.setting.Setting.{Setting};
 ghost use Rattle.ps_command.specs.declared.state.State.{State};
+ghost use Rattle.ps_term.specs.Row.{Holds};
+ghost use Rattle.ps_term.specs.declared.row.Row.{Row};
 ghost use Rattle.ps_term.specs.declared.var.Var.{Var};
 ghost use Rattle.ps_term.specs.declared.var.Var.TheVariants.{Global, Local};
+
+/// The test of a row answers whether the row holds.
+pub fn rows_are_tested()
+    ensures holds { (values : Var → ℤ) (r : Row) → IsTrue (holds values r) → Holds values r }
+    ensures tested { (values : Var → ℤ) (r : Row) → Holds values r → IsTrue (holds values r) }
+{}
 
 /// At all values and havoc values, ops run exactly where the rows of their form hold, and give the values
 /// that it says.

@@ -3,7 +3,7 @@ ghost use Rattle.std.specs.Prelude.{◌≡◌, ◌≤◌, true, false, drop, len
 ghost use Rattle.std.specs.List.Sorted.{IsPartitionPoint};
 ghost use Rattle.ps_command.specs.Assignments.{ascends};
 ghost use Rattle.ps_command.specs.Form.{with_term};
-ghost use Rattle.ps_command.specs.inner.First.{is_first};
+ghost use Rattle.ps_term.specs.inner.Front.{is_first};
 ghost use Rattle.ps_term.specs.Var.{var_lt};
 
 use ps_term::{Term, Var, is_before, is_same};

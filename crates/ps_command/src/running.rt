@@ -70,7 +70,7 @@ fn run_ops(view: &mut View, ops: &[Op], values: &[i128]) -> Result<bool, RunEnd>
         if !view.take(op, next_value(left)).ok_or(RunEnd::Past128)? {
             return Ok(false);
         }
-        left = after_op(op, left);
+        left = values_left(op, left);
     }
     Ok(true)
 }
@@ -86,7 +86,7 @@ fn next_value(values: &[i128]) -> i128
 }
 
 // The havoc values that are left after the op.
-fn after_op<'a>(op: &Op, values: &'a [i128]) -> &'a [i128]
+fn values_left<'a>(op: &Op, values: &'a [i128]) -> &'a [i128]
     ensures { result.now ≡ havocs_left op.now values.now }
 {
     match op {

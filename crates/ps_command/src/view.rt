@@ -2,7 +2,7 @@
 ghost use Rattle.std.specs.Prelude.{◌≡◌, IsSome, IsTrue, SomeIff, length};
 ghost use Rattle.ps_command.specs.Named.{is_declared, is_declared_op, is_declared_term};
 ghost use Rattle.ps_command.specs.Values.{value_at, with_value};
-ghost use Rattle.ps_command.specs.inner.View.{after_op, goes_on, OpRunFits, seen};
+ghost use Rattle.ps_command.specs.inner.View.{after_op, is_passed, OpRunFits, seen};
 ghost use Rattle.ps_term.specs.Evaluation.{EvaluationFits};
 ghost use Rattle.ps_term.specs.Term.{value};
 
@@ -61,7 +61,7 @@ impl View {
         requires { IsTrue (is_declared_op (length self.old.globals.items)
             (length self.old.locals.items) op.now) }
         ensures answer { SomeIff result (OpRunFits (seen self.old) op.now)
-            (goes_on (seen self.old) op.now) }
+            (is_passed (seen self.old) op.now) }
         ensures after { IsSome result → seen self.new ≡ after_op (seen self.old) op.now havoc }
     {
         match op {

@@ -1,6 +1,6 @@
 // Runs, by hand.
 use crate::build::{T, X, assume, command, in_memory, number, product};
-use ps_command::{Command, Op, RunEnd, State, can_run, run, symbolic};
+use ps_command::{Command, Op, RunEnd, Setting, State, can_run, is_sized, run, symbolic};
 use ps_list::Sequence;
 use ps_term::TermEnd;
 use std::alloc::{AllocError, Global};
@@ -15,6 +15,33 @@ fn state(alloc: Global) -> Result<State, AllocError> {
         globals: Sequence::from_slice(alloc, &[7])?,
         locals: Sequence::from_list(locals),
     })
+}
+
+// A setting without rows and commands.
+fn setting(alloc: Global, globals: u32, locals: u32) -> Setting {
+    Setting {
+        globals,
+        locals,
+        init_once: Sequence::from_list(Vec::new(alloc)),
+        init_each: Sequence::from_list(Vec::new(alloc)),
+        commands: Sequence::from_list(Vec::new(alloc)),
+        symbols: Sequence::from_list(Vec::new(alloc)),
+    }
+}
+
+fn has_sizes(alloc: Global, globals: u32, locals: u32) -> Result<bool, AllocError> {
+    let setting = setting(alloc, globals, locals);
+    Ok(is_sized(&setting, &state(alloc)?))
+}
+
+#[test]
+fn a_state_has_a_value_for_each_declared_variable_and_no_other(
+    rt: HostRuntime,
+) -> Result<(), Fail> {
+    assert!(rt; has_sizes(rt.alloc(), 1, 1)?);
+    assert!(rt; !has_sizes(rt.alloc(), 1, 2)?);
+    assert!(rt; !has_sizes(rt.alloc(), 2, 1)?);
+    Ok(())
 }
 
 // What a run of the second thread answers.

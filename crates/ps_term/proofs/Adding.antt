@@ -1,23 +1,24 @@
 -- Sums by variable: what was added, with what is left, is all.
-use Rattle.std.proofs.Common.{◌≡◌, ◌+◌, ◌<◌, ℕ, ℤ, pos, ◌+ℤ◌, ◌*ℤ◌, Bool, true, false, cond, if◌then◌else◌, Ordering, List, [], ◌∷◌, ◌++◌, length, get_or, drop, unwrap_or, Some, refl, sym, ap, ◌∙◌, subst, arith}
-use Rattle.std.specs.BTreeMap.{insert_entry, is_at}
+use Rattle.std.proofs.Common.{◌≡◌, ◌+◌, ◌<◌, ◌≤◌, ℕ, suc, zero, ℤ, pos, ◌+ℤ◌, ◌*ℤ◌, Bool, true, false, if◌then◌else◌, List, [], ◌∷◌, ◌++◌, length, get_or, drop, refl, sym, ap, ◌∙◌, subst, arith}
 use Rattle.std.specs.List.{AllByRecursion}
-use Rattle.std.specs.Map.{lookup}
-use Rattle.std.specs.Ordering.{int_eq, match_ordering}
+use Rattle.std.specs.List.Sorted.{IsPartitionedBy, IsPartitionPoint}
+use Rattle.std.specs.Ordering.{int_eq}
 use Rattle.std.proofs.lemmas.Bool.{false≢true}
 use Rattle.std.proofs.lemmas.Bool.Decides.{Decides-int_eq}
 use Rattle.std.proofs.lemmas.Int.{ints}
 use Rattle.std.proofs.lemmas.List.{drop_more}
-use Rattle.ps_term.specs.Accumulated.{IsRising, found_sum, put, standing, var_cmp}
+use Rattle.ps_term.specs.inner.Accumulated.{IsRising, standing}
+use Rattle.ps_term.specs.inner.Front.{front_coefficient, is_first}
 use Rattle.ps_term.specs.Pairs.{IsBelow, IsCanonical, coefficient, pairs_value}
+use Rattle.ps_term.specs.Placed.{put}
 use Rattle.ps_term.specs.Sums.{ScaledFits}
 use Rattle.ps_term.specs.Var.{var_eq, var_lt}
 use Rattle.ps_term.specs.declared.var.Var.{Var}
-use Rattle.ps_term.proofs.Canonical.{IsBelowAll, IsBelowAll-canonical, IsBelow_trans, coefficient-below}
-use Rattle.ps_term.proofs.Comparing.{by_order, cmp_is, eq_is}
+use Rattle.ps_term.proofs.Canonical.{IsBelowAll, IsBelowAll-canonical, IsBelow_trans, coefficient-below, coefficient-other}
+use Rattle.ps_term.proofs.Placing.{IsPlace, front_before, front_beyond, next_place, stands_here, stands_within}
 use Rattle.ps_term.proofs.Ring.{assoc, distribute, distribute_right, mul-zero, zero-mul}
 use Rattle.ps_term.proofs.Uniqueness.{pairs_value-unit_at, unit_at}
-use Rattle.ps_term.proofs.Variables.{var_eq-true, var_gt-var_eq, var_lt_or_gt}
+use Rattle.ps_term.proofs.Variables.{var_eq-true, var_eq_refl, var_gt-var_eq, var_lt-var_eq, var_lt_or_gt, var_lt_trans}
 
 -- ---- rising sums
 below_rising : (x : Var) (ps : List (Var × ℤ)) → IsBelow x ps → IsRising ps → IsBelowAll x ps
@@ -28,24 +29,65 @@ past_first : (x : Var) (p : Var × ℤ) (ps : List (Var × ℤ)) → IsRising (p
 past_first x p ps c e =
     coefficient-below x ps (subst (λ (y : Var). IsBelowAll y ps) (sym (var_eq-true x p.0 e)) (below_rising p.0 ps c.0 c.1))
 
--- ---- the map
-pub put_is : (x : Var) (n : ℤ) (ps : List (Var × ℤ)) → insert_entry var_cmp ps x n ≡ put x n ps
-put_is x n [] = refl
-put_is x n (p ∷ ps) =
-    ap (λ (o : Ordering). match_ordering o ((x, n) ∷ p ∷ ps) ((p.0, n) ∷ ps) (p ∷ insert_entry var_cmp ps x n)) (cmp_is x p.0) ∙ by_order (var_eq x p.0) (var_lt x p.0) ((x, n) ∷ p ∷ ps) ((p.0, n) ∷ ps) (p ∷ insert_entry var_cmp ps x n) (p ∷ put x n ps) (ap (λ (qs : List (Var × ℤ)). p ∷ qs) (put_is x n ps))
+-- ---- searches in the sums
+rises : (x : Var) (ps : List (Var × ℤ)) (j : ℕ) (d : Var × ℤ) → IsBelowAll x ps → j < length ps → var_lt x (get_or ps j d).0 ≡ true
+rises x [] j d b h = absurd (omega arith)
+rises x (p ∷ ps) zero d b h = b.0
+rises x (p ∷ ps) (suc j) d b h = rises x ps j d b.1 (omega arith)
 
-found_by : (x : Var) (p : Var × ℤ) (ps : List (Var × ℤ)) → IsRising (p ∷ ps) → found_sum x ps ≡ coefficient x ps → (t : Bool) → var_eq x p.0 ≡ t → unwrap_or (cond t (Some p.1) (lookup (is_at (var_cmp x)) ps)) (pos 0) ≡ ((if t then p.1 else pos 0) +ℤ coefficient x ps)
-found_by x p ps c rest true e = let none : coefficient x ps ≡ pos 0 = past_first x p ps c e in omega (arith, ints, none)
-found_by x p ps c rest false e = omega (arith, ints, rest)
+ascending : (ps : List (Var × ℤ)) → IsRising ps → (i j : ℕ) (d : Var × ℤ) → i < j → j < length ps → var_lt (get_or ps i d).0 (get_or ps j d).0 ≡ true
+ascending [] c i j d lt h = absurd (omega arith)
+ascending (p ∷ ps) c i zero d lt h = absurd (omega arith)
+ascending (p ∷ ps) c zero (suc j) d lt h = rises p.0 ps j d (below_rising p.0 ps c.0 c.1) (omega arith)
+ascending (p ∷ ps) c (suc i) (suc j) d lt h = ascending ps c.1 i j d (omega arith) (omega arith)
 
-pub found_is : (x : Var) (ps : List (Var × ℤ)) → IsRising ps → found_sum x ps ≡ coefficient x ps
-found_is x [] c = refl
-found_is x (p ∷ ps) c =
-    ap (λ (t : Bool). unwrap_or (cond t (Some p.1) (lookup (is_at (var_cmp x)) ps)) (pos 0)) (eq_is x p.0) ∙ found_by x p ps c (found_is x ps c.1) (var_eq x p.0) refl
+pub parted_rising : (x : Var) (ps : List (Var × ℤ)) → IsRising ps → IsPartitionedBy (λ p. var_lt p.0 x) ps
+parted_rising x [] c i j d le h up = absurd (omega arith)
+parted_rising x (p ∷ ps) c zero zero d le h up = up
+parted_rising x (p ∷ ps) c zero (suc j) d le h up =
+    var_lt_trans p.0 (get_or ps j d).0 x (rises p.0 ps j d (below_rising p.0 ps c.0 c.1) (omega arith)) up
+parted_rising x (p ∷ ps) c (suc i) zero d le h up = absurd (omega arith)
+parted_rising x (p ∷ ps) c (suc i) (suc j) d le h up = parted_rising x ps c.1 i j d (omega arith) (omega arith) up
+
+-- a place at which the variable stands parts the sums
+pub parts_standing : (x : Var) (ps : List (Var × ℤ)) (i : ℕ) → IsRising ps → is_first x (drop i ps) ≡ true → IsPartitionPoint (λ p. var_lt p.0 x ≡ true) (λ p. var_lt p.0 x ≡ false) ps i
+parts_standing x ps i c e = (before, beyond)
+  where
+    at : (d : Var × ℤ) → (get_or ps i d).0 ≡ x
+    at d = stands_here x ps i d e
+
+    below : (j k : ℕ) (d : Var × ℤ) → j < k → k < length ps → var_lt (get_or ps j d).0 (get_or ps k d).0 ≡ true
+    below j k d lt h = ascending ps c j k d lt h
+
+    before : (k : ℕ) (d : Var × ℤ) → 0 ≤ k → k < i → var_lt (get_or ps k d).0 x ≡ true
+    before k d z lt = subst (λ (y : Var). var_lt (get_or ps k d).0 y ≡ true) (at d) (below k i d lt (stands_within x ps i e))
+
+    beyond : (k : ℕ) (d : Var × ℤ) → i ≤ k → k < length ps → var_lt (get_or ps k d).0 x ≡ false
+    beyond k d le h = by_test (var_lt (get_or ps k d).0 x) refl
+      where
+        by_test : (t : Bool) → var_lt (get_or ps k d).0 x ≡ t → var_lt (get_or ps k d).0 x ≡ false
+        by_test false f = f
+        by_test true f =
+            let up : var_lt (get_or ps i d).0 x ≡ true = parted_rising x ps c i k d le h f in
+            absurd (false≢true (sym (var_lt-var_eq x x (subst (λ (y : Var). var_lt y x ≡ true) (at d) up)) ∙ var_eq_refl x))
+
+-- the sum of a variable is that at its place
+pub sum_at_place : (x : Var) (ps : List (Var × ℤ)) (i : ℕ) → IsRising ps → IsPlace x ps i → front_coefficient x (drop i ps) ≡ coefficient x ps
+sum_at_place x [] zero c w = refl
+sum_at_place x [] (suc i) c w = refl
+sum_at_place x (p ∷ ps) zero c w = at (var_eq x p.0) refl
+  where
+    at : (t : Bool) → var_eq x p.0 ≡ t → (if t then p.1 else pos 0) ≡ ((if t then p.1 else pos 0) +ℤ coefficient x ps)
+    at true e = let none : coefficient x ps ≡ pos 0 = past_first x p ps c e in omega (arith, ints, none)
+    at false e =
+        let none : coefficient x ps ≡ pos 0 = coefficient-below x ps (below_rising x ps (IsBelow_trans x p.0 ps (front_beyond x p ps w e) c.0) c.1) in
+        omega (arith, ints, none)
+sum_at_place x (p ∷ ps) (suc i) c w =
+    sum_at_place x ps i c.1 (next_place x p ps i w) ∙ sym (coefficient-other x p ps (var_gt-var_eq p.0 x (front_before x p ps i w)))
 
 -- ---- one sum is put
-below_with : (z x : Var) (n : ℤ) (p : Var × ℤ) (ps more : List (Var × ℤ)) (t u : Bool) → var_lt z x ≡ true → var_lt z p.0 ≡ true → IsBelow z (if t then (p.0, n) ∷ ps else (if u then (x, n) ∷ p ∷ ps else p ∷ more))
-below_with z x n p ps more true u h k = k
+below_with : (z x : Var) (n : ℤ) (p : Var × ℤ) (ps more : List (Var × ℤ)) (t u : Bool) → var_lt z x ≡ true → var_lt z p.0 ≡ true → IsBelow z (if t then (x, n) ∷ ps else (if u then (x, n) ∷ p ∷ ps else p ∷ more))
+below_with z x n p ps more true u h k = h
 below_with z x n p ps more false true h k = h
 below_with z x n p ps more false false h k = k
 
@@ -53,8 +95,8 @@ put_below : (z x : Var) (n : ℤ) (ps : List (Var × ℤ)) → var_lt z x ≡ tr
 put_below z x n [] h k = h
 put_below z x n (p ∷ ps) h k = below_with z x n p ps (put x n ps) (var_eq x p.0) (var_lt x p.0) h k
 
-rising_by : (x : Var) (n : ℤ) (p : Var × ℤ) (ps more : List (Var × ℤ)) (t u : Bool) → var_eq x p.0 ≡ t → var_lt x p.0 ≡ u → IsRising (p ∷ ps) → (var_lt p.0 x ≡ true → IsBelow p.0 more) → IsRising more → IsRising (if t then (p.0, n) ∷ ps else (if u then (x, n) ∷ p ∷ ps else p ∷ more))
-rising_by x n p ps more true u e f c b m = c
+rising_by : (x : Var) (n : ℤ) (p : Var × ℤ) (ps more : List (Var × ℤ)) (t u : Bool) → var_eq x p.0 ≡ t → var_lt x p.0 ≡ u → IsRising (p ∷ ps) → (var_lt p.0 x ≡ true → IsBelow p.0 more) → IsRising more → IsRising (if t then (x, n) ∷ ps else (if u then (x, n) ∷ p ∷ ps else p ∷ more))
+rising_by x n p ps more true u e f c b m = (subst (λ (y : Var). IsBelow y ps) (sym (var_eq-true x p.0 e)) c.0, c.1)
 rising_by x n p ps more false true e f c b m = (f, c)
 rising_by x n p ps more false false e f c b m = (b (var_lt_or_gt x p.0 e f), m)
 
@@ -64,13 +106,12 @@ put_rising x n (p ∷ ps) c =
     rising_by x n p ps (put x n ps) (var_eq x p.0) (var_lt x p.0) refl refl c (λ gt. put_below p.0 x n ps gt c.0) (put_rising x n ps c.1)
 
 value_by : (v : Var → ℤ) (x : Var) (n : ℤ) (p : Var × ℤ) (ps : List (Var × ℤ)) → IsRising (p ∷ ps) → (pairs_value v (put x n ps) +ℤ (coefficient x ps *ℤ v x)) ≡ (pairs_value v ps +ℤ (n *ℤ v x)) → (t u : Bool) → var_eq x p.0 ≡ t → var_lt x p.0 ≡ u
-    → (pairs_value v (if t then (p.0, n) ∷ ps else (if u then (x, n) ∷ p ∷ ps else p ∷ put x n ps)) +ℤ (((if t then p.1 else pos 0) +ℤ coefficient x ps) *ℤ v x)) ≡ (pairs_value v (p ∷ ps) +ℤ (n *ℤ v x))
+    → (pairs_value v (if t then (x, n) ∷ ps else (if u then (x, n) ∷ p ∷ ps else p ∷ put x n ps)) +ℤ (((if t then p.1 else pos 0) +ℤ coefficient x ps) *ℤ v x)) ≡ (pairs_value v (p ∷ ps) +ℤ (n *ℤ v x))
 value_by v x n p ps c rest true u e f =
     let here : x ≡ p.0 = var_eq-true x p.0 e in
     let none : (coefficient x ps *ℤ v x) ≡ pos 0 = ap (λ (z : ℤ). z *ℤ v x) (past_first x p ps c e) ∙ zero-mul (v x) in
-    let new : (n *ℤ v x) ≡ (n *ℤ v p.0) = ap (λ (y : Var). n *ℤ v y) here in
     let old : (p.1 *ℤ v x) ≡ (p.1 *ℤ v p.0) = ap (λ (y : Var). p.1 *ℤ v y) here in
-    omega (arith, ints, none, new, old, distribute_right p.1 (coefficient x ps) (v x))
+    omega (arith, ints, none, old, distribute_right p.1 (coefficient x ps) (v x))
 value_by v x n p ps c rest false true e f =
     let below : coefficient x ps ≡ pos 0 = coefficient-below x ps (below_rising x ps (IsBelow_trans x p.0 ps f c.0) c.1) in
     let none : (coefficient x ps *ℤ v x) ≡ pos 0 = ap (λ (z : ℤ). z *ℤ v x) below ∙ zero-mul (v x) in

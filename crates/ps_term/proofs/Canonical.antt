@@ -6,7 +6,7 @@ use Rattle.std.proofs.lemmas.Bool.{false≢true}
 use Rattle.ps_term.specs.declared.var.Var.{Var}
 use Rattle.ps_term.specs.Var.{var_lt, var_eq}
 use Rattle.ps_term.specs.Pairs.{IsBelow, IsCanonical, pairs_value, coefficient}
-use Rattle.ps_term.specs.Front.{front_coefficient, after_front}
+use Rattle.ps_term.specs.inner.Front.{front_coefficient, after_front}
 use Rattle.ps_term.proofs.Ring.{zero-mul}
 use Rattle.ps_term.proofs.Variables.{var_eq-true, var_lt-var_eq, var_gt-var_eq, var_lt_trans}
 

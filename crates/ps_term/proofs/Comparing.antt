@@ -1,7 +1,7 @@
 -- The derived order of variables is that of the tests.
-use Rattle.std.proofs.Common.{◌≡◌, Bool, true, false, if◌then◌else◌, refl, ap, ◌∙◌, arith}
+use Rattle.std.proofs.Common.{◌≡◌, Bool, true, false, if◌then◌else◌, refl, arith}
 use Rattle.std.specs.declared.cmp.Ordering.TheVariants.{Less, Equal, Greater}
-use Rattle.std.specs.Ordering.{is_eq, match_ordering}
+use Rattle.std.specs.Ordering.{match_ordering}
 use Rattle.std.proofs.lemmas.Bool.Decides.{nat_tests}
 use Rattle.ps_term.specs.contracts.var.VarOrd.TheImpl.{cmp-value}
 use Rattle.ps_term.specs.declared.var.Var.{Var}
@@ -23,11 +23,3 @@ pub by_order : {X : Type 0} (same less : Bool) (l e g h : X) → g ≡ h → mat
 by_order true less l e g h i = refl
 by_order false true l e g h i = refl
 by_order false false l e g h i = i
-
-same_test : (same less : Bool) → is_eq (if same then Equal else (if less then Less else Greater)) ≡ same
-same_test true less = refl
-same_test false true = refl
-same_test false false = refl
-
-pub eq_is : (a b : Var) → is_eq (cmp-value.it a b) ≡ var_eq a b
-eq_is a b = ap is_eq (cmp_is a b) ∙ same_test (var_eq a b) (var_lt a b)

@@ -7,7 +7,8 @@ use Rattle.std.proofs.lemmas.List.Elements.{All-push, all_zip_more, All-head, Al
 use Rattle.std.proofs.lemmas.Nat.Gcd.{dvd_trans, dvd-zero, mod-eq-zero_of_dvd}
 use Rattle.std.proofs.Math.Nat.{eq-one_of_dvd-one, eq-zero_of_zero-dvd, mul-dvd-mul_left, dvd_of_mul-dvd-mul_left}
 use Rattle.ps_term.specs.declared.var.Var.{Var}
-use Rattle.ps_term.specs.Factors.{AreDivided, DividesAll, IsCommonFactor}
+use Rattle.ps_term.specs.Factors.{AreDivided, DividesAll}
+use Rattle.ps_term.specs.inner.Common.{IsCommonFactor}
 use Rattle.ps_term.specs.Pairs.{IsBelow, IsCanonical, coefficient, pairs_value}
 use Rattle.ps_term.specs.Tightened.{IsTightened}
 use Rattle.ps_term.specs.Var.{var_eq}

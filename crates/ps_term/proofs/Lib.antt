@@ -4,10 +4,10 @@ pub mod Ceilings
 pub mod Comparing
 pub mod Divisions
 pub mod ExactTerms
-mod Examples
 pub mod Lookups
 pub mod Merging
 pub mod Negations
+pub mod Placing
 pub mod Ring
 pub mod Searching
 pub mod Substitutions

@@ -7,8 +7,8 @@ use Rattle.std.proofs.lemmas.Int.{ints}
 use Rattle.std.proofs.lemmas.List.Elements.{recursion_from_All, All-from_recursion}
 use Rattle.ps_term.specs.declared.var.Var.{Var}
 use Rattle.ps_term.specs.Var.{var_lt, var_eq}
-use Rattle.ps_term.specs.Front.{first_variable, front_coefficient}
-use Rattle.ps_term.specs.Bound.{is_within, up_to}
+use Rattle.ps_term.specs.inner.Front.{first_variable, front_coefficient}
+use Rattle.ps_term.specs.inner.Bound.{is_within, up_to}
 use Rattle.ps_term.specs.declared.bound.Bound.{Bound}
 use Rattle.ps_term.specs.declared.bound.Bound.TheVariants.{Before, UpTo, Nothing}
 use Rattle.ps_term.specs.Lookup.{is_up_to, IsAfter, IsBefore}

@@ -11,7 +11,7 @@ use Rattle.std.proofs.lemmas.Option.{same_Some, none-some}
 use Rattle.ps_term.specs.declared.var.Var.{Var}
 use Rattle.ps_term.specs.Var.{var_lt, var_eq}
 use Rattle.ps_term.specs.Pairs.{IsBelow, IsCanonical, pairs_value, coefficient}
-use Rattle.ps_term.specs.Front.{least_front, front_coefficient, after_front, kept_pair}
+use Rattle.ps_term.specs.inner.Front.{least_front, front_coefficient, after_front, kept_pair}
 use Rattle.ps_term.specs.Sums.{ScaledFits, PairsFit}
 use Rattle.ps_term.proofs.Ring.{distribute, distribute_right, assoc, mul-zero, zero-mul}
 use Rattle.ps_term.proofs.Variables.{var_eq-true, var_eq_refl, var_lt_or_gt}

@@ -4,7 +4,7 @@ use Rattle.std.specs.List.Sorted.{IsPartitionedBy, IsPartitionPoint}
 use Rattle.std.proofs.lemmas.Bool.{true≢false, cases_eq}
 use Rattle.std.proofs.lemmas.Bool.Decides.{nat_tests}
 use Rattle.std.proofs.lemmas.List.{drop_all, get_or_default}
-use Rattle.ps_term.specs.Named.{AreRising}
+use Rattle.ps_term.specs.inner.Named.{AreRising}
 use Rattle.ps_term.specs.Substitution.{replacement}
 use Rattle.ps_term.specs.Term.{variable_term}
 use Rattle.ps_term.specs.Var.{var_eq, var_lt}

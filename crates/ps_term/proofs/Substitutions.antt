@@ -5,7 +5,7 @@ use Rattle.std.proofs.lemmas.Int.{ints}
 use Rattle.std.proofs.lemmas.List.{drop_more}
 use Rattle.ps_term.specs.declared.term.Term.{Term}
 use Rattle.ps_term.specs.declared.var.Var.{Var}
-use Rattle.ps_term.specs.Accumulated.{IsRising}
+use Rattle.ps_term.specs.inner.Accumulated.{IsRising}
 use Rattle.ps_term.specs.Pairs.{coefficient, pairs_value}
 use Rattle.ps_term.specs.Substitution.{replacement, values_after, SubstitutionFitsFrom}
 use Rattle.ps_term.specs.Sums.{PairsFit, ScaledFits, TermFits}

@@ -1,5 +1,6 @@
 -- The order of variables is a strict linear order, and the test of equality decides equality.
-use Rattle.std.proofs.Common.{◌≡◌, true, false, refl, arith}
+use Rattle.std.proofs.Common.{◌≡◌, Bool, true, false, refl, sym, ap, ◌∙◌, arith}
+use Rattle.std.proofs.lemmas.Bool.{false≢true}
 use Rattle.std.proofs.lemmas.Bool.Decides.{nat_tests}
 use Rattle.ps_term.specs.declared.var.Var.{Var}
 use Rattle.ps_term.specs.declared.var.Var.TheVariants.{Global, Local, Havoc}
@@ -20,6 +21,15 @@ pub var_eq_refl : (a : Var) → var_eq a a ≡ true
 var_eq_refl (Global m) = grind (arith, nat_tests)
 var_eq_refl (Local s m) = grind (arith, nat_tests)
 var_eq_refl (Havoc m) = grind (arith, nat_tests)
+
+pub var_eq_sym : (a b : Var) → var_eq a b ≡ var_eq b a
+var_eq_sym a b = by_test (var_eq a b) refl (var_eq b a) refl
+  where
+    by_test : (t : Bool) → var_eq a b ≡ t → (u : Bool) → var_eq b a ≡ u → var_eq a b ≡ var_eq b a
+    by_test true e true f = e ∙ sym f
+    by_test false e false f = e ∙ sym f
+    by_test true e false f = absurd (false≢true (sym f ∙ (ap (λ (c : Var). var_eq b c) (var_eq-true a b e) ∙ var_eq_refl b)))
+    by_test false e true f = absurd (false≢true (sym e ∙ (ap (λ (c : Var). var_eq a c) (var_eq-true b a f) ∙ var_eq_refl a)))
 
 pub var_lt-var_eq : (a b : Var) → var_lt a b ≡ true → var_eq a b ≡ false
 var_lt-var_eq (Global m) (Global n) e = grind (arith, nat_tests)

@@ -8,11 +8,6 @@ use Rattle.ps_term.specs.declared.var.Var.{Var}
 abbrev pub DividesAll : ℕ → List (Var × ℤ) → Type 0
 DividesAll d ps = All (λ p. d ∣ unsigned_abs p.1) ps
 
--- the number divides each coefficient, and each number that does divides it
-pub record IsCommonFactor (ps : List (Var × ℤ)) (factor : ℕ) : Type 0 where
-  pub divides : DividesAll factor ps
-  pub greatest : (d : ℕ) → DividesAll d ps → d ∣ factor
-
 -- the same variables in the same order, with the factor taken out of the coefficients
 abbrev pub AreDivided : ℕ → List (Var × ℤ) → List (Var × ℤ) → Type 0
 AreDivided factor = AllZip (λ p q. (q.0 ≡ p.0) × (p.1 ≡ (pos factor *ℤ q.1)))

@@ -1,13 +1,12 @@
-pub mod Accumulated
-pub mod Bound
 pub mod Evaluation
+pub mod Examples
 pub mod Exact
 pub mod Factors
-pub mod Front
+pub mod inner
 pub mod Lookup
-pub mod Named
 pub mod Negation
 pub mod Pairs
+pub mod Placed
 pub mod Row
 pub mod Substitution
 pub mod Sums

@@ -1,6 +1,6 @@
 // How far a search in sorted pairs goes.
 ghost use Rattle.std.specs.Prelude.{◌≡◌};
-ghost use Rattle.ps_term.specs.Bound.{is_within};
+ghost use Rattle.ps_term.specs.inner.Bound.{is_within};
 
 use crate::var::{Var, is_before};
 

@@ -1,6 +1,6 @@
 // The front of lists of pairs.
 ghost use Rattle.std.specs.Prelude.{◌≡◌, ◌≤◌, drop, length};
-ghost use Rattle.ps_term.specs.Front.{after_front, first_variable, front_coefficient};
+ghost use Rattle.ps_term.specs.inner.Front.{after_front, first_variable, front_coefficient};
 
 use crate::var::{Var, is_same};
 

@@ -19,6 +19,7 @@ mod term;
 mod tightening;
 mod var;
 mod whole;
+pub mod worked;
 
 pub use negation::negate;
 pub use pairs::Pairs;

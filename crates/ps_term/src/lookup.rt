@@ -1,7 +1,7 @@
 // Look-ups in sorted pairs, each by a search for a place.
 ghost use Rattle.std.specs.Prelude.{◌≡◌, ◌≢◌, pos, Option, Some, IfSome};
 ghost use Rattle.ps_term.specs.declared.var.Var.{Var};
-ghost use Rattle.ps_term.specs.Bound.{up_to};
+ghost use Rattle.ps_term.specs.inner.Bound.{up_to};
 ghost use Rattle.ps_term.specs.Lookup.{IsAfter, IsBefore};
 ghost use Rattle.ps_term.specs.Pairs.{coefficient, IsCanonical};
 

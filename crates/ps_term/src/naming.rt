@@ -1,6 +1,6 @@
 // Which term a list of variables with terms gives for a variable.
 ghost use Rattle.std.specs.Prelude.{◌≡◌, IsTrue, MatchOption};
-ghost use Rattle.ps_term.specs.Named.{AreRising};
+ghost use Rattle.ps_term.specs.inner.Named.{AreRising};
 ghost use Rattle.ps_term.specs.Substitution.{replacement};
 ghost use Rattle.ps_term.specs.Term.{variable_term};
 ghost use Rattle.ps_term.specs.Var.{var_lt};

@@ -2,7 +2,7 @@
 ghost use Rattle.std.specs.Prelude.{◌≡◌, ℤ, ℕ, ◌-◌, ◌<◌, ◌≤◌, true, false, length, IsTrue, slice_index_or};
 ghost use Rattle.std.specs.List.Sorted.{IsPartitionPoint};
 ghost use Rattle.ps_term.specs.declared.var.Var.{Var};
-ghost use Rattle.ps_term.specs.Bound.{is_within};
+ghost use Rattle.ps_term.specs.inner.Bound.{is_within};
 ghost use Rattle.ps_term.specs.Pairs.{IsCanonical};
 
 use crate::bound::{Bound, is_within};

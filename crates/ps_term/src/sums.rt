@@ -2,7 +2,7 @@
 ghost use Rattle.std.specs.Prelude.{◌≡◌, ◌+ℤ◌, ◌*ℤ◌, ◌++◌, FitsSigned, SomeIff, IfOk, OnOk, IsErrOf, ℤ};
 ghost use Rattle.std.specs.Int.{w128};
 ghost use Rattle.ps_term.specs.declared.var.Var.{Var};
-ghost use Rattle.ps_term.specs.Front.{front_coefficient, kept_pair, least_front};
+ghost use Rattle.ps_term.specs.inner.Front.{front_coefficient, kept_pair, least_front};
 ghost use Rattle.ps_term.specs.Pairs.{coefficient, IsCanonical, pairs_value};
 ghost use Rattle.ps_term.specs.Sums.{PairsFit, ScaledFits, TermFits};
 ghost use Rattle.ps_term.specs.Term.{value};

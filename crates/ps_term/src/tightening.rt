@@ -1,7 +1,8 @@
 //! Rows divided by what their coefficients have in common.
 ghost use Rattle.std.specs.Prelude.{◌≡◌, ◌≢◌, ◌≤◌, ◌↔◌, [], ℤ, IfOk};
 ghost use Rattle.ps_term.specs.declared.var.Var.{Var};
-ghost use Rattle.ps_term.specs.Factors.{AreDivided, DividesAll, IsCommonFactor};
+ghost use Rattle.ps_term.specs.Factors.{AreDivided, DividesAll};
+ghost use Rattle.ps_term.specs.inner.Common.{IsCommonFactor};
 ghost use Rattle.ps_term.specs.Pairs.{IsCanonical};
 ghost use Rattle.ps_term.specs.Row.{Holds};
 ghost use Rattle.ps_term.specs.Tightened.{IsTightened};

@@ -19,9 +19,9 @@ OpRunFits v (Assign x t) = EvaluationFits (value_at v) t
 OpRunFits v (Havoc x) = Unit {0}
 
 -- the op isn't an assume that fails
-abbrev pub goes_on : Values → Op → Bool
-goes_on v (Assume r) = holds (value_at v) r
-goes_on v _ = true
+abbrev pub is_passed : Values → Op → Bool
+is_passed v (Assume r) = holds (value_at v) r
+is_passed v _ = true
 
 -- the values after the op, with this havoc value
 abbrev pub after_op : Values → Op → ℤ → Values

@@ -2,9 +2,10 @@ use Rattle.std.proofs.Common.{◌≡◌, List, rules, sym, subst, ◌∙◌, IsT
 use Rattle.std.specs.Prelude.{insert}
 use Rattle.ps_term.specs.declared.term.Term.{Term}
 use Rattle.ps_term.specs.declared.var.Var.{Var}
+use Rattle.ps_term.proofs.Placing.{set_found, set_missing}
 use Rattle.ps_command.specs.Assignments.{ascends}
 use Rattle.ps_command.specs.Form.{with_term}
-use Rattle.ps_command.proofs.Places.{ascends_set, set_found, set_missing}
+use Rattle.ps_command.proofs.Places.{ascends_set}
 use Rattle.ps_command.proofs.look_up.set_term.Goals as goal
 
 pub returns-then-stands_at-clause-set : goal.returns-then-stands_at-clause-set

@@ -1,7 +1,7 @@
 use Rattle.std.proofs.Common.{FitsSigned, rules, ap, ◌∙◌}
 use Rattle.std.specs.Int.{w128}
 use Rattle.std.proofs.lemmas.Int.{to_z-of_z}
-use Rattle.ps_term.specs.Front.{front_coefficient}
+use Rattle.ps_term.specs.inner.Front.{front_coefficient}
 use Rattle.ps_term.proofs.Lookups.{coefficient-searched}
 use Rattle.ps_term.proofs.lookup.coefficient_of.Goals as goal
 

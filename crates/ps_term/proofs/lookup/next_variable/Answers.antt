@@ -1,6 +1,6 @@
 use Rattle.std.proofs.Common.{◌≢◌, pos, Option, IfSome, subst, sym, ap, ◌∙◌}
 use Rattle.ps_term.specs.declared.var.Var.{Var}
-use Rattle.ps_term.specs.Front.{first_variable}
+use Rattle.ps_term.specs.inner.Front.{first_variable}
 use Rattle.ps_term.specs.Lookup.{IsAfter, IsBefore}
 use Rattle.ps_term.specs.Pairs.{coefficient}
 use Rattle.ps_term.proofs.Lookups.{point-up_to, skipped-searched, stands-searched}

@@ -1,6 +1,6 @@
 use Rattle.std.proofs.Common.{rules, of_calls, refl}
 use Rattle.std.proofs.lemmas.Fn.{always_returns_same}
-use Rattle.ps_term.specs.Bound.{is_within}
+use Rattle.ps_term.specs.inner.Bound.{is_within}
 use Rattle.ps_term.proofs.Lookups.{parted-within, parts-here}
 use Rattle.ps_term.proofs.place.place_of.Goals as goal
 

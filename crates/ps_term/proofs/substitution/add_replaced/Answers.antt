@@ -8,7 +8,7 @@ use Rattle.ps_term.proofs.substitution.add_replaced.Goals as goal
 
 pub returns-in-Some-clause-past : goal.returns-in-Some-clause-past
 returns-in-Some-clause-past c =
-    let sums = c.args.sums.now.entries in
+    let sums = c.args.kept.now.sums.items in
     let by : FitsSigned w128 c.args.by = c.ranges.by in
     let constant : FitsSigned w128 c.args.constant = c.ranges.constant in
     let last : FitsSigned w128 c.in-Some.term.now.constant = search rules in
@@ -18,7 +18,7 @@ returns-in-Some-clause-past c =
 
 pub returns-in-None-clause-past : goal.returns-in-None-clause-past
 returns-in-None-clause-past c =
-    let sums = c.args.sums.now.entries in
+    let sums = c.args.kept.now.sums.items in
     let by : FitsSigned w128 c.args.by = c.ranges.by in
     let constant : FitsSigned w128 c.args.constant = c.ranges.constant in
     λ past fits.

@@ -17,7 +17,7 @@ moved e f h = let same : e ≡ f = cc in ap (λ (x : TermEnd). (let r : Result �
 
 pub loop-pair-init : goal.loop-pair-init
 loop-pair-init c =
-    Substituted-empty c.args.after.now c.args.a.now.pairs c.args.a.now.constant c.new-sums.result.entries c.as_slice-pair-items.result.now c.new-sums.ensures.empty c.as_slice-pair-items.ensures.list
+    Substituted-empty c.args.after.now c.args.a.now.pairs c.args.a.now.constant c.new-kept.result.sums.items c.as_slice-pair-items.result.now c.new-kept.ensures c.as_slice-pair-items.ensures.list
 
 pub loop-pair-preserved : goal.loop-pair-preserved
 loop-pair-preserved c =
@@ -27,7 +27,7 @@ loop-pair-preserved c =
     let fits : FitsSigned w128 (get_or ps i d).1 = search rules in
     let new : FitsSigned w128 c.in_ok-constant.constant = search rules in
     let is = c.in_ok-constant.ensures in
-    rw to_z-of_z (Substituted-added c.args.after.now c.args.a.now.pairs ps c.args.a.now.constant c.loop-pair.sums.entries c.add_replaced.new.sums.entries (to_z w128 c.loop-pair.constant-bits) c.in_ok-constant.constant i d c.loop-pair.invariant c.loop-pair-test.true is.rising (λ v. simp to_z-of_z at (is.worth v)) (simp to_z-of_z at is.constant) (simp to_z-of_z at is.pairs_fit) (simp to_z-of_z at is.constant_fits))
+    rw to_z-of_z (Substituted-added c.args.after.now c.args.a.now.pairs ps c.args.a.now.constant c.loop-pair.kept.sums.items c.add_replaced.new.kept.sums.items (to_z w128 c.loop-pair.constant-bits) c.in_ok-constant.constant i d c.loop-pair.invariant c.loop-pair-test.true is.rising (λ v. simp to_z-of_z at (is.worth v)) (simp to_z-of_z at is.constant) (simp to_z-of_z at is.pairs_fit) (simp to_z-of_z at is.constant_fits))
 
 pub returns-in_err-constant-clause-past : goal.returns-in_err-constant-clause-past
 returns-in_err-constant-clause-past c =
@@ -36,7 +36,7 @@ returns-in_err-constant-clause-past c =
     let d : Var × ℤ = (Global 0, pos 0) in
     let fits : FitsSigned w128 (get_or ps i d).1 = search rules in
     let end = err_from_is_err_and c.from_residual.result c.from_residual.ensures.1 in
-    rw (end.1, end.2) (λ past. Substituted-refused c.args.after.now c.args.a.now.pairs ps c.args.a.now.constant (sum_of c.loop-pair.sums.entries (to_z w128 c.loop-pair.constant-bits)) i d c.loop-pair.invariant c.loop-pair-test.true (simp to_z-of_z at (c.in_err-constant.ensures.past (moved c.in_err-constant.field-0.0 Past128 past))))
+    rw (end.1, end.2) (λ past. Substituted-refused c.args.after.now c.args.a.now.pairs ps c.args.a.now.constant (sum_of c.loop-pair.kept.sums.items (to_z w128 c.loop-pair.constant-bits)) i d c.loop-pair.invariant c.loop-pair-test.true (simp to_z-of_z at (c.in_err-constant.ensures.past (moved c.in_err-constant.field-0.0 Past128 past))))
 
 pub returns-clause-worth : goal.returns-clause-worth
 returns-clause-worth c =
@@ -49,5 +49,5 @@ returns-clause-worth c =
     let n = to_z w128 (of_z w128 a.constant) in
     let is : FitsSigned w128 (m +ℤ n) × (c.in_ok-whole.whole ≡ (m +ℤ n)) = subst (λ (o : Option ℤ). SomeIff o (FitsSigned w128 (m +ℤ n)) (m +ℤ n)) c.in_ok-whole.ensures.ok_part c.checked_add.ensures in
     let whole_is = is.1 in
-    let state : Substituted c.args.after.now a.pairs a.constant (sum_of c.loop-pair.sums.entries m) [] = subst (λ (qs : List (Var × ℤ)). Substituted c.args.after.now a.pairs a.constant (sum_of c.loop-pair.sums.entries m) qs) (drop_all i ps c.loop-pair-test.false) c.loop-pair.invariant in
-    λ values. rw to_z-of_z (Substituted-worth c.args.after.now a.pairs a.constant c.loop-pair.sums.entries m c.in_ok-pairs.pairs c.in_ok-whole.whole state c.in_ok-pairs.ensures.worth (simp to_z-of_z at whole_is) values)
+    let state : Substituted c.args.after.now a.pairs a.constant (sum_of c.loop-pair.kept.sums.items m) [] = subst (λ (qs : List (Var × ℤ)). Substituted c.args.after.now a.pairs a.constant (sum_of c.loop-pair.kept.sums.items m) qs) (drop_all i ps c.loop-pair-test.false) c.loop-pair.invariant in
+    λ values. rw to_z-of_z (Substituted-worth c.args.after.now a.pairs a.constant c.loop-pair.kept.sums.items m c.in_ok-pairs.pairs c.in_ok-whole.whole state c.in_ok-pairs.ensures.worth (simp to_z-of_z at whole_is) values)

@@ -1,7 +1,7 @@
 use Rattle.std.proofs.Common.{◌≡◌, ◌+ℤ◌, ◌*ℤ◌, ◌++◌, FitsSigned, ℤ, Option, SomeIff, to_z, of_z, rules, sym, subst, ◌∙◌}
 use Rattle.std.specs.Int.{w128}
 use Rattle.std.proofs.lemmas.Int.{to_z-of_z}
-use Rattle.ps_term.specs.Front.{front_coefficient, kept_pair}
+use Rattle.ps_term.specs.inner.Front.{front_coefficient, kept_pair}
 use Rattle.ps_term.specs.Sums.{PairsFit, ScaledFits}
 use Rattle.ps_term.proofs.Merging.{Merged-turn, Merged-end, Merged-refused, MergedAll}
 use Rattle.ps_term.proofs.sums.merged.Goals as goal

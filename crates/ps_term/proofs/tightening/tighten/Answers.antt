@@ -1,7 +1,8 @@
 use Rattle.std.proofs.Common.{◌≡◌, ◌≢◌, [], ℕ, ℤ, List, subst, ◌∙◌}
 use Rattle.std.proofs.lemmas.Result.{IfOk-weaker}
 use Rattle.ps_term.specs.declared.var.Var.{Var}
-use Rattle.ps_term.specs.Factors.{DividesAll, IsCommonFactor}
+use Rattle.ps_term.specs.Factors.{DividesAll}
+use Rattle.ps_term.specs.inner.Common.{IsCommonFactor}
 use Rattle.ps_term.specs.Tightened.{IsTightened}
 use Rattle.ps_term.proofs.Divisions.{zero_factor, factor_of_none}
 use Rattle.ps_term.proofs.tightening.tighten.Goals as goal

@@ -1,5 +1,5 @@
 -- The front of lists of pairs, as look-ups and the merge of two lists take it.
-use Rattle.std.specs.Prelude.{ℤ, pos, List, [], ◌∷◌, Option, Some, None, if◌then◌else◌}
+use Rattle.std.specs.Prelude.{ℤ, pos, Bool, false, List, [], ◌∷◌, Option, Some, None, if◌then◌else◌}
 use Rattle.std.specs.Ordering.{int_eq}
 use Rattle.ps_term.specs.declared.var.Var.{Var}
 use Rattle.ps_term.specs.Var.{var_lt, var_eq}
@@ -29,3 +29,8 @@ after_front x (p ∷ ps) = if var_eq x p.0 then ps else p ∷ ps
 -- the pair of the variable and the coefficient, or none where that is 0
 abbrev pub kept_pair : Var → ℤ → List (Var × ℤ)
 kept_pair x n = if int_eq n (pos 0) then [] else (x, n) ∷ []
+
+-- the first pair, if there is one, is the variable's
+abbrev pub is_first : {A : Type 0} → Var → List (Var × A) → Bool
+is_first x [] = false
+is_first x (p ∷ ps) = var_eq x p.0
