@@ -5,6 +5,7 @@ ghost use Rattle.ps_term.specs.Row.{Holds};
 ghost use Rattle.ps_farkas.specs.Refutes.{AllSumsFit, Refutes, VariablesCancel, VariablesFit};
 
 use crate::past::Past128;
+use crate::row_lists::RowLists;
 use crate::visit::visit;
 use crate::walk::first_variable;
 use crate::weigh::constant_total;
@@ -27,6 +28,19 @@ pub fn refutes(rows: &[Row], lambda: &[u128]) -> Result<bool, Past128>
     ensures past { IsErr result
         → (length lambda.now ≡ length rows.now) × ¬ AllSumsFit rows.now lambda.now }
 {
+    refutes_lists(&RowLists::new(&[], &[], rows), lambda)
+}
+
+/// The same of rows that stand in several lists.
+pub fn refutes_lists(rows: &RowLists<'_>, lambda: &[u128]) -> Result<bool, Past128>
+    ensures answer { IfOk result (λ yes. IsTrue yes ↔ Refutes rows.now lambda.now) }
+    ensures sound { IfOk result (λ yes. IsTrue yes
+        → (values : Var → ℤ) → ¬ All (Holds values) rows.now) }
+    ensures fits { OnOk result
+        (length lambda.now ≡ length rows.now → AllSumsFit rows.now lambda.now) }
+    ensures past { IsErr result
+        → (length lambda.now ≡ length rows.now) × ¬ AllSumsFit rows.now lambda.now }
+{
     if lambda.len() != rows.len() {
         return Ok(false);
     }
@@ -36,7 +50,7 @@ pub fn refutes(rows: &[Row], lambda: &[u128]) -> Result<bool, Past128>
 }
 
 // Whether the sum of each variable is 0, or `None` where a product or a partial sum lies outside `i128`.
-fn all_cancel(rows: &[Row], lambda: &[u128]) -> Option<bool>
+fn all_cancel(rows: &RowLists<'_>, lambda: &[u128]) -> Option<bool>
     requires { length lambda.now ≡ length rows.now }
     ensures answer { IfSome result (λ yes. IsTrue yes ↔ VariablesCancel rows.now lambda.now) }
     ensures fits { OnSome result (VariablesFit rows.now lambda.now) }
