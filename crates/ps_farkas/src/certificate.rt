@@ -18,7 +18,7 @@ use ps_term::Row;
 ///
 /// The call takes no memory. Its time is at most that of the number of different variables times that of
 /// the rows, each with a binary search in its pairs; where rows have like variables the searches take
-/// constant time. Rows of variables of their own are the slowest: 1,024 of them with 64 take seconds.
+/// constant time. Rows of variables of their own are the slowest: 1,024 rows of 64 such variables take seconds.
 pub fn refutes(rows: &[Row], lambda: &[u128]) -> Result<bool, Past128>
     ensures answer { IfOk result (λ yes. IsTrue yes ↔ Refutes rows.now lambda.now) }
     ensures sound { IfOk result (λ yes. IsTrue yes
