@@ -1,5 +1,5 @@
 //! The check of Farkas multipliers.
-ghost use Rattle.std.specs.Prelude.{◌≡◌, ◌≢◌, ◌↔◌, ℤ, pos, length, All, IfNone, IfOk, IfSome, IsErr, IsTrue, OnOk, OnSome};
+ghost use Rattle.std.specs.Prelude.{◌≡◌, ◌↔◌, ℤ, length, All, IfNone, IfOk, IfSome, IsErr, IsTrue, OnOk, OnSome};
 ghost use Rattle.ps_term.specs.declared.var.Var.{Var};
 ghost use Rattle.ps_term.specs.Row.{Holds};
 ghost use Rattle.ps_farkas.specs.Refutes.{AllSumsFit, Refutes, VariablesCancel, VariablesFit};

@@ -1,5 +1,5 @@
 //! The check of an entry.
-ghost use Rattle.std.specs.Prelude.{◌≡◌, IfErr, MatchOption, OnOk};
+ghost use Rattle.std.specs.Prelude.{IfErr, MatchOption, OnOk};
 ghost use Rattle.ps_triple.specs.Ends.{EndsBy};
 ghost use Rattle.ps_triple.specs.Faults.{EntryHolds, IsFirstFault};
 ghost use Rattle.ps_triple.specs.Short.{AreShort};

@@ -1,5 +1,5 @@
 // The rows of entries.
-ghost use Rattle.std.specs.Prelude.{◌≡◌, ◌++◌, ◌<◌, ◌≤◌, ◌^◌, ◌+◌, ◌∷◌, [], All, IfOk, OnOk, IsErrOf, length, map};
+ghost use Rattle.std.specs.Prelude.{◌≡◌, ◌++◌, ◌<◌, ◌+◌, ◌∷◌, [], All, IfOk, OnOk, IsErrOf, length, map};
 ghost use Rattle.ps_atom.specs.Atoms.{at_threads};
 ghost use Rattle.ps_term.specs.Negation.{NegationFits};
 ghost use Rattle.ps_term.specs.Substitution.{SubstitutionFits};

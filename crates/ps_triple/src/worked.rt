@@ -3,12 +3,11 @@ ghost use Rattle.std.specs.Prelude.{◌≡◌, ◌^◌, ◌-◌, pos, negsuc, []
 ghost use Rattle.ps_farkas.specs.Examples.{bare_row, row_on_x};
 ghost use Rattle.ps_command.specs.Examples.{row};
 ghost use Rattle.ps_term.specs.declared.var.Var.TheVariants.{Local};
-ghost use Rattle.ps_triple.specs.Entries.{AreAlike};
 ghost use Rattle.ps_triple.specs.Examples.{at_least_0, begins, counter_entries, counter_predicates, counter_setting, keeps, leads, local_predicates, local_setting};
 ghost use Rattle.ps_triple.specs.Faults.{EntryHolds, IsFirstFault};
 ghost use Rattle.ps_triple.specs.Fits.{entry_rows};
 ghost use Rattle.ps_triple.specs.declared.entry.Entry.{Entry};
-ghost use Rattle.ps_triple.specs.declared.entry_end.EntryFault.TheVariants.{BadNumber, FreeThread, Length, Past128, Sum, ThreadTwice};
+ghost use Rattle.ps_triple.specs.declared.entry_end.EntryFault.TheVariants.{BadNumber, FreeThread, Length, Past128, Sum};
 
 /// The rows of entries: that `x >= 0` holds at first; that `x := x + 1` leads from `x >= 0` to `x >= 1`; that no run of
 /// `assume x <= 0` begins where `x >= 1`.
