@@ -8,7 +8,7 @@ use Rattle.ps_triple.specs.declared.entry.Entry.{Entry}
 use Rattle.ps_triple.specs.declared.entry.Entry.TheVariants.{Triple as OfTriple, Initial as OfInitial}
 use Rattle.ps_triple.specs.declared.triple.Triple.{Triple}
 use Rattle.ps_basis.specs.Demands.{IsGiven}
-use Rattle.ps_basis.specs.Examples.{bare, counter_entries}
+use Rattle.ps_triple.specs.Examples.{bare, counter_entries}
 use Rattle.ps_basis.specs.Space.{listed, sequence, IsProved}
 use Rattle.ps_basis.proofs.Rules.{rules_are_demands}
 

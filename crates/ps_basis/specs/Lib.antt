@@ -1,6 +1,5 @@
 pub mod Basis
 pub mod Demands
-pub mod Examples
 pub mod Feasible
 pub mod inner
 pub mod Shown

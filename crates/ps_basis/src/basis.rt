@@ -1,8 +1,10 @@
 //! The list of entries that grows.
 ghost use Rattle.std.specs.Prelude.{◌≡◌, ◌<◌, ◌≤◌, ◌+◌, ◌++◌, ◌∷◌, [], IfErr, IfOk, OnErr, OnOk, length, take};
 ghost use Rattle.ps_basis.specs.Basis.{Growing};
+ghost use Rattle.ps_basis.specs.declared.limits.TheConstants.{MOST_ENTRIES};
 
 use crate::front::Front;
+use crate::limits::MOST_ENTRIES;
 use crate::look_up;
 use crate::shown::Shown;
 use ps_list::copies;
@@ -10,7 +12,7 @@ use ps_triple::Entry;
 use std::alloc::{AllocError, Global};
 use std::marker::Model;
 
-/// A list of at most 16,384 entries, which are numbered by their places. That they hold for a setting and a table is a
+/// A list of at most `MOST_ENTRIES` entries, which are numbered by their places. That they hold for a setting and a table is a
 /// condition of the calls that rest on it.
 #[derive(Drop)]
 pub struct Basis {
@@ -21,18 +23,16 @@ impl Model for Basis {
     ghost use Rattle.std.specs.Prelude.{◌-◌, ◌≤◌, length};
     ghost use Rattle.std.specs.Vec.{vec_capacity, vec_len};
     ghost use Rattle.ps_basis.specs.Basis.{Growing};
+    ghost use Rattle.ps_basis.specs.declared.limits.TheConstants.{MOST_ENTRIES};
 
     ghost Value = { Growing };
 
     ghost view = { λ b. record { entries = b.list.items; room = vec_capacity b.list - vec_len b.list } };
 
-    ghost invariant = { λ b. length b.list.items ≤ 16384 };
+    ghost invariant = { λ b. length b.list.items ≤ MOST_ENTRIES };
 }
 
 impl Basis {
-    /// The most entries that a basis holds.
-    pub const MOST: u32 = 16384;
-
     /// No entries; the call needs no memory.
     pub fn new(alloc: Global) -> Basis
         ensures { result.entries ≡ [] }
@@ -51,20 +51,20 @@ impl Basis {
         self.list.reserve(more as usize)
     }
 
-    /// Appends an entry, for which room was reserved, and gives its number; where there are 16,384 it hands the entry
+    /// Appends an entry, for which room was reserved, and gives its number; where there are `MOST_ENTRIES` it hands the entry
     /// back. The call needs no memory.
     pub fn push_reserved(&mut self, entry: Entry) -> Result<u32, Entry>
         requires { 0 < self.old.room }
         ensures number { IfOk result (λ number. number ≡ length self.old.entries) }
         ensures appended { OnOk result (self.new.entries ≡ self.old.entries ++ entry ∷ []) }
         ensures room { self.old.room ≤ self.new.room + 1 }
-        ensures below { OnOk result (length self.old.entries < 16384) }
+        ensures below { OnOk result (length self.old.entries < MOST_ENTRIES) }
         ensures back { IfErr result (λ back. back ≡ entry) }
-        ensures full { OnErr result (length self.old.entries ≡ 16384) }
+        ensures full { OnErr result (length self.old.entries ≡ MOST_ENTRIES) }
         ensures unchanged { OnErr result (self.new ≡ self.old) }
     {
         let number = self.list.len();
-        if number >= Basis::MOST as usize {
+        if number >= MOST_ENTRIES {
             return Err(entry);
         }
         self.list.push_reserved(entry);
@@ -83,7 +83,7 @@ impl Basis {
     /// The entries in order; the call needs no memory.
     pub fn list(&self) -> &[Entry]
         ensures entries { result.now ≡ self.now.entries }
-        ensures within { length result.now ≤ 16384 }
+        ensures within { length result.now ≤ MOST_ENTRIES }
     {
         self.list.as_slice()
     }

@@ -1,5 +1,6 @@
 //! The first entries of a basis.
 ghost use Rattle.std.specs.Prelude.{◌≡◌, ◌≤◌, IfOk, length};
+ghost use Rattle.ps_basis.specs.declared.limits.TheConstants.{MOST_ENTRIES};
 
 use crate::look_up;
 use crate::shown::Shown;
@@ -8,7 +9,7 @@ use ps_triple::Entry;
 use std::alloc::{AllocError, Global};
 use std::marker::Model;
 
-/// A list of at most 16,384 entries, which contracts see as a list.
+/// A list of at most `MOST_ENTRIES` entries, which contracts see as a list.
 #[derive(Drop)]
 pub struct Front {
     list: Vec<Entry>,
@@ -16,19 +17,20 @@ pub struct Front {
 
 impl Model for Front {
     ghost use Rattle.std.specs.Prelude.{◌≤◌, List, length};
+    ghost use Rattle.ps_basis.specs.declared.limits.TheConstants.{MOST_ENTRIES};
     ghost use Rattle.ps_triple.specs.declared.entry.Entry.{Entry};
 
     ghost Value = { List Entry };
 
     ghost view = { λ f. f.list.items };
 
-    ghost invariant = { λ f. length f.list.items ≤ 16384 };
+    ghost invariant = { λ f. length f.list.items ≤ MOST_ENTRIES };
 }
 
 impl Front {
     /// Takes the list as it is; the call needs no memory.
     pub fn from_list(list: Vec<Entry>) -> Front
-        requires { length list.items ≤ 16384 }
+        requires { length list.items ≤ MOST_ENTRIES }
         ensures { result ≡ list.items }
     {
         Front { list }
@@ -37,7 +39,7 @@ impl Front {
     /// The entries in order; the call needs no memory.
     pub fn list(&self) -> &[Entry]
         ensures entries { result.now ≡ self.now }
-        ensures within { length result.now ≤ 16384 }
+        ensures within { length result.now ≤ MOST_ENTRIES }
     {
         self.list.as_slice()
     }

@@ -1,7 +1,7 @@
 //! Worked examples of what traces are proved: each function does no work, and its clause is the example.
 ghost use Rattle.std.specs.Prelude.{[], ◌∷◌, List};
 ghost use Rattle.ps_atom.specs.declared.atom.Atom.{Atom};
-ghost use Rattle.ps_basis.specs.Examples.{counter_entries};
+ghost use Rattle.ps_triple.specs.Examples.{counter_entries};
 ghost use Rattle.ps_basis.specs.Space.{InSpace, IsProved};
 ghost use Rattle.ps_triple.specs.declared.entry.Entry.{Entry};
 

@@ -1,4 +1,4 @@
-mod Examples
+pub mod Examples
 pub mod Soundness
 pub mod Walking
 pub mod Weighing

@@ -12,7 +12,7 @@ use Rattle.ps_term.specs.Var.{var_lt, var_eq}
 use Rattle.ps_term.proofs.Canonical.{coefficient-other}
 use Rattle.ps_term.proofs.Variables.{var_eq-true, var_eq_refl, var_lt-var_eq, var_lt_or_gt, var_lt_trans}
 use Rattle.ps_farkas.specs.Refutes.{weighted, SumsFit}
-use Rattle.ps_farkas.specs.Walk.{IsNext, lesser_of}
+use Rattle.ps_farkas.specs.inner.Walk.{IsNext, lesser_of}
 use Rattle.ps_farkas.proofs.Weighing.{weighted-zero, SumsFit-zero}
 
 -- ---- the next variable

@@ -1,2 +1,3 @@
+pub mod Examples
+pub mod inner
 pub mod Refutes
-pub mod Walk

@@ -3,6 +3,9 @@ ghost use Rattle.std.specs.Prelude.{pos, ◌+ℤ◌, ◌*ℤ◌, FitsSigned, Som
 ghost use Rattle.std.specs.Int.{w128};
 ghost use Rattle.ps_term.specs.Sums.{ScaledFits};
 
+// The least multiplier past the greatest `i128`; times -1 it is the least `i128`.
+const FIRST_PAST: u128 = 1 << 127;
+
 // `so_far + by * n`.
 pub(crate) fn weighed(so_far: i128, by: u128, n: i128) -> Option<i128>
     ensures { SomeIff result (ScaledFits so_far (pos by) n) (so_far +ℤ (pos by *ℤ n)) }
@@ -15,11 +18,11 @@ pub(crate) fn weighed(so_far: i128, by: u128, n: i128) -> Option<i128>
 fn product(by: u128, n: i128) -> Option<i128>
     ensures { SomeIff result (FitsSigned w128 (pos by *ℤ n)) (pos by *ℤ n) }
 {
-    if by < 1 << 127 {
+    if by < FIRST_PAST {
         (by as i128).checked_mul(n)
     } else if n == 0 {
         Some(0)
-    } else if n == -1 && by == 1 << 127 {
+    } else if n == -1 && by == FIRST_PAST {
         Some(i128::MIN)
     } else {
         None

@@ -2,11 +2,12 @@
 ghost use Rattle.std.specs.Prelude.{◌≡◌, pos, length, IfNone, IfSome, Some};
 ghost use Rattle.ps_term.specs.Pairs.{coefficient};
 ghost use Rattle.ps_farkas.specs.Refutes.{SumsFit, weighted};
-ghost use Rattle.ps_farkas.specs.Walk.{IsNext};
+ghost use Rattle.ps_farkas.specs.inner.Walk.{IsNext};
 
 use crate::product::weighed;
+use crate::row_lists::RowLists;
 use crate::walk::lesser;
-use ps_term::{Row, Var};
+use ps_term::Var;
 
 // What the walk finds at one variable.
 #[derive(Clone, Copy, Debug)]
@@ -22,7 +23,12 @@ pub(crate) struct Turn {
 // Sums the variable's coefficients in row order, and finds the next variable, by one look-up in each row; or `None`
 // where a product or a partial sum lies outside `i128`. Rows of like variables have it at like places, so most look-ups
 // take constant time.
-pub(crate) fn visit(rows: &[Row], lambda: &[u128], variable: Var, start: usize) -> Option<Turn>
+pub(crate) fn visit(
+    rows: &RowLists<'_>,
+    lambda: &[u128],
+    variable: Var,
+    start: usize,
+) -> Option<Turn>
     requires { length lambda.now ≡ length rows.now }
     ensures fits { IfSome result
         (λ v. SumsFit (λ t. coefficient variable t.pairs) (pos 0) rows.now lambda.now) }
@@ -36,7 +42,7 @@ pub(crate) fn visit(rows: &[Row], lambda: &[u128], variable: Var, start: usize) 
     let mut next = None;
     let mut near = start;
     for i in 0..rows.len() {
-        let stop = rows[i].term.pairs.stop_at(variable, near);
+        let stop = rows.row(i).term.pairs.stop_at(variable, near);
         sum = weighed(sum, lambda[i], stop.coefficient)?;
         next = lesser(next, stop.next);
         near = stop.place;

@@ -1,16 +1,17 @@
 // The walk over the variables of rows in ascending order, which takes no memory.
 ghost use Rattle.std.specs.Prelude.{◌≡◌, None};
-ghost use Rattle.ps_farkas.specs.Walk.{IsNext, lesser_of};
+ghost use Rattle.ps_farkas.specs.inner.Walk.{IsNext, lesser_of};
 
-use ps_term::{Row, Var, is_before};
+use crate::row_lists::RowLists;
+use ps_term::{Var, is_before};
 
 // The least variable of the rows.
-pub(crate) fn first_variable(rows: &[Row]) -> Option<Var>
+pub(crate) fn first_variable(rows: &RowLists<'_>) -> Option<Var>
     ensures { IsNext None rows.now result }
 {
     let mut first = None;
-    for row in rows {
-        first = lesser(first, row.term.pairs.next_after(None));
+    for i in 0..rows.len() {
+        first = lesser(first, rows.row(i).term.pairs.next_after(None));
     }
     first
 }

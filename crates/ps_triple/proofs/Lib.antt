@@ -1,7 +1,9 @@
+pub mod Alike
 pub mod Apart
 pub mod Counts
 pub mod Denials
 pub mod Distinct
+pub mod Examples
 pub mod Lifted
 pub mod Membership
 pub mod Renewed

@@ -1,8 +1,10 @@
 pub mod Ascending
 pub mod Ends
 pub mod Entries
+pub mod Examples
 pub mod Faults
 pub mod Fits
+pub mod inner
 pub mod Places
 pub mod Rows
 pub mod Short

@@ -1,5 +1,5 @@
 //! The check of an entry.
-ghost use Rattle.std.specs.Prelude.{◌≡◌, IfErr, MatchOption, OnOk};
+ghost use Rattle.std.specs.Prelude.{IfErr, MatchOption, OnOk};
 ghost use Rattle.ps_triple.specs.Ends.{EndsBy};
 ghost use Rattle.ps_triple.specs.Faults.{EntryHolds, IsFirstFault};
 ghost use Rattle.ps_triple.specs.Short.{AreShort};
@@ -12,7 +12,7 @@ use crate::rows::{make_rows, row_count};
 use crate::threads::{has_distinct_threads, has_no_free_thread};
 use ps_atom::{Predicate, Predicates};
 use ps_command::Setting;
-use ps_farkas::refutes;
+use ps_farkas::refutes_lists;
 use ps_term::TermEnd;
 use std::alloc::Global;
 
@@ -50,7 +50,7 @@ pub fn check_entry(
         Err(TermEnd::Past128) => return Err(EntryEnd::Fault(EntryFault::Past128)),
         Err(TermEnd::Memory(end)) => return Err(EntryEnd::Memory(end)),
     };
-    match refutes(rows.as_slice(), lambda) {
+    match refutes_lists(&rows.lists(), lambda) {
         Ok(yes) if yes => Ok(()),
         Ok(_) => Err(EntryEnd::Fault(EntryFault::Sum)),
         Err(_) => Err(EntryEnd::Fault(EntryFault::Past128)),

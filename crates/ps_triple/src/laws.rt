@@ -2,7 +2,9 @@
 ghost use Rattle.std.specs.Prelude.{◌≡◌, List};
 ghost use Rattle.ps_atom.specs.declared.predicate.Predicate.{Predicate};
 ghost use Rattle.ps_command.specs.declared.setting.Setting.{Setting};
+ghost use Rattle.ps_triple.specs.Entries.{AreAlike};
 ghost use Rattle.ps_triple.specs.Faults.{EntryHolds, IsFirstFault};
+ghost use Rattle.ps_triple.specs.Fits.{entry_rows, lambda_of};
 ghost use Rattle.ps_triple.specs.Validity.{IsTrueAtFirst, IsValidTriple};
 ghost use Rattle.ps_triple.specs.declared.entry.Entry.{Entry};
 ghost use Rattle.ps_triple.specs.declared.entry.Entry.TheVariants.{Triple as OfTriple, Initial as OfInitial};
@@ -22,6 +24,15 @@ pub fn held_triples_are_valid()
 pub fn held_initials_are_true()
     ensures { (setting : Setting) (predicates : List Predicate) (i : Initial)
         → EntryHolds setting predicates (OfInitial i) → IsTrueAtFirst setting predicates i.predicate }
+{}
+
+/// Alike entries have the same rows, and differ in their multipliers at most.
+pub fn alike_entries_differ_in_multipliers()
+    ensures rows { (setting : Setting) (predicates : List Predicate) (one other : Entry)
+        → AreAlike one other → entry_rows setting predicates one ≡ entry_rows setting predicates other }
+    ensures only { (one other : Entry)
+        → AreAlike one other → lambda_of one ≡ lambda_of other → one ≡ other }
+    ensures itself { (one other : Entry) → one ≡ other → AreAlike one other }
 {}
 
 /// An entry that holds has no first fault, and no entry has two.

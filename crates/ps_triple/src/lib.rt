@@ -1,9 +1,11 @@
 //! Entries of a proof: triples and initial predicates, each with multipliers that show it to be true of all runs.
 #![tactic(auto)]
 
+mod ascending;
 mod check;
 mod entry;
 mod entry_end;
+mod entry_rows;
 mod initial;
 pub mod laws;
 mod naming;
@@ -11,7 +13,9 @@ mod placing;
 mod rows;
 mod threads;
 mod triple;
+pub mod worked;
 
+pub use ascending::ascends;
 pub use check::check_entry;
 pub use entry::Entry;
 pub use entry_end::{EntryEnd, EntryFault};

@@ -1,38 +1,55 @@
 // Rows with threads put for slots.
-ghost use Rattle.std.specs.Prelude.{◌≡◌, ◌≢◌, All, AllPairs, IfOk, IsErrOf, length, slice_index};
+ghost use Rattle.std.specs.Prelude.{◌≡◌, ◌≢◌, All, AllPairs, IfOk, length, slice_index};
+ghost use Rattle.ps_term.specs.Pairs.{IsCanonical};
 ghost use Rattle.ps_atom.specs.Atoms.{at_threads, IsOfSlots};
-ghost use Rattle.ps_triple.specs.Places.{row_by};
+ghost use Rattle.ps_triple.specs.Places.{pairs_by, row_by};
 
-use ps_term::{Row, Term, TermEnd, Var, add_scaled};
-use std::alloc::Global;
+use ps_term::{Pairs, Row, Term, Var};
+use std::alloc::{AllocError, Global};
+use std::collections::BTreeMap;
 
-// The row with the threads put for its slots. The threads are distinct, so no coefficients meet, and none leaves `i128`.
-pub(crate) fn place(alloc: Global, row: &Row, threads: &[u32]) -> Result<Row, TermEnd>
+// The row with the threads put for its slots. The threads are distinct, so no coefficients meet.
+pub(crate) fn place(alloc: Global, row: &Row, threads: &[u32]) -> Result<Row, AllocError>
     requires distinct { AllPairs (λ s t. s ≢ t) threads.now }
     requires slots { All (λ pair. IsOfSlots (length threads.now) pair.0) row.now.term.pairs }
-    ensures row { IfOk result (λ placed. placed ≡ row_by (at_threads threads.now) row.now) }
-    ensures fits { ¬ IsErrOf result TermEnd.Past128 }
+    ensures { IfOk result (λ placed. placed ≡ row_by (at_threads threads.now) row.now) }
 {
+    let list = placed_pairs(alloc, row.term.pairs.as_slice(), threads)?;
     Ok(Row {
-        term: placed_term(alloc, row, threads)?,
+        term: Term {
+            pairs: Pairs::from_list(list),
+            constant: row.term.constant,
+        },
     })
 }
 
-// The row's term with the threads put for its slots.
-fn placed_term(alloc: Global, row: &Row, threads: &[u32]) -> Result<Term, TermEnd>
+// The pairs with the threads put for the slots, in the order of the new variables, each by one search among them.
+fn placed_pairs(
+    alloc: Global,
+    pairs: &[(Var, i128)],
+    threads: &[u32],
+) -> Result<Vec<(Var, i128)>, AllocError>
+    requires canonical { IsCanonical pairs.now }
     requires distinct { AllPairs (λ s t. s ≢ t) threads.now }
-    requires slots { All (λ pair. IsOfSlots (length threads.now) pair.0) row.now.term.pairs }
-    ensures term { IfOk result (λ term. term ≡ (row_by (at_threads threads.now) row.now).term) }
-    ensures fits { ¬ IsErrOf result TermEnd.Past128 }
+    requires slots { All (λ pair. IsOfSlots (length threads.now) pair.0) pairs.now }
+    ensures { IfOk result (λ list. list.items ≡ pairs_by (at_threads threads.now) pairs.now) }
 {
-    let mut term = Term::from_constant(alloc, row.term.constant);
-    for pair in row.term.pairs.as_slice() {
-        let variable = Term::from_variable(alloc, at_threads(threads, pair.0)).map_err(
-            TermEnd::Memory,
-        )?;
-        term = add_scaled(alloc, &term, pair.1, &variable)?;
+    let mut placed = BTreeMap::new(alloc);
+    for taken in 0..pairs.len() {
+        let pair = pairs[pairs.len() - (taken + 1)];
+        placed.insert(at_threads(threads, pair.0), pair.1)?;
     }
-    Ok(term)
+    in_order(alloc, placed)
+}
+
+fn in_order(alloc: Global, placed: BTreeMap<Var, i128>) -> Result<Vec<(Var, i128)>, AllocError>
+    ensures { IfOk result (λ list. list.items ≡ placed.entries) }
+{
+    let mut list = Vec::with_capacity(alloc, placed.len())?;
+    for pair in placed {
+        list.push(pair)?;
+    }
+    Ok(list)
 }
 
 // The variable that stands for one of a predicate where the slots are these threads.

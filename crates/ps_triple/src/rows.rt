@@ -1,5 +1,5 @@
 // The rows of entries.
-ghost use Rattle.std.specs.Prelude.{◌≡◌, ◌++◌, ◌<◌, ◌≤◌, ◌^◌, ◌+◌, ◌∷◌, [], All, IfOk, OnOk, IsErrOf, length, map};
+ghost use Rattle.std.specs.Prelude.{◌≡◌, ◌++◌, ◌<◌, ◌+◌, ◌∷◌, [], All, IfOk, OnOk, IsErrOf, length, map};
 ghost use Rattle.ps_atom.specs.Atoms.{at_threads};
 ghost use Rattle.ps_term.specs.Negation.{NegationFits};
 ghost use Rattle.ps_term.specs.Substitution.{SubstitutionFits};
@@ -7,9 +7,11 @@ ghost use Rattle.ps_triple.specs.Fits.{MakingFits, entry_rows};
 ghost use Rattle.ps_triple.specs.Places.{row_by};
 ghost use Rattle.ps_triple.specs.Rows.{atom_row, form_in, initial_rows, negated, predicate_of, row_after, rows_of_threads, triple_rows};
 ghost use Rattle.ps_triple.specs.Short.{AreShort};
+ghost use Rattle.ps_triple.specs.inner.Lent.{all_rows};
 ghost use Rattle.ps_triple.specs.Tests.{HasDistinctThreads, HasThreadsOnce, IsAtomOf, IsThere, NamesThings};
 
 use crate::entry::Entry;
+use crate::entry_rows::EntryRows;
 use crate::initial::Initial;
 use crate::placing::place;
 use crate::triple::Triple;
@@ -39,15 +41,15 @@ pub(crate) fn row_count(setting: &Setting, predicates: &[Predicate], entry: &Ent
 }
 
 // The rows of the entry.
-pub(crate) fn make_rows(
+pub(crate) fn make_rows<'a>(
     alloc: Global,
-    setting: &Setting,
+    setting: &'a Setting,
     predicates: &[Predicate],
     entry: &Entry,
-) -> Result<Vec<Row>, TermEnd>
+) -> Result<EntryRows<'a>, TermEnd>
     requires names { NamesThings setting.now predicates.now entry.now }
     requires distinct { HasDistinctThreads entry.now }
-    ensures rows { IfOk result (λ rows. rows.items ≡ entry_rows setting.now predicates.now entry.now) }
+    ensures rows { IfOk result (λ rows. all_rows rows ≡ entry_rows setting.now predicates.now entry.now) }
     ensures fits { OnOk result (MakingFits setting.now predicates.now entry.now) }
     ensures past { IsErrOf result TermEnd.Past128 → ¬ MakingFits setting.now predicates.now entry.now }
 {
@@ -60,50 +62,57 @@ pub(crate) fn make_rows(
     }
 }
 
-fn triple_rows(
+fn triple_rows<'a>(
     alloc: Global,
     setting: &Setting,
     predicates: &[Predicate],
-    form: &SymbolicForm,
+    form: &'a SymbolicForm,
     triple: &Triple,
-) -> Result<Vec<Row>, TermEnd>
+) -> Result<EntryRows<'a>, TermEnd>
     requires form { form.now ≡ form_in setting.now triple.now.command }
     requires before { All (IsAtomOf setting.now predicates.now) triple.now.pre }
     requires after { IsAtomOf setting.now predicates.now triple.now.post }
     requires once { All HasThreadsOnce triple.now.pre }
     requires once_after { HasThreadsOnce triple.now.post }
-    ensures rows { IfOk result (λ rows. rows.items ≡ triple_rows setting.now predicates.now triple.now) }
+    ensures rows { IfOk result (λ rows. all_rows rows ≡ triple_rows setting.now predicates.now triple.now) }
     ensures fits { OnOk result (NegationFits (atom_row predicates.now triple.now.post)
         × SubstitutionFits form.now.after (negated (atom_row predicates.now triple.now.post)).term) }
     ensures past { IsErrOf result TermEnd.Past128 → ¬ (NegationFits (atom_row predicates.now triple.now.post)
         × SubstitutionFits form.now.after (negated (atom_row predicates.now triple.now.post)).term) }
 {
-    let mut rows = rows_before(alloc, setting, predicates, triple.pre.as_slice())?;
-    push_copies(alloc, &mut rows, form.rows.as_slice())?;
+    let before = rows_before(alloc, setting, predicates, triple.pre.as_slice())?;
     let last = last_row(alloc, setting, predicates, form, &triple.post)?;
-    push(&mut rows, last)?;
-    Ok(rows)
+    let mut after = Vec::new(alloc);
+    push(&mut after, last)?;
+    Ok(EntryRows {
+        before,
+        lent: form.rows.as_slice(),
+        after,
+    })
 }
 
-fn initial_rows(
+fn initial_rows<'a>(
     alloc: Global,
-    setting: &Setting,
+    setting: &'a Setting,
     predicates: &[Predicate],
     initial: &Initial,
-) -> Result<Vec<Row>, TermEnd>
+) -> Result<EntryRows<'a>, TermEnd>
     requires { IsThere setting.now predicates.now initial.now.predicate }
-    ensures rows { IfOk result (λ rows. rows.items ≡ initial_rows setting.now predicates.now initial.now) }
+    ensures rows { IfOk result (λ rows. all_rows rows ≡ initial_rows setting.now predicates.now initial.now) }
     ensures fits { OnOk result (NegationFits (predicate_of predicates.now initial.now.predicate).row) }
     ensures past { IsErrOf result TermEnd.Past128
         → ¬ NegationFits (predicate_of predicates.now initial.now.predicate).row }
 {
     let predicate = &predicates[initial.predicate as usize];
-    let mut rows = Vec::new(alloc);
-    push_copies(alloc, &mut rows, setting.init_once.as_slice())?;
-    push_rows_of_threads(alloc, &mut rows, setting, predicate.arity + 1)?;
+    let mut after = Vec::new(alloc);
+    push_rows_of_threads(alloc, &mut after, setting, predicate.arity + 1)?;
     let last = negated(alloc, &predicate.row)?;
-    push(&mut rows, last)?;
-    Ok(rows)
+    push(&mut after, last)?;
+    Ok(EntryRows {
+        before: Vec::new(alloc),
+        lent: setting.init_once.as_slice(),
+        after,
+    })
 }
 
 // The rows of atoms, in order.
@@ -118,7 +127,7 @@ fn rows_before(
     ensures rows { IfOk result (λ rows. rows.items ≡ map (atom_row predicates.now) atoms.now) }
     ensures fits { ¬ IsErrOf result TermEnd.Past128 }
 {
-    let mut rows = Vec::new(alloc);
+    let mut rows = Vec::with_capacity(alloc, atoms.len()).map_err(TermEnd::Memory)?;
     for atom in atoms {
         let row = placed_row(alloc, setting, predicates, atom)?;
         push(&mut rows, row)?;
@@ -162,7 +171,8 @@ fn placed_row(
     ensures fits { ¬ IsErrOf result TermEnd.Past128 }
 {
     let predicate = &predicates[atom.predicate as usize];
-    place(alloc, &predicate.row, atom.threads.as_slice())
+    let row = place(alloc, &predicate.row, atom.threads.as_slice()).map_err(TermEnd::Memory)?;
+    Ok(row)
 }
 
 // The row `1 - t <= 0` of a row `t <= 0`.
@@ -203,21 +213,8 @@ fn push_rows_of(
 {
     let threads = [thread];
     for row in setting.init_each.as_slice() {
-        let placed = place(alloc, row, &threads)?;
+        let placed = place(alloc, row, &threads).map_err(TermEnd::Memory)?;
         push(rows, placed)?;
-    }
-    Ok(())
-}
-
-// Appends copies of the rows.
-fn push_copies(alloc: Global, rows: &mut Vec<Row>, list: &[Row]) -> Result<(), TermEnd>
-    ensures rows { OnOk result (rows.new.items ≡ rows.old.items ++ list.now) }
-    ensures fits { ¬ IsErrOf result TermEnd.Past128 }
-{
-    rows.reserve(list.len()).map_err(TermEnd::Memory)?;
-    for row in list {
-        let copy = row.copy(alloc).map_err(TermEnd::Memory)?;
-        push(rows, copy)?;
     }
     Ok(())
 }

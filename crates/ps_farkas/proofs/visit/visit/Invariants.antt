@@ -1,6 +1,6 @@
 use Rattle.std.proofs.Common.{drop, take, Some}
 use Rattle.ps_term.specs.Pairs.{coefficient}
-use Rattle.ps_farkas.specs.Walk.{IsNext}
+use Rattle.ps_farkas.specs.inner.Walk.{IsNext}
 use Rattle.ps_farkas.proofs.Weighing.{Weighed}
 use Rattle.ps_farkas.proofs.visit.visit.Given as goal
 

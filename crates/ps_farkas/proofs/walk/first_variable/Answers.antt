@@ -1,7 +1,9 @@
-use Rattle.std.proofs.Common.{None}
+use Rattle.std.proofs.Common.{◌≢◌, pos, IfSome, None, sym, subst, arith}
+use Rattle.ps_term.specs.declared.row.Row.{Row}
+use Rattle.ps_term.specs.declared.var.Var.{Var}
 use Rattle.ps_farkas.proofs.Walking.{IsNext-step}
 use Rattle.ps_farkas.proofs.walk.first_variable.Goals as goal
 
-pub loop-row-preserved : goal.loop-row-preserved
-loop-row-preserved c =
-    IsNext-step None c.args.rows.now c.loop-row.row-index c.row-item.result c.loop-row.first c.next_after.result c.lesser-first.result c.loop-row.invariant c.loop-row-test.true c.row-item.is c.next_after.ensures.skipped c.next_after.ensures.stands c.lesser-first.ensures
+pub loop-i-preserved : goal.loop-i-preserved
+loop-i-preserved c =
+    IsNext-step None c.args.rows.now c.loop-i.i c.row.result.now c.loop-i.first c.next_after.result c.lesser-first.result c.loop-i.invariant (omega arith) c.row.ensures c.next_after.ensures.skipped c.next_after.ensures.stands c.lesser-first.ensures

@@ -8,10 +8,10 @@ use Rattle.ps_farkas.proofs.weigh.constant_total.Goals as goal
 
 pub loop-i-preserved : goal.loop-i-preserved
 loop-i-preserved c =
-    let r = c.index-rows-i.result in
+    let r = c.row.result.now in
     let n : FitsSigned w128 c.constant_of.result = search rules in
     let k : FitsSigned w128 c.in_ok-sum.sum = search rules in
-    let part : c.constant_of.result ≡ r.term.constant = c.constant_of.ensures ∙ ap (λ (s : Row). s.term.constant) (sym c.index-rows-i.is) in
+    let part : c.constant_of.result ≡ r.term.constant = c.constant_of.ensures in
     let here = c.in_ok-sum.ensures in
     let is = simp to_z-of_z at here in
-    rw to_z-of_z (Weighed-step (λ t. t.constant) c.args.rows.now c.args.lambda.now (to_z w128 c.loop-i.sum-bits) c.in_ok-sum.sum c.loop-i.i r c.loop-i.invariant (omega arith) c.requires c.index-rows-i.is (subst (λ (z : ℤ). ScaledFits (to_z w128 c.loop-i.sum-bits) (pos (get_or c.args.lambda.now c.loop-i.i 0)) z) part is.0) (is.1 ∙ ap (λ (z : ℤ). to_z w128 c.loop-i.sum-bits +ℤ (pos (get_or c.args.lambda.now c.loop-i.i 0) *ℤ z)) part))
+    rw to_z-of_z (Weighed-step (λ t. t.constant) c.args.rows.now c.args.lambda.now (to_z w128 c.loop-i.sum-bits) c.in_ok-sum.sum c.loop-i.i r c.loop-i.invariant (omega arith) c.requires c.row.ensures (subst (λ (z : ℤ). ScaledFits (to_z w128 c.loop-i.sum-bits) (pos (get_or c.args.lambda.now c.loop-i.i 0)) z) part is.0) (is.1 ∙ ap (λ (z : ℤ). to_z w128 c.loop-i.sum-bits +ℤ (pos (get_or c.args.lambda.now c.loop-i.i 0) *ℤ z)) part))
