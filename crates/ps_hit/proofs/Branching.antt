@@ -5,8 +5,8 @@ use Rattle.std.proofs.lemmas.List.Elements.{All-push, Contains-push, Contains-pu
 use Rattle.ps_hit.specs.declared.cover.Cover.TheVariants.{Unmet}
 use Rattle.ps_hit.specs.declared.node.Node.{Node}
 use Rattle.ps_hit.specs.Hitting.{Meets, IsMinimalHit}
-use Rattle.ps_hit.specs.Covers.{unmet}
-use Rattle.ps_hit.specs.Searching.{IsNode, IsBelow, AddsChild, Branches, work, works}
+use Rattle.ps_hit.specs.inner.Covers.{unmet}
+use Rattle.ps_hit.specs.inner.Searching.{IsNode, IsBelow, AddsChild, Branches, work, works}
 use Rattle.ps_list.proofs.Members.{nothing}
 use Rattle.ps_list.proofs.Numbers.{is_in}
 use Rattle.ps_hit.proofs.CoverSteps.{unmet_falls}

@@ -9,7 +9,7 @@ use Rattle.std.proofs.lemmas.List.Elements.{All-head, All-tail, Contains-append_
 use Rattle.ps_hit.specs.declared.cover.Cover.{Cover}
 use Rattle.ps_hit.specs.declared.cover.Cover.TheVariants.{Unmet, Once, Again}
 use Rattle.ps_hit.specs.Hitting.{numbers_of}
-use Rattle.ps_hit.specs.Covers.{IsCover, cover_with, covers_with, unmet}
+use Rattle.ps_hit.specs.inner.Covers.{IsCover, cover_with, covers_with, unmet}
 use Rattle.ps_list.proofs.Numbers.{has_from, has_to, is_in}
 use Rattle.ps_list.proofs.Members.{nothing, cons_cases, here, there}
 
