@@ -3,7 +3,7 @@ use Rattle.std.proofs.Common.{◌≡◌, ◌≢◌, ◌∙◌, ℕ, sym, subst, 
 use Rattle.ps_atom.specs.Atoms.{renamed}
 use Rattle.ps_atom.specs.declared.atom.Atom.{Atom}
 use Rattle.ps_config.specs.Configurations.{Configuration, IsAt, threads_at, Embeds, Covers}
-use Rattle.ps_config.proofs.Lists.{mapped}
+use Rattle.ps_list.proofs.Mapped.{mapped}
 use Rattle.ps_config.proofs.Occurring.{located_occurs, named_occurs, occurs_cases, renamed_twice, renamed_stays}
 
 -- a thread that occurs goes to one that occurs

@@ -2,7 +2,6 @@ pub mod Comparing
 pub mod Covering
 pub mod Few
 pub mod Forming
-pub mod Lists
 pub mod Nexts
 pub mod Occurring
 pub mod Once

@@ -4,7 +4,7 @@ use Rattle.std.proofs.lemmas.List.Elements.{Contains-append_left, Contains-appen
 use Rattle.ps_atom.specs.Atoms.{renamed}
 use Rattle.ps_atom.specs.declared.atom.Atom.{Atom}
 use Rattle.ps_config.specs.Configurations.{Configuration, IsAt, threads_at, threads_of}
-use Rattle.ps_config.proofs.Lists.{mapped, from_mapped, flat_mapped, from_flat_mapped, same_map, map_map, map_same}
+use Rattle.ps_list.proofs.Mapped.{mapped, from_mapped, flat_mapped, from_flat_mapped, same_map, map_map, map_same}
 
 pub located_occurs : (c : Configuration) (t l : ℕ) → IsAt c t l → Contains (threads_at c) t
 located_occurs c t l h =

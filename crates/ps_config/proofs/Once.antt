@@ -8,7 +8,7 @@ use Rattle.std.proofs.lemmas.List.{length-append}
 use Rattle.std.proofs.lemmas.List.Elements.{Contains-append_left, Contains-append_right, Contains-append_cases, All-from_recursion, All-contains}
 use Rattle.std.proofs.lemmas.Map.Keys.{sorted_head, sorted_tail}
 use Rattle.ps_list.proofs.Members.{nothing, cons_cases, here, there}
-use Rattle.ps_config.proofs.Lists.{mapped, from_mapped, from_kept}
+use Rattle.ps_list.proofs.Mapped.{mapped, from_mapped, from_kept}
 
 -- nothing stands twice
 abbrev pub IsOnce : {X : Type 0} → List X → Type 0

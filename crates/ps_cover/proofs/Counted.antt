@@ -11,7 +11,7 @@ use Rattle.ps_cover.specs.Within.{times, IsWithin}
 use Rattle.ps_cover.specs.inner.Counts.{those_at, those_of}
 use Rattle.ps_list.proofs.Members.{here, there}
 use Rattle.ps_config.specs.Configurations.{Configuration, Covers}
-use Rattle.ps_config.proofs.Lists.{from_mapped, kept, from_kept}
+use Rattle.ps_list.proofs.Mapped.{from_mapped, kept, from_kept}
 use Rattle.ps_config.proofs.Occurring.{located_occurs, named_occurs}
 
 -- no more threads of the small one are at a location

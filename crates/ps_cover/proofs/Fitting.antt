@@ -6,7 +6,7 @@ use Rattle.ps_atom.specs.Atoms.{renamed}
 use Rattle.ps_atom.specs.declared.atom.Atom.{Atom}
 use Rattle.ps_config.specs.Configurations.{Configuration, IsAt, threads_at, Embeds}
 use Rattle.ps_config.specs.Sent.{sent}
-use Rattle.ps_config.proofs.Lists.{is_in}
+use Rattle.ps_list.proofs.Numbers.{is_in}
 use Rattle.ps_config.proofs.Occurring.{located_occurs, named_occurs, renamed_same}
 use Rattle.ps_config.proofs.Sent.{sent_first, sent_front, sent_back, sent_in, sent_image}
 use Rattle.ps_config.specs.Forms.{AreThreads}

@@ -2,9 +2,11 @@ pub mod Chosen
 pub mod Counted
 pub mod Firsts
 pub mod Fitting
+pub mod Only
 pub mod Sorting
 pub mod Swapping
 pub mod Testing
+pub mod Trying
 pub mod Turns
 pub mod Ways
 pub mod Whole

@@ -6,7 +6,7 @@ use Rattle.ps_atom.specs.Atoms.{renamed}
 use Rattle.ps_atom.specs.declared.atom.Atom.{Atom}
 use Rattle.ps_list.proofs.Members.{here, there}
 use Rattle.ps_config.specs.Configurations.{Configuration, IsAt, Embeds}
-use Rattle.ps_config.proofs.Lists.{has_to}
+use Rattle.ps_list.proofs.Numbers.{has_to}
 use Rattle.ps_config.proofs.Occurring.{renamed_twice, renamed_stays}
 use Rattle.ps_cover.specs.inner.Rests.{NoWay}
 use Rattle.ps_cover.specs.inner.Swaps.{swapped, place_swaps, maps_swapped, swap_maps, atom_swaps, swap_keeps}

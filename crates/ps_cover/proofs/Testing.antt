@@ -8,7 +8,7 @@ use Rattle.ps_atom.specs.declared.atom.Atom.{Atom}
 use Rattle.ps_list.proofs.Members.{nothing, cons_cases, here, there}
 use Rattle.ps_config.specs.Configurations.{Configuration}
 use Rattle.ps_config.specs.Sent.{sent}
-use Rattle.ps_config.proofs.Lists.{has_from, has_to}
+use Rattle.ps_list.proofs.Numbers.{has_from, has_to}
 use Rattle.ps_config.proofs.Sent.{later_in}
 use Rattle.ps_cover.proofs.Fitting.{FitsNext}
 use Rattle.ps_cover.specs.inner.Agreeing.{found, agrees_with, slots_agree, atom_agrees}

@@ -10,11 +10,11 @@ use Rattle.ps_config.specs.Forms.{AreThreads}
 use Rattle.ps_config.specs.Sent.{sent}
 use Rattle.ps_config.proofs.Covering.{image_occurs}
 use Rattle.ps_config.proofs.Few.{once_ascending}
-use Rattle.ps_config.proofs.Lists.{from_mapped, same_map}
+use Rattle.ps_list.proofs.Mapped.{from_mapped, same_map}
 use Rattle.ps_config.proofs.Once.{IsOnce}
 use Rattle.ps_config.proofs.Sent.{sent_first, sent_later}
 use Rattle.ps_cover.specs.inner.Agreeing.{atom_agrees}
-use Rattle.ps_cover.specs.inner.Rests.{Fits, NoWay, AreLeft}
+use Rattle.ps_cover.specs.inner.Rests.{Fits, NoWay}
 use Rattle.ps_cover.specs.inner.Tests.{is_listed, is_placed, place_kept, atom_kept, can_go}
 use Rattle.ps_cover.proofs.Fitting.{covering_from_fits}
 use Rattle.ps_cover.proofs.Testing.{all_to, any_to, atom_image, listed_not, placed_to, unless_to}
@@ -28,7 +28,7 @@ HasNoRest small large threads to left = (other : List ℕ) → ¬ Fits small lar
 cons_is : (x y : ℕ) (xs ys : List ℕ) → x ∷ xs ≡ y ∷ ys → (x ≡ y) × (xs ≡ ys)
 cons_is x y xs ys e = ((let first : x ≡ y = cc in first), (let rest : xs ≡ ys = cc in rest))
 
-map_sent : (ss us : List ℕ) → IsOnce ss → length us ≡ length ss → map (sent ss us) ss ≡ us
+pub map_sent : (ss us : List ℕ) → IsOnce ss → length us ≡ length ss → map (sent ss us) ss ≡ us
 map_sent [] [] once long = refl
 map_sent [] (u ∷ us) once long = absurd (omega (arith, long))
 map_sent (s ∷ ss) [] once long = absurd (omega (arith, long))
@@ -76,6 +76,11 @@ once_apart (x ∷ ss) ts s once h k = elim (cons_cases x ss s k) [
   | inr later ↦ once_apart ss ts s once.1 h later
 ]
 
+-- these threads have images, and the later ones none; all of them occur
+pub record AreLeft (small : Configuration) (threads later : List ℕ) : Type 0 where
+  pub occur : (s : ℕ) → Contains threads s → Contains (threads_at small) s
+  pub wait : (s : ℕ) → Contains later s → Contains (threads_at small) s × (¬ Contains threads s)
+
 pub left_of : (small : Configuration) (ss ts : List ℕ) → AreThreads small (ss ++ ts) → AreLeft small ss ts
 left_of small ss ts are = record {
   occur = λ s h. (are.occurring s).0 (Contains-append_left ss ts s h);
@@ -99,12 +104,6 @@ goes small large ss us t f e is occur occurs new =
     (λ same. placed_to large.at (f t) p.1 (e.located t p.1 (subst (λ (s : ℕ). Contains small.at (s, p.1)) (eqb-true p.0 t same) c)))))
     (all_to (atom_kept large.atoms t xs ys) small.atoms (λ q c. unless_to (is_listed q.threads t) (list_any (atom_agrees xs ys q) large.atoms)
     (λ named. any_to (atom_agrees xs ys q) large.atoms (renamed f q) (e.atoms q c) (atom_image f xs ys q (map_push f ss us t (f t) is refl))))))
-
--- a thread that can go nowhere ends all ways
-pub goes_nowhere : (small large : Configuration) (ss us : List ℕ) (t : ℕ) → ((s : ℕ) → Contains ss s → Contains (threads_at small) s) → Contains (threads_at small) t → (¬ Contains ss t)
-    → ((v : ℕ) → Contains (threads_at large) v → can_go small.at small.atoms large.at large.atoms ss us t v ≡ false) → NoWay small large ss us
-goes_nowhere small large ss us t occur occurs new nowhere f e is =
-    both_ways (can_go small.at small.atoms large.at large.atoms ss us t (f t)) (nowhere (f t) (image_occurs small large f e t occurs)) (goes small large ss us t f e is occur occurs new)
 
 -- nor does it go where it can't
 pub goes_not : (small large : Configuration) (ss us : List ℕ) (t u : ℕ) → length us ≡ length ss → ((s : ℕ) → Contains ss s → Contains (threads_at small) s) → Contains (threads_at small) t → (¬ Contains ss t)

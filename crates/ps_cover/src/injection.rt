@@ -34,13 +34,15 @@ pub fn covers(small: &Config, large: &Config) -> Option<Injection>
 /// The same for a larger configuration of any size, given by its located threads and its atoms.
 ///
 /// First it is compared how many threads are at each location, and how many atoms each predicate has.
-/// Then a search in depth gives the threads, ascending, their least images first. A thread goes where
-/// its location and its atoms are found slot by slot; a branch ends where a later thread can go nowhere;
-/// an image that differs from one that failed by a mere swap of two threads is passed over.
+/// Then the threads, ascending, get the least images with which there is a way to go on. That is told by
+/// a search in depth, which takes in each turn a thread that can go to the fewest threads: where its
+/// location and its atoms are found slot by slot. An image that differs from one that failed by a mere
+/// swap of two threads is passed over.
 ///
 /// The worst case is exponential in the threads of the smaller one: with n threads there and m in the
-/// larger, at most m to the power of n images are tried, each in a pass over the larger one's atoms for
-/// each atom of the thread, and for each later thread.
+/// larger, at most n times m such searches are made, and each tries at most m to the power of n lists of
+/// images. In each turn all images of all threads that have none yet are looked at, each in a pass over
+/// the larger one's atoms for each atom of the thread.
 pub fn covers_lists(small: &Config, at: &[(u32, u32)], atoms: &[Atom]) -> Option<Injection>
     ensures some { IfSome result (λ i. IsFirstInjection small.now (record { at = at.now; atoms = atoms.now }) (images i)) }
     ensures none { IfNone result (¬ Covers small.now (record { at = at.now; atoms = atoms.now })) }

@@ -1,5 +1,5 @@
 //! Facts about coverings that callers cite: each function does no work, and its clause is the fact.
-ghost use Rattle.std.specs.Prelude.{◌∷◌, [], ℕ, List, map};
+ghost use Rattle.std.specs.Prelude.{◌≡◌, ◌∷◌, [], ℕ, List, map};
 ghost use Rattle.ps_config.specs.Configurations.{Configuration, Covers};
 ghost use Rattle.ps_cover.specs.Coverings.{IsFirstInjection};
 ghost use Rattle.ps_cover.specs.Examples.{one_thread, two_threads};
@@ -10,6 +10,12 @@ use ps_config::Config;
 /// What has a first injection into a configuration is covered by it.
 pub fn an_injection_covers()
     ensures { (small large : Configuration) (to : List ℕ) → IsFirstInjection small large to → Covers small large }
+{}
+
+/// The first injection is the only one, so the answer is determined.
+pub fn the_first_is_the_only_one()
+    ensures { (small large : Configuration) (one other : List ℕ) → IsFirstInjection small large one
+        → IsFirstInjection small large other → one ≡ other }
 {}
 
 /// Of two threads at the location of one the least is the image of the first injection, and the other

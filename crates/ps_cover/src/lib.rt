@@ -8,6 +8,7 @@ mod fits;
 mod images;
 mod injection;
 pub mod laws;
+mod open;
 mod partial;
 mod search;
 mod swaps;

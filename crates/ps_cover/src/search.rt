@@ -1,12 +1,12 @@
 //! The search for the first injection.
-ghost use Rattle.std.specs.Prelude.{◌≡◌, ◌++◌, ◌≤◌, ◌<◌, ◌+◌, drop, length};
-ghost use Rattle.std.specs.Bool.{OnFalse};
+ghost use Rattle.std.specs.Prelude.{◌≡◌, ◌++◌, ◌≤◌, ◌<◌, ◌+◌, drop, length, slice_index};
 ghost use Rattle.ps_config.specs.Configurations.{Configuration};
 ghost use Rattle.ps_config.specs.Forms.{AreThreads};
-ghost use Rattle.ps_cover.specs.inner.Rests.{AreLeft, Fits, HaveFailed, IsAnswer, IsTrial, NoWay, HasImage, large_of};
+ghost use Rattle.ps_cover.specs.inner.Rests.{Fits, HaveFailed, IsAnswer, IsTrial, large_of};
 
 use crate::few::Few;
 use crate::fits::fits;
+use crate::open::is_open;
 use crate::partial::Partial;
 use crate::swaps::is_like_failed;
 use ps_atom::Atom;
@@ -40,7 +40,7 @@ pub(crate) fn search(
     if left.is_empty() {
         return Some(partial.to.copied());
     }
-    if !may_go_on(small, at, atoms, partial, after_first(left)) {
+    if !is_open(small, at, atoms, partial, left) {
         return None;
     }
     let mut failed = Few::none();
@@ -71,7 +71,8 @@ fn attempt(
     requires few { length partial.now.threads + length left.now ≤ MOST_THREADS }
     requires fits { Fits small.now (large_of at.now atoms.now) partial.now.threads partial.now.to }
     requires some { 0 < length left.now }
-    requires failed { HaveFailed small.now (large_of at.now atoms.now) partial.now left.now failed.now }
+    requires failed { HaveFailed small.now (large_of at.now atoms.now) partial.now (slice_index left.now 0)
+        failed.now }
     ensures { IsTrial small.now (large_of at.now atoms.now) partial.now left.now image result }
 {
     let thread = left[0];
@@ -98,47 +99,4 @@ fn after_first(threads: &[u32]) -> &[u32]
     ensures { result.now ≡ drop 1 threads.now }
 {
     &threads[1..]
-}
-
-/// Whether each of the later threads can go somewhere.
-fn may_go_on(
-    small: &Config,
-    at: &[(u32, u32)],
-    atoms: &[Atom],
-    partial: &Partial,
-    later: &[u32],
-) -> bool
-    requires left { AreLeft small.now partial.now.threads later.now }
-    requires long { length partial.now.threads ≡ length partial.now.to }
-    requires few { length partial.now.threads < MOST_THREADS }
-    ensures { OnFalse result (NoWay small.now (large_of at.now atoms.now) partial.now.threads partial.now.to) }
-{
-    for thread in later {
-        if !goes_somewhere(small, at, atoms, partial, *thread) {
-            return false;
-        }
-    }
-    true
-}
-
-/// Whether the thread can go to some thread of the larger configuration.
-fn goes_somewhere(
-    small: &Config,
-    at: &[(u32, u32)],
-    atoms: &[Atom],
-    partial: &Partial,
-    thread: u32,
-) -> bool
-    requires long { length partial.now.threads ≡ length partial.now.to }
-    requires few { length partial.now.threads < MOST_THREADS }
-    ensures { HasImage small.now (large_of at.now atoms.now) partial.now thread result }
-{
-    let mut from: u64 = 0;
-    while let Some(image) = next_thread(at, atoms, from) {
-        if fits(small, at, atoms, partial, thread, image) {
-            return true;
-        }
-        from = u64::from(image) + 1;
-    }
-    false
 }

@@ -1,24 +1,16 @@
 -- Worked examples of the definitions, at the pairs (1, 0), (2, 0), (3, 1) and the links (0, 1), (0, 2), (2, 2).
-use Rattle.std.proofs.Common.{◌≡◌, ℕ, List, [], ◌∷◌, ap, sym, subst, refl, inl, inr, arith}
+use Rattle.std.proofs.Common.{◌≡◌, ◌≢◌, ℕ, List, [], ◌∷◌, Contains, ap, sym, subst, refl, inl, inr, arith}
 use Rattle.ps_drop.specs.declared.pair.Pair.{Pair}
+use Rattle.ps_drop.specs.Examples.{pair, tree, links}
 use Rattle.ps_drop.specs.Pairs.{Names, IsPath, Leads, Leans}
 use Rattle.ps_list.proofs.Members.{nothing, cons_cases, here, there}
 
-abbrev pair : ℕ → ℕ → Pair
-pair node other = record { node = node; other = other }
-
-abbrev tree : List Pair
-tree = pair 1 0 ∷ pair 2 0 ∷ pair 3 1 ∷ []
-
-abbrev links : List Pair
-links = pair 0 1 ∷ pair 0 2 ∷ pair 2 2 ∷ []
-
 -- 3 is below 1
-three_below_one : Leads tree 3 1
+pub three_below_one : Leads tree 3 1
 three_below_one = (1 ∷ [], (there (pair 1 0) (pair 2 0 ∷ pair 3 1 ∷ []) (pair 3 1) (there (pair 2 0) (pair 3 1 ∷ []) (pair 3 1) (here (pair 3 1) [])), refl))
 
 -- each node is below itself
-nine_below_nine : Leads tree 9 9
+pub nine_below_nine : Leads tree 9 9
 nine_below_nine = ([], refl)
 
 other_of_two : (m : ℕ) → Names tree 2 m → m ≡ 0
@@ -54,9 +46,31 @@ no_path_from_two [] is = let no_such : 2 ≡ 1 = is in omega (arith, no_such)
 no_path_from_two (m ∷ path) along = no_path_from_zero path (subst (λ (n : ℕ). IsPath tree n path 1) (other_of_two m along.0) along.1)
 
 -- 2 is not below 1
-two_not_below_one : ¬ Leads tree 2 1
+pub two_not_below_one : ¬ Leads tree 2 1
 two_not_below_one h = no_path_from_two h.0 h.1
 
 -- 0 leans on one of 1 and 3
-zero_leans : Leans links (1 ∷ 3 ∷ []) 0
+pub zero_leans : Leans links (1 ∷ 3 ∷ []) 0
 zero_leans = (1, here 1 (3 ∷ []), here (pair 0 1) (pair 0 2 ∷ pair 2 2 ∷ []))
+
+not_one_or_three : (other : ℕ) → Contains (1 ∷ 3 ∷ []) other → other ≢ 2
+not_one_or_three other h e = elim (cons_cases 1 (3 ∷ []) other h) [
+  | inl is ↦ omega (arith, is, e)
+  | inr rest ↦ elim (cons_cases 3 [] other rest) [ inl is ↦ omega (arith, is, e) | inr none ↦ nothing other none ]
+]
+
+links_of_two : (other : ℕ) → Names links 2 other → other ≡ 2
+links_of_two other h = elim (cons_cases (pair 0 1) (pair 0 2 ∷ pair 2 2 ∷ []) (pair 2 other) h) [
+  | inl is ↦ (let no_such : 0 ≡ 2 = ap (λ (p : Pair). p.node) is in absurd (omega (arith, no_such)))
+  | inr rest ↦ elim (cons_cases (pair 0 2) (pair 2 2 ∷ []) (pair 2 other) rest) [
+    | inl is ↦ (let no_such : 0 ≡ 2 = ap (λ (p : Pair). p.node) is in absurd (omega (arith, no_such)))
+    | inr last ↦ elim (cons_cases (pair 2 2) [] (pair 2 other) last) [
+      | inl is ↦ sym (ap (λ (p : Pair). p.other) is)
+      | inr none ↦ absurd (nothing (pair 2 other) none)
+    ]
+  ]
+]
+
+-- and 2, which links to itself alone, does not
+pub two_does_not : ¬ Leans links (1 ∷ 3 ∷ []) 2
+two_does_not (other, dropped, linked) = not_one_or_three other dropped (links_of_two other linked)

@@ -14,7 +14,7 @@ use Rattle.std.proofs.lemmas.List.Sorted.{IsPermutation-sym, Contains-permutatio
 use Rattle.ps_list.proofs.Members.{nothing, cons_cases}
 use Rattle.ps_drop.specs.declared.pair.Pair.{Pair}
 use Rattle.ps_drop.specs.Pairs.{Names, IsPath, Leads}
-use Rattle.ps_drop.specs.Visit.{AreChildren, Has, unfound, Visits}
+use Rattle.ps_drop.specs.inner.Visit.{AreChildren, Has, unfound, Visits}
 
 -- ---- a node goes into the set
 

@@ -6,7 +6,7 @@ use Rattle.std.proofs.lemmas.List.Elements.{Contains-get_or}
 use Rattle.std.proofs.lemmas.List.Sorted.{IsNonDecreasingBy-drop}
 use Rattle.std.proofs.lemmas.Bool.{cases_lt, leb-true, leb-false, ltb-true, ltb-false}
 use Rattle.ps_drop.specs.declared.pair.Pair.{Pair}
-use Rattle.ps_drop.specs.Visit.{AreChildren}
+use Rattle.ps_drop.specs.inner.Visit.{AreChildren}
 
 -- the first pairs are of lesser parents, and the others are not
 abbrev pub IsFirst : List Pair → ℕ → ℕ → Type 0

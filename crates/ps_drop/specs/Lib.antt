@@ -1,2 +1,3 @@
+pub mod Examples
 pub mod Pairs
-pub mod Visit
+pub mod inner

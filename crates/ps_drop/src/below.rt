@@ -2,7 +2,7 @@
 ghost use Rattle.std.specs.Prelude.{◌≡◌, ℕ, ◌↔◌, IfOk, OnOk, Contains};
 ghost use Rattle.std.specs.List.Sorted.{IsStrictlyIncreasing};
 ghost use Rattle.ps_drop.specs.Pairs.{Leads};
-ghost use Rattle.ps_drop.specs.Visit.{Visits};
+ghost use Rattle.ps_drop.specs.inner.Visit.{Visits};
 
 use crate::children::{children_of, sorted_by_parent};
 use crate::nodes::ascending;

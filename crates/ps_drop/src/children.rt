@@ -1,7 +1,7 @@
 //! The pairs of one parent, found in a list that is sorted by parents.
 ghost use Rattle.std.specs.Prelude.{IfOk};
 ghost use Rattle.std.specs.List.Sorted.{IsPermutation, IsNonDecreasingBy};
-ghost use Rattle.ps_drop.specs.Visit.{AreChildren};
+ghost use Rattle.ps_drop.specs.inner.Visit.{AreChildren};
 
 use crate::pair::Pair;
 use std::alloc::{AllocError, Global};

@@ -7,6 +7,7 @@ mod children;
 mod links;
 mod nodes;
 mod pair;
+pub mod worked;
 
 pub use below::descendants;
 pub use links::leaning;

@@ -1,4 +1,4 @@
--- Ascending lists, and the set of the lists found.
+-- The set of the lists found.
 use Rattle.std.proofs.Common.{◌≡◌, ℕ, ◌<◌, List, [], ◌∷◌, length, sym, ap, ◌∙◌, subst, refl, inl, inr, ◌⊎◌, Contains, arith, get_or, zero, suc}
 use Rattle.std.specs.declared.cmp.Ordering.{Ordering}
 use Rattle.std.specs.Ordering.{nat_cmp, match_ordering}
@@ -14,35 +14,6 @@ use Rattle.std.proofs.lemmas.Map.Lookups.{exact_bytes}
 use Rattle.std.proofs.lemmas.List.Elements.{All-from_recursion, All-contains}
 use Rattle.ps_hit.specs.Hitting.{numbers_of, IsSubset}
 use Rattle.ps_list.proofs.Members.{nothing, cons_cases, here, there}
-
--- ---- ascending lists with the same numbers are the same
-
-above_first : (x : ℕ) (xs : List ℕ) → IsStrictlySortedBy nat_cmp (x ∷ xs) → (n : ℕ) → Contains xs n → x < n
-above_first x xs up n h = ranked x n Less (sym (All-contains (λ (m : ℕ). nat_cmp x m ≡ Less) xs n (All-from_recursion (λ (m : ℕ). nat_cmp x m ≡ Less) xs (sorted_head nat_cmp x xs up)) h))
-
-same_first : (x : ℕ) (xs : List ℕ) (y : ℕ) (ys : List ℕ) → IsStrictlySortedBy nat_cmp (x ∷ xs) → IsStrictlySortedBy nat_cmp (y ∷ ys)
-    → (y ≡ x) ⊎ Contains ys x → (x ≡ y) ⊎ Contains xs y → x ≡ y
-same_first x xs y ys up vp (inl is) b = sym is
-same_first x xs y ys up vp (inr h) (inl is) = is
-same_first x xs y ys up vp (inr h) (inr k) = let a : y < x = above_first y ys vp x h in let b : x < y = above_first x xs up y k in absurd (omega arith)
-
-rest_subset : (x : ℕ) (xs : List ℕ) (y : ℕ) (ys : List ℕ) → IsStrictlySortedBy nat_cmp (x ∷ xs) → x ≡ y → IsSubset (x ∷ xs) (y ∷ ys) → IsSubset xs ys
-rest_subset x xs y ys up same sub n h = elim (cons_cases y ys n (sub n (there x xs n h))) [
-  | inl is ↦ (let a : x < n = above_first x xs up n h in absurd (omega (arith, same, is)))
-  | inr later ↦ later
-]
-
-same_sorted : (xs ys : List ℕ) → IsStrictlySortedBy nat_cmp xs → IsStrictlySortedBy nat_cmp ys → IsSubset xs ys → IsSubset ys xs → xs ≡ ys
-same_sorted [] [] up vp to back = refl
-same_sorted [] (y ∷ ys) up vp to back = absurd (nothing y (back y (here y ys)))
-same_sorted (x ∷ xs) [] up vp to back = absurd (nothing x (to x (here x xs)))
-same_sorted (x ∷ xs) (y ∷ ys) up vp to back =
-    let first : x ≡ y = same_first x xs y ys up vp (cons_cases y ys x (to x (here x xs))) (cons_cases x xs y (back y (here y ys))) in
-    let rest : xs ≡ ys = same_sorted xs ys (sorted_tail nat_cmp x xs up) (sorted_tail nat_cmp y ys vp) (rest_subset x xs y ys up first to) (rest_subset y ys x xs vp (sym first) back) in
-    cc
-
-pub same_ascending : (xs ys : List ℕ) → IsStrictlyIncreasing xs → IsStrictlyIncreasing ys → IsSubset xs ys → IsSubset ys xs → xs ≡ ys
-same_ascending xs ys up vp to back = same_sorted xs ys (sorted_from_strictly_increasing xs up) (sorted_from_strictly_increasing ys vp) to back
 
 -- ---- the lists found
 

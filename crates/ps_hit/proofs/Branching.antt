@@ -5,10 +5,11 @@ use Rattle.std.proofs.lemmas.List.Elements.{All-push, Contains-push, Contains-pu
 use Rattle.ps_hit.specs.declared.cover.Cover.TheVariants.{Unmet}
 use Rattle.ps_hit.specs.declared.node.Node.{Node}
 use Rattle.ps_hit.specs.Hitting.{Meets, IsMinimalHit}
-use Rattle.ps_hit.specs.Covers.{unmet}
-use Rattle.ps_hit.specs.Searching.{IsNode, IsBelow, AddsChild, Branches, work, works}
+use Rattle.ps_hit.specs.inner.Covers.{unmet}
+use Rattle.ps_hit.specs.inner.Searching.{IsNode, IsBelow, AddsChild, Branches, work, works}
 use Rattle.ps_list.proofs.Members.{nothing}
-use Rattle.ps_hit.proofs.CoverSteps.{is_in, unmet_falls}
+use Rattle.ps_list.proofs.Numbers.{is_in}
+use Rattle.ps_hit.proofs.CoverSteps.{unmet_falls}
 use Rattle.ps_hit.proofs.Nodes.{child_node, below_child, no_child, not_chosen, zip_length, work_more, works-append}
 
 -- the first numbers of the set are passed, and a minimal hitting set below the node is below a child, or has none of those passed

@@ -9,7 +9,8 @@ use Rattle.std.proofs.lemmas.List.Elements.{All-head, All-tail, Contains-append_
 use Rattle.ps_hit.specs.declared.cover.Cover.{Cover}
 use Rattle.ps_hit.specs.declared.cover.Cover.TheVariants.{Unmet, Once, Again}
 use Rattle.ps_hit.specs.Hitting.{numbers_of}
-use Rattle.ps_hit.specs.Covers.{IsCover, cover_with, covers_with, unmet}
+use Rattle.ps_hit.specs.inner.Covers.{IsCover, cover_with, covers_with, unmet}
+use Rattle.ps_list.proofs.Numbers.{has_from, has_to, is_in}
 use Rattle.ps_list.proofs.Members.{nothing, cons_cases, here, there}
 
 -- one more set is done
@@ -21,29 +22,6 @@ covers_more n sets covers i set d done all cover has inside same read is becomes
     let inside' : i < length covers = omega arith in
     let before = rw (drop_more sets i set inside, drop_more covers i d inside', ← read) at so_far in
     rw (append_assoc, becomes, is) before
-
--- ---- whether a set has a number
-
-pub has_from : (xs : List ℕ) (n : ℕ) → list_any (λ m. m == n) xs ≡ true → Contains xs n
-has_from [] n h = absurd (false≢true h)
-has_from (x ∷ xs) n h = elim (or_cases (eqb x n) (list_any (λ m. m == n) xs) h) [
-  | inl is ↦ subst (λ (m : ℕ). Contains (x ∷ xs) m) (eqb-true x n is) (here x xs)
-  | inr later ↦ there x xs n (has_from xs n later)
-]
-
-pub has_to : (xs : List ℕ) (n : ℕ) → Contains xs n → list_any (λ m. m == n) xs ≡ true
-has_to [] n h = absurd (nothing n h)
-has_to (x ∷ xs) n h = elim (cons_cases x xs n h) [
-  | inl is ↦ or_left (eqb x n) (list_any (λ m. m == n) xs) (eq-eqb x n is)
-  | inr later ↦ or_right (eqb x n) (list_any (λ m. m == n) xs) (has_to xs n later)
-]
-
--- a list has a number or not
-pub is_in : (xs : List ℕ) (n : ℕ) → Contains xs n ⊎ (¬ Contains xs n)
-is_in xs n = elim (cases_Bool (list_any (λ m. m == n) xs)) [
-  | inl has ↦ inl (has_from xs n has)
-  | inr lacks ↦ inr (λ h. both_ways (list_any (λ m. m == n) xs) lacks (has_to xs n h))
-]
 
 -- ---- the covers stay right
 

@@ -6,9 +6,9 @@ use Rattle.std.proofs.lemmas.List.Elements.{All-nil, All-cons, All-contains}
 use Rattle.ps_hit.specs.declared.cover.Cover.{Cover}
 use Rattle.ps_hit.specs.declared.cover.Cover.TheVariants.{Unmet, Once, Again}
 use Rattle.ps_hit.specs.Hitting.{Meets, IsSubset, IsHit, IsMinimalHit}
-use Rattle.ps_hit.specs.Covers.{IsCover, HasOwn}
+use Rattle.ps_hit.specs.inner.Covers.{IsCover, HasOwn}
 use Rattle.ps_list.proofs.Members.{nothing, cons_cases, here, there}
-use Rattle.ps_hit.proofs.CoverSteps.{is_in}
+use Rattle.ps_list.proofs.Numbers.{is_in}
 
 -- ---- a list without a number
 

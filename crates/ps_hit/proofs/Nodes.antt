@@ -11,8 +11,8 @@ use Rattle.ps_hit.specs.declared.cover.Cover.{Cover}
 use Rattle.ps_hit.specs.declared.cover.Cover.TheVariants.{Unmet}
 use Rattle.ps_hit.specs.declared.node.Node.{Node}
 use Rattle.ps_hit.specs.Hitting.{numbers_of, Meets, IsSubset, IsMinimalHit}
-use Rattle.ps_hit.specs.Covers.{IsCover, HasOwn, covers_with, unmet}
-use Rattle.ps_hit.specs.Searching.{IsNode, IsBelow, IsChild, HasNoChild, AddsChild, work, works}
+use Rattle.ps_hit.specs.inner.Covers.{IsCover, HasOwn, covers_with, unmet}
+use Rattle.ps_hit.specs.inner.Searching.{IsNode, IsBelow, IsChild, HasNoChild, AddsChild, work, works}
 use Rattle.ps_list.proofs.Members.{here, there}
 use Rattle.ps_hit.proofs.CoverSteps.{covers_step, root_covers}
 use Rattle.ps_hit.proofs.Critical.{has_own_below}

@@ -9,11 +9,12 @@ use Rattle.ps_hit.specs.declared.cover.Cover.TheVariants.{Unmet, Once, Again}
 use Rattle.ps_hit.specs.declared.node.Node.{Node}
 use Rattle.ps_hit.specs.Hitting.{Meets, IsSubset, IsListed}
 use Rattle.ps_hit.specs.Answer.{IsLexicographic}
-use Rattle.ps_hit.specs.Covers.{unmet}
-use Rattle.ps_hit.specs.Searching.{IsNode, IsBelow, Branches, work, works}
+use Rattle.ps_hit.specs.inner.Covers.{unmet}
+use Rattle.ps_hit.specs.inner.Searching.{IsNode, IsBelow, Branches, work, works}
 use Rattle.ps_list.proofs.Members.{nothing, here}
 use Rattle.ps_hit.proofs.Critical.{leaf_minimal, leaf_all}
-use Rattle.ps_hit.proofs.Ascending.{put, put_keeps, put_new, put_cases, same_ascending}
+use Rattle.ps_hit.proofs.Ascending.{put, put_keeps, put_new, put_cases}
+use Rattle.ps_list.proofs.Numbers.{same_ascending}
 use Rattle.ps_hit.proofs.Nodes.{works-append, work_some}
 
 -- what was found is minimal, and each minimal hitting set was found or is below a node that waits

@@ -1,4 +1,4 @@
-pub mod Covers
-pub mod Hitting
 pub mod Answer
-pub mod Searching
+pub mod Examples
+pub mod Hitting
+pub mod inner

@@ -2,7 +2,7 @@
 ghost use Rattle.std.specs.Prelude.{◌≡◌, ◌==◌, ◌⊎◌, ◌≢◌, ◌↔◌, ◌<◌, ◌≤◌, IfOk, IsTrue, All, length, IfSome, IfNone};
 ghost use Rattle.std.specs.List.{HoldsAt, list_any};
 ghost use Rattle.ps_hit.specs.Hitting.{numbers_of};
-ghost use Rattle.ps_hit.specs.Covers.{cover_with, covers_with, HasOwn};
+ghost use Rattle.ps_hit.specs.inner.Covers.{cover_with, covers_with, HasOwn};
 
 use std::alloc::{AllocError, Global};
 

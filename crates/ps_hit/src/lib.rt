@@ -5,6 +5,7 @@ mod cover;
 mod hits;
 mod node;
 mod search;
+pub mod worked;
 
 pub use hits::Hits;
 pub use search::minimal_hits;

@@ -1,7 +1,7 @@
 //! A node of the search: what is chosen, and what may be chosen no more.
 ghost use Rattle.std.specs.Prelude.{◌≡◌, [], IfOk, OnOk};
 ghost use Rattle.ps_hit.specs.Hitting.{numbers_of};
-ghost use Rattle.ps_hit.specs.Searching.{IsNode, AddsChild};
+ghost use Rattle.ps_hit.specs.inner.Searching.{IsNode, AddsChild};
 
 use crate::cover::{Cover, all_have_own, chosen_too, none_chosen, sizes};
 use std::alloc::{AllocError, Global};

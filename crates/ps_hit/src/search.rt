@@ -4,7 +4,7 @@ ghost use Rattle.std.specs.List.{HoldsAt, IsDistinct};
 ghost use Rattle.std.specs.List.Sorted.{IsStrictlyIncreasing};
 ghost use Rattle.ps_hit.specs.Answer.{IfAll, OnTooMany, IsLexicographic, HasMore};
 ghost use Rattle.ps_hit.specs.Hitting.{numbers_of, IsListed};
-ghost use Rattle.ps_hit.specs.Searching.{IsNode, Branches};
+ghost use Rattle.ps_hit.specs.inner.Searching.{IsNode, Branches};
 
 use crate::cover::{Cover, bar, narrowest_unmet};
 use crate::hits::Hits;

@@ -1,6 +1,5 @@
 -- What the search finds from the images so far.
-use Rattle.std.specs.Prelude.{◌≡◌, ◌≢◌, ℕ, Bool, true, false, List, [], ◌∷◌, ◌++◌, map, length, drop, slice_index, Contains, Option, Some, None}
-use Rattle.std.specs.Bool.{MatchBool}
+use Rattle.std.specs.Prelude.{◌≡◌, ◌≢◌, ℕ, List, [], ◌∷◌, ◌++◌, map, length, drop, slice_index, Contains, Option, Some, None}
 use Rattle.std.specs.Cmp.Lexicographic.{slice_cmp}
 use Rattle.std.specs.Ordering.{nat_cmp}
 use Rattle.std.specs.declared.cmp.Ordering.TheVariants.{Greater}
@@ -9,9 +8,10 @@ use Rattle.ps_atom.specs.declared.atom.Atom.{Atom}
 use Rattle.ps_config.specs.Configurations.{Configuration, IsAt, threads_at, Embeds}
 use Rattle.ps_config.specs.Sent.{sent}
 use Rattle.ps_cover.specs.declared.partial.Partial.{Partial}
+use Rattle.ps_cover.specs.declared.open.Probe.{Probe}
+use Rattle.ps_cover.specs.declared.open.Probe.TheVariants.{Open, Closed, Barred}
 use Rattle.ps_cover.specs.declared.search.Trial.{Trial}
 use Rattle.ps_cover.specs.declared.search.Trial.TheVariants.{Found, Failed, Unfit}
-use Rattle.ps_cover.specs.inner.Tests.{can_go}
 
 abbrev pub large_of : List (ℕ × ℕ) → List Atom → Configuration
 large_of at atoms = record { at = at; atoms = atoms }
@@ -47,17 +47,25 @@ IsTrial small large p left image (Found all) = IsAnswer small large (one_more p 
 IsTrial small large p left image Failed = IsAnswer small large (one_more p left image) (drop 1 left) None × (¬ Contains p.to image)
 IsTrial small large p left image Unfit = IsAnswer small large (one_more p left image) (drop 1 left) None
 
+-- with this image for the thread there is no way
+abbrev pub Ends : Configuration → Configuration → Partial → ℕ → ℕ → Type 0
+Ends small large p thread image = NoWay small large (p.threads ++ thread ∷ []) (p.to ++ image ∷ [])
+
 -- none of these images has a way, and none is a thread's so far
-abbrev pub HaveFailed : Configuration → Configuration → Partial → List ℕ → List ℕ → Type 0
-HaveFailed small large p left failed = (w : ℕ) → Contains failed w → IsAnswer small large (one_more p left w) (drop 1 left) None × (¬ Contains p.to w)
+abbrev pub HaveFailed : Configuration → Configuration → Partial → ℕ → List ℕ → Type 0
+HaveFailed small large p thread failed = (w : ℕ) → Contains failed w → Ends small large p thread w × (¬ Contains p.to w)
 
--- these threads have images, and the later ones none; all of them occur
-pub record AreLeft (small : Configuration) (threads later : List ℕ) : Type 0 where
-  pub occur : (s : ℕ) → Contains threads s → Contains (threads_at small) s
-  pub wait : (s : ℕ) → Contains later s → Contains (threads_at small) s × (¬ Contains threads s)
+-- each of these threads occurs
+abbrev pub AllOccur : Configuration → List ℕ → Type 0
+AllOccur small threads = (s : ℕ) → Contains threads s → Contains (threads_at small) s
 
--- the thread can go to some thread, or to none
-abbrev pub HasImage : Configuration → Configuration → Partial → ℕ → Bool → Type 0
-HasImage small large p thread result = MatchBool result
-    ((v : ℕ) × Contains (threads_at large) v × (can_go small.at small.atoms large.at large.atoms p.threads p.to thread v ≡ true))
-    ((v : ℕ) → Contains (threads_at large) v → can_go small.at small.atoms large.at large.atoms p.threads p.to thread v ≡ false)
+-- the thread occurs and has no image yet
+pub record Waits (small : Configuration) (threads : List ℕ) (thread : ℕ) : Type 0 where
+  pub occurs : Contains (threads_at small) thread
+  pub new : ¬ Contains threads thread
+
+-- where the answer is that there is no way to go on, there is none
+abbrev pub IsProbe : Configuration → Configuration → Partial → ℕ → ℕ → Probe → Type 0
+IsProbe small large p thread image Open = Unit {0}
+IsProbe small large p thread image Closed = Ends small large p thread image × (¬ Contains p.to image)
+IsProbe small large p thread image Barred = Ends small large p thread image

@@ -2,7 +2,7 @@ use Rattle.std.proofs.Common.{◌≡◌, ℕ, List, sym, subst, Contains, ap, []
 use Rattle.std.specs.Prelude.{◌↔◌}
 use Rattle.std.proofs.lemmas.Result.{IfOk-weaker}
 use Rattle.ps_drop.specs.Pairs.{Leads}
-use Rattle.ps_drop.specs.Visit.{AreChildren}
+use Rattle.ps_drop.specs.inner.Visit.{AreChildren}
 use Rattle.ps_drop.proofs.Search.{Searched, searched_more, work_less, searched_all}
 use Rattle.ps_drop.proofs.below.descendants.Goals as goal
 

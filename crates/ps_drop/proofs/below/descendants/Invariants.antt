@@ -1,5 +1,5 @@
 use Rattle.std.proofs.Common.{◌+◌, length}
-use Rattle.ps_drop.specs.Visit.{unfound}
+use Rattle.ps_drop.specs.inner.Visit.{unfound}
 use Rattle.ps_drop.proofs.Search.{Searched}
 use Rattle.ps_drop.proofs.below.descendants.Given as goal
 

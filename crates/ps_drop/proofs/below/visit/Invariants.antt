@@ -1,5 +1,5 @@
 use Rattle.std.proofs.Common.{take}
-use Rattle.ps_drop.specs.Visit.{Visits}
+use Rattle.ps_drop.specs.inner.Visit.{Visits}
 use Rattle.ps_drop.proofs.below.visit.Given as goal
 
 abbrev pub invariant-loop-child : goal.invariant-loop-child

@@ -2,7 +2,7 @@ use Rattle.std.proofs.Common.{refl}
 use Rattle.std.proofs.lemmas.Bool.{both_ways, false≢true}
 use Rattle.std.proofs.lemmas.List.{take_all}
 use Rattle.std.proofs.lemmas.List.Elements.{All-more}
-use Rattle.ps_hit.specs.Covers.{HasOwn}
+use Rattle.ps_hit.specs.inner.Covers.{HasOwn}
 use Rattle.ps_hit.proofs.cover.all_have_own.Goals as goal
 
 -- the number has no set of its own

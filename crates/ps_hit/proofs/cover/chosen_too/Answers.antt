@@ -3,7 +3,7 @@ use Rattle.std.specs.Prelude.{◌==◌}
 use Rattle.std.specs.List.{list_any}
 use Rattle.ps_hit.specs.declared.cover.Cover.TheVariants.{Unmet}
 use Rattle.ps_hit.specs.Hitting.{numbers_of}
-use Rattle.ps_hit.specs.Covers.{covers_with}
+use Rattle.ps_hit.specs.inner.Covers.{covers_with}
 use Rattle.ps_hit.proofs.CoverSteps.{covers_more}
 use Rattle.ps_hit.proofs.cover.chosen_too.Goals as goal
 

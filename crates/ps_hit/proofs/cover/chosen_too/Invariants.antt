@@ -1,6 +1,6 @@
 use Rattle.std.proofs.Common.{◌≡◌, ◌++◌, drop}
 use Rattle.ps_hit.specs.Hitting.{numbers_of}
-use Rattle.ps_hit.specs.Covers.{covers_with}
+use Rattle.ps_hit.specs.inner.Covers.{covers_with}
 use Rattle.ps_hit.proofs.cover.chosen_too.Given as goal
 
 abbrev pub invariant-loop-at : goal.invariant-loop-at

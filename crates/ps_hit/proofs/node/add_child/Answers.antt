@@ -1,6 +1,6 @@
 use Rattle.std.proofs.Common.{◌++◌, ◌∷◌, [], ◌∙◌, ap, ℕ, List, All}
 use Rattle.ps_hit.specs.Hitting.{numbers_of}
-use Rattle.ps_hit.specs.Covers.{covers_with, HasOwn}
+use Rattle.ps_hit.specs.inner.Covers.{covers_with, HasOwn}
 use Rattle.ps_hit.proofs.Nodes.{covers_length, adds_none, adds_one}
 use Rattle.ps_hit.proofs.node.add_child.Goals as goal
 

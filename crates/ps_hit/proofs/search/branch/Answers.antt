@@ -4,7 +4,7 @@ use Rattle.std.specs.List.{list_any}
 use Rattle.ps_hit.specs.declared.cover.Cover.TheVariants.{Unmet}
 use Rattle.ps_hit.specs.Hitting.{numbers_of}
 use Rattle.ps_hit.proofs.Ascending.{numbers_at}
-use Rattle.ps_hit.proofs.CoverSteps.{has_from}
+use Rattle.ps_list.proofs.Numbers.{has_from}
 use Rattle.ps_hit.proofs.Nodes.{length-numbers_of}
 use Rattle.ps_hit.proofs.Branching.{IsUnmet, branching_skip, branching_add, branching_all}
 use Rattle.ps_hit.proofs.search.branch.Goals as goal

@@ -2,7 +2,7 @@ use Rattle.std.proofs.Common.{◌≡◌, ◌<◌, ◌∙◌, ◌++◌, ◌∷◌
 use Rattle.ps_hit.specs.declared.cover.Cover.TheVariants.{Unmet}
 use Rattle.ps_hit.specs.declared.node.Node.{Node}
 use Rattle.ps_hit.specs.Hitting.{numbers_of}
-use Rattle.ps_hit.specs.Searching.{IsNode}
+use Rattle.ps_hit.specs.inner.Searching.{IsNode}
 use Rattle.ps_hit.proofs.Ascending.{numbers_ordered, numbers_put}
 use Rattle.ps_hit.proofs.Nodes.{covers_length, length-numbers_of}
 use Rattle.ps_hit.proofs.Whole.{Searching, searching_first, last_node, searching_branch, searching_leaf, searched_every, branch_less, leaf_less}

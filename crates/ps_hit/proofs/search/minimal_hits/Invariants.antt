@@ -1,6 +1,6 @@
 use Rattle.std.proofs.Common.{◌≤◌, ◌+◌, length}
 use Rattle.ps_hit.specs.Hitting.{numbers_of}
-use Rattle.ps_hit.specs.Searching.{works}
+use Rattle.ps_hit.specs.inner.Searching.{works}
 use Rattle.ps_hit.proofs.Whole.{Searching, sizes}
 use Rattle.ps_hit.proofs.search.minimal_hits.Given as goal
 

@@ -1,7 +1,7 @@
--- Members of lists made from others, and tests of membership.
-use Rattle.std.proofs.Common.{◌≡◌, ℕ, Bool, true, false, cond, ◌==◌, List, [], ◌∷◌, map, refl, sym, ap, ap₂, ◌∙◌, subst, inl, inr, ◌⊎◌, Contains}
-use Rattle.std.specs.List.{flat_map, filter, list_any}
-use Rattle.std.proofs.lemmas.Bool.{both_ways, cases_eq, false≢true, or_cases, or_left, or_right, eqb-true, eq-eqb}
+-- Members of lists made from others.
+use Rattle.std.proofs.Common.{◌≡◌, Bool, true, false, cond, List, [], ◌∷◌, map, refl, sym, ap, ap₂, ◌∙◌, subst, inl, inr, ◌⊎◌, Contains}
+use Rattle.std.specs.List.{flat_map, filter}
+use Rattle.std.proofs.lemmas.Bool.{both_ways}
 use Rattle.std.proofs.lemmas.List.Elements.{Contains-append_left, Contains-append_right, Contains-append_cases}
 use Rattle.ps_list.proofs.Members.{nothing, cons_cases, here, there}
 
@@ -75,29 +75,3 @@ map_map {X} {Y} {Z} f g (x ∷ xs) = ap (λ (ys : List Z). g (f x) ∷ ys) (map_
 pub map_same : {X : Type 0} (f : X → X) (xs : List X) → ((x : X) → Contains xs x → f x ≡ x) → map f xs ≡ xs
 map_same f [] h = refl
 map_same {X} f (x ∷ xs) h = ap₂ (λ (y : X) (ys : List X). y ∷ ys) (h x (here x xs)) (map_same f xs (λ z c. h z (there x xs z c)))
-
--- ---- whether a list of numbers has one
-
-pub is_in : (xs : List ℕ) (n : ℕ) → Contains xs n ⊎ (¬ Contains xs n)
-is_in [] n = inr (λ h. nothing n h)
-is_in (x ∷ xs) n = elim (cases_eq x n) [
-  | inl is ↦ inl (subst (λ (m : ℕ). Contains (x ∷ xs) m) is (here x xs))
-  | inr other ↦ elim (is_in xs n) [
-    | inl later ↦ inl (there x xs n later)
-    | inr lacks ↦ inr (λ h. elim (cons_cases x xs n h) [ inl is ↦ other is | inr later ↦ lacks later ])
-  ]
-]
-
-pub has_from : (xs : List ℕ) (n : ℕ) → list_any (λ m. m == n) xs ≡ true → Contains xs n
-has_from [] n h = absurd (false≢true h)
-has_from (x ∷ xs) n h = elim (or_cases (x == n) (list_any (λ m. m == n) xs) h) [
-  | inl is ↦ subst (λ (m : ℕ). Contains (x ∷ xs) m) (eqb-true x n is) (here x xs)
-  | inr later ↦ there x xs n (has_from xs n later)
-]
-
-pub has_to : (xs : List ℕ) (n : ℕ) → Contains xs n → list_any (λ m. m == n) xs ≡ true
-has_to [] n h = absurd (nothing n h)
-has_to (x ∷ xs) n h = elim (cons_cases x xs n h) [
-  | inl is ↦ or_left (x == n) (list_any (λ m. m == n) xs) (eq-eqb x n is)
-  | inr later ↦ or_right (x == n) (list_any (λ m. m == n) xs) (has_to xs n later)
-]

@@ -3,7 +3,7 @@ use Rattle.std.specs.Prelude.{◌≡◌, ℕ, zero, suc, ◌-◌, ◌+◌, ◌*�
 use Rattle.std.specs.List.{AllZip, IsDistinct}
 use Rattle.ps_hit.specs.declared.node.Node.{Node}
 use Rattle.ps_hit.specs.Hitting.{Meets, IsSubset, IsMinimalHit}
-use Rattle.ps_hit.specs.Covers.{IsCover, HasOwn, covers_with, unmet}
+use Rattle.ps_hit.specs.inner.Covers.{IsCover, HasOwn, covers_with, unmet}
 
 -- the covers are those of the chosen numbers, each of which is the only chosen one of some set
 pub record IsNode (sets : List (List ℕ)) (node : Node) : Type 0 where
