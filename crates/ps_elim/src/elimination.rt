@@ -4,7 +4,7 @@ ghost use Rattle.ps_elim.specs.Elimination.{IsElimination};
 ghost use Rattle.ps_elim.specs.Refutation.{IfRefuted, IfStages};
 ghost use Rattle.ps_elim.specs.Stages.{variables};
 ghost use Rattle.ps_elim.specs.Vectors.{AreSums};
-ghost use Rattle.ps_elim.specs.Weighing.{vectors_of};
+ghost use Rattle.ps_elim.specs.inner.Weighing.{vectors_of};
 ghost use Rattle.ps_farkas.specs.Refutes.{Refutes};
 ghost use Rattle.ps_term.specs.declared.var.Var.{Var};
 ghost use Rattle.ps_term.specs.Row.{Holds};
@@ -75,7 +75,7 @@ pub fn eliminate(alloc: Global, rows: &[Row]) -> Result<Elim, AllocError>
         }
     }
     match least_refutation(set.as_slice()) {
-        Some(least) => Ok(Elim::Refuted(least.vector.copy(alloc)?)),
+        Some(least) => Ok(Elim::Refuted(Sequence::from_list(least.vector.to_list(alloc)?))),
         None => Ok(Elim::Stages(Sequence::from_list(stages))),
     }
 }

@@ -1,9 +1,9 @@
-use Rattle.std.proofs.Common.{◌≡◌, ℕ, ◌<◌, ◌≤◌, List, [], ◌∷◌, false, nat_lt, drop, length, length-drop, refl, sym, ap, ◌∙◌, subst₂, arith}
+use Rattle.std.proofs.Common.{◌≡◌, ℕ, ◌<◌, ◌≤◌, List, [], ◌∷◌, false, nat_lt, drop, length, length-drop, refl, sym, ap, ap₂, ◌∙◌, subst₂, arith}
 use Rattle.std.proofs.lemmas.List.{drop_all, drop_more}
 use Rattle.std.proofs.lemmas.Bool.{lt-ltb}
 use Rattle.std.proofs.lemmas.Bool.Decides.{nat_tests}
 use Rattle.ps_elim.specs.Supports.{is_less}
-use Rattle.ps_elim.proofs.filter.is_less.Goals as goal
+use Rattle.ps_elim.proofs.lexicographic.is_less.Goals as goal
 
 -- where the second list is at its end first, the first isn't less
 past_end : (u v : List ℕ) (i : ℕ) → i < length u → length v ≤ i → is_less (drop i u) (drop i v) ≡ false
@@ -21,10 +21,13 @@ at_end u v i h =
     same : nat_lt 0 (length (drop i v)) ≡ nat_lt (length u) (length v)
     same = grind (arith, nat_tests, length-drop i v)
 
-pub returns-then-at-other : goal.returns-then-at-other
-returns-then-at-other c =
-    sym (past_end c.args.vector.now c.args.other.now c.loop-at.at c.loop-at-test.true c.if-at-other.true) ∙ c.loop-at.invariant.rest
+pub returns-then-at-beside : goal.returns-then-at-beside
+returns-then-at-beside c =
+    let within : c.loop-at.at < length c.args.vector.now = omega (arith, c.loop-at-test.true, c.places-places.ensures) in
+    let past : length c.args.other.now ≤ c.loop-at.at = omega (arith, c.if-at-beside.true, c.places-beside.ensures) in
+    sym (past_end c.args.vector.now c.args.other.now c.loop-at.at within past) ∙ c.loop-at.invariant.rest
 
 pub returns : goal.returns
 returns c =
-    sym (at_end c.args.vector.now c.args.other.now c.loop-at.at (omega arith)) ∙ c.loop-at.invariant.rest
+    let end : c.loop-at.at ≡ length c.args.vector.now = omega (arith, c.loop-at-test.false, c.places-places.ensures) in
+    ap₂ (λ (m n : ℕ). nat_lt m n) c.places-places.ensures c.places-beside.ensures ∙ (sym (at_end c.args.vector.now c.args.other.now c.loop-at.at end) ∙ c.loop-at.invariant.rest)

@@ -1,7 +1,7 @@
 -- How many vectors the first stage is made of, told by the rows.
 use Rattle.std.specs.Prelude.{ℕ, ◌+◌, ◌*◌, List, length}
 use Rattle.std.specs.List.{filter}
-use Rattle.ps_elim.specs.Weighing.{is_of}
+use Rattle.ps_elim.specs.inner.Weighing.{is_of}
 use Rattle.ps_elim.specs.declared.sign.Sign.{Sign}
 use Rattle.ps_elim.specs.declared.sign.Sign.TheVariants.{Zero, Positive, Negative}
 use Rattle.ps_term.specs.Pairs.{coefficient}

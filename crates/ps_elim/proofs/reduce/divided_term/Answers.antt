@@ -7,7 +7,7 @@ use Rattle.ps_term.specs.Pairs.{coefficient}
 use Rattle.ps_term.specs.Whole.{IsCeiling}
 use Rattle.ps_term.proofs.Divisions.{divided_canonical, divided_coefficient, exact_ceiling}
 use Rattle.ps_elim.proofs.Rows.{divides_pairs}
-use Rattle.ps_elim.proofs.reduce.divided_row.Goals as goal
+use Rattle.ps_elim.proofs.reduce.divided_term.Goals as goal
 
 pub divided-requires-clause-divides : goal.divided-requires-clause-divides
 divided-requires-clause-divides c =
@@ -19,12 +19,12 @@ from_list-requires c =
 
 pub returns-clause-coefficients : goal.returns-clause-coefficients
 returns-clause-coefficients c =
-    let parts : AreDivided c.args.divisor c.args.row.now.term.pairs c.in_ok-list.list.items = subst (λ (ps : List (Var × ℤ)). AreDivided c.args.divisor ps c.in_ok-list.list.items) c.as_slice.ensures.list c.in_ok-list.ensures in
-    λ x. rw c.from_list.ensures (divided_coefficient c.args.divisor x c.args.row.now.term.pairs c.in_ok-list.list.items parts)
+    let parts : AreDivided c.args.divisor c.args.term.now.pairs c.in_ok-list.list.items = subst (λ (ps : List (Var × ℤ)). AreDivided c.args.divisor ps c.in_ok-list.list.items) c.as_slice.ensures.list c.in_ok-list.ensures in
+    λ x. rw c.from_list.ensures (divided_coefficient c.args.divisor x c.args.term.now.pairs c.in_ok-list.list.items parts)
 
 pub returns-clause-constant : goal.returns-clause-constant
 returns-clause-constant c =
-    let k = c.args.row.now.term.constant in
+    let k = c.args.term.now.constant in
     let q = c.ceil_div-constant.result in
     let fits : FitsSigned w128 k = search rules in
     let fits_q : FitsSigned w128 q = search rules in

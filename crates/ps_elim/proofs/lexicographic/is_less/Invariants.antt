@@ -1,6 +1,6 @@
 use Rattle.std.proofs.Common.{◌≡◌, ◌≤◌, drop, length}
 use Rattle.ps_elim.specs.Supports.{is_less}
-use Rattle.ps_elim.proofs.filter.is_less.Given as goal
+use Rattle.ps_elim.proofs.lexicographic.is_less.Given as goal
 
 abbrev pub invariant-loop-at : goal.invariant-loop-at
 invariant-loop-at l = record {

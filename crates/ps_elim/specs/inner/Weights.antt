@@ -5,6 +5,7 @@ use Rattle.ps_elim.specs.Divisors.{common_divisor}
 use Rattle.ps_elim.specs.declared.pair.Weights.{Weights}
 use Rattle.ps_term.specs.Pairs.{coefficient}
 use Rattle.ps_term.specs.declared.row.Row.{Row}
+use Rattle.ps_term.specs.declared.term.Term.{Term}
 use Rattle.ps_term.specs.declared.var.Var.{Var}
 
 -- the coefficient of the row, without sign
@@ -16,7 +17,7 @@ pub record AreWeights (x : Var) (p q : Row) (weights : Weights) : Type 0 where
   pub first : weights.first ≡ size_in x q / common_divisor (size_in x p) (size_in x q)
   pub second : weights.second ≡ size_in x p / common_divisor (size_in x q) (size_in x p)
 
--- each product and sum stays within 128 bits
-abbrev pub RowFits : ℕ → Row → ℕ → Row → Type 0
-RowFits m p n q =
-    ((x : Var) → WeightedFits m (coefficient x p.term.pairs) n (coefficient x q.term.pairs)) × WeightedFits m p.term.constant n q.term.constant
+-- in the weighted sum of two terms each product and sum stays within 128 bits
+abbrev pub TermsFit : ℕ → Term → ℕ → Term → Type 0
+TermsFit m p n q =
+    ((x : Var) → WeightedFits m (coefficient x p.pairs) n (coefficient x q.pairs)) × WeightedFits m p.constant n q.constant
