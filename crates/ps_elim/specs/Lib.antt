@@ -7,4 +7,5 @@ pub mod Elimination
 pub mod Refutation
 pub mod Places
 pub mod Ascending
+pub mod Examples
 pub mod inner

@@ -22,6 +22,7 @@ mod vector;
 mod weighted;
 mod width;
 mod words;
+pub mod worked;
 
 pub use answer::Elim;
 pub use elimination::eliminate;

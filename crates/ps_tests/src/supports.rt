@@ -1,31 +1,12 @@
-//! Supports of vectors.
-use ps_elim::Support;
+//! Supports of the vectors of a stage.
+use ps_elim::{Elim, Stage, Support, Vector, eliminate, has_few_variables};
+use ps_term::{Pairs, Row, Term, Var};
 use std::alloc::{AllocError, Global};
 use std::test::Fail;
 
-fn is_strictly_inside_a_wider_one(alloc: Global) -> Result<bool, AllocError> {
-    let support = Support::new(alloc, &[0, 1, 2])?.copy(alloc)?;
-    let wider = Support::new(alloc, &[1, 1, 2])?;
-    Ok(support.strictly_inside(&wider))
-}
-
-fn is_strictly_inside_the_same(alloc: Global) -> Result<bool, AllocError> {
-    let support = Support::new(alloc, &[0, 1, 2])?.copy(alloc)?;
-    let other = Support::new(alloc, &[0, 3, 1])?;
-    Ok(support.strictly_inside(&other))
-}
-
-fn compares(alloc: Global) -> Result<bool, AllocError> {
-    let support = Support::new(alloc, &[0, 1, 2])?;
-    let wider = Support::new(alloc, &[1, 1, 2])?;
-    let other = Support::new(alloc, &[0, 3, 1])?;
-    Ok(support.is_same(&other) && support.inside(&wider) && !wider.inside(&support))
-}
-
-#[test]
-fn compares_supports(rt: HostRuntime) -> Result<(), Fail> {
-    assert!(rt; is_strictly_inside_a_wider_one(rt.alloc())?);
-    assert!(rt; !is_strictly_inside_the_same(rt.alloc())?);
-    assert!(rt; compares(rt.alloc())?);
-    Ok(())
+// The row `coefficient * g1 + constant <= 0`, with `first * g0` before.
+fn row(alloc: Global, first: i128, second: i128) -> Result<Row, AllocError>
+{
+    let pairs = Pairs::from_list([(Var::Global(0), first), (Var::Global(1), second)].to_vec(alloc)?);
+    Ok(Row { term: Term { pairs, constant: 0 } })
 }
