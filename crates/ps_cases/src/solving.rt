@@ -49,7 +49,7 @@ fn shown(alloc: Global, answer: &Elim) -> Result<Vec<u8>, AllocError> {
         }
         Elim::Stages(stages) => {
             let mut text = word(alloc, "stages")?;
-            put_stages(&mut text, stages.as_slice())?;
+            put_stages(alloc, &mut text, stages.as_slice())?;
             Ok(text)
         }
         Elim::Past128 { stage } => Ok(format!(in alloc; "past {stage}")?.into_bytes()),
@@ -59,11 +59,11 @@ fn shown(alloc: Global, answer: &Elim) -> Result<Vec<u8>, AllocError> {
     }
 }
 
-fn put_stages(text: &mut Vec<u8>, stages: &[Stage]) -> Result<(), AllocError> {
+fn put_stages(alloc: Global, text: &mut Vec<u8>, stages: &[Stage]) -> Result<(), AllocError> {
     for stage in stages {
         put_word(text, b";")?;
         for vector in stage.vectors.as_slice() {
-            put_numbers(text, vector.as_slice())?;
+            put_numbers(text, vector.to_list(alloc)?.as_slice())?;
             put_word(text, b",")?;
         }
     }

@@ -1,13 +1,13 @@
 -- Bits in words of 64.
 use Rattle.std.proofs.Common.{◌≡◌, ◌≢◌, ◌↔◌, ℕ, zero, suc, ◌+◌, ◌-◌, ◌*◌, ◌/◌, ◌%◌, ◌^◌, ◌<◌, ◌≤◌, min, w64, Bool, true, false, not, ◌==◌, eqb, bit_and, bit_or, List, [], ◌∷◌, ◌++◌, length, get_or, set, take, drop, if◌then◌else◌, refl, sym, ap, ◌∙◌, subst, arith, inl, inr, ◌⊎◌, eqb-true, eq-eqb}
 use Rattle.std.specs.Int.{bit_at, bit_not, div_ceil}
-use Rattle.std.proofs.lemmas.Bool.{cases_lt, cases_eq, ne_eqb, false≢true, and_parts, and_from}
+use Rattle.std.proofs.lemmas.Bool.{cases_lt, cases_eq, false≢true, and_parts, and_from}
 use Rattle.std.proofs.lemmas.Bool.Decides.{same_from_decides}
-use Rattle.std.proofs.lemmas.List.{get_or-set_same, get_or-set_other, get_or-take, get_or_past, length-take, same_lists, length-map, get_or-map, take_all, drop_all, append-nil}
+use Rattle.std.proofs.lemmas.List.{get_or-set_same, get_or-set_other, get_or_past, same_lists, length-map, get_or-map, take_all, drop_all, append-nil}
 use Rattle.std.proofs.lemmas.List.FromFn.{get_or-map-range_with_len, length-map-range_with_len}
 use Rattle.std.proofs.lemmas.Nat.Bits.{bit_at_and, bit_at_not, bit_at-zero, bit_at-lt, bit_at_above, same_from_bits, bit_at_set_same, bit_at_set_other}
 use Rattle.ps_elim.specs.Places.{is_part, support_of}
-use Rattle.ps_elim.specs.Words.{AreWordsOf, HasPlaces, IsMarked, IsPartOf, bit_of, bits_of}
+use Rattle.ps_elim.specs.inner.Words.{AreWordsOf, HasPlaces, IsMarked, IsPartOf, bit_of, bits_of}
 
 -- ---- one word
 abbrev pub WordPart : ℕ → ℕ → Type 0
@@ -75,34 +75,9 @@ word_of_part words others n h i l =
     let place : ((64 * n) + i) % 64 ≡ i = omega arith in
     subst (λ (j : ℕ). bit_at (get_or words n 0) j ≤ bit_at (get_or others n 0) j) place (subst (λ (m : ℕ). bit_at (get_or words m 0) (((64 * n) + i) % 64) ≤ bit_at (get_or others m 0) (((64 * n) + i) % 64)) word (h ((64 * n) + i)))
 
--- ---- the bits of a vector's entries
+-- ---- the bit of an entry
 abbrev pub bit_for : ℕ → ℕ
 bit_for n = if n == 0 then 0 else 1
-
-pub bits_more_zero : (v words : List ℕ) (p : ℕ) → p < length v → get_or v p 0 ≡ 0 → ((k : ℕ) → bit_of words k ≡ bit_for (get_or (take p v) k 0)) → (k : ℕ) → bit_of words k ≡ bit_for (get_or (take (p + 1) v) k 0)
-bits_more_zero v words p l z h k = h k ∙ ap bit_for (by_place (cases_lt k p))
-  where
-    by_place : (k < p) ⊎ (p ≤ k) → get_or (take p v) k 0 ≡ get_or (take (p + 1) v) k 0
-    by_place (inl m) = get_or-take p v k 0 m ∙ sym (get_or-take (p + 1) v k 0 (omega arith))
-    by_place (inr g) = get_or_past (take p v) k 0 (omega (arith, length-take p v)) ∙ sym (past (cases_eq k p))
-      where
-        past : (k ≡ p) ⊎ (k ≡ p → ⊥) → get_or (take (p + 1) v) k 0 ≡ 0
-        past (inl e) = get_or-take (p + 1) v k 0 (omega arith) ∙ (ap (λ (i : ℕ). get_or v i 0) e ∙ z)
-        past (inr d) = get_or_past (take (p + 1) v) k 0 (omega (arith, d, length-take (p + 1) v))
-
-pub bits_more_marked : (v words new : List ℕ) (p : ℕ) → p < length v → get_or v p 0 ≢ 0 → IsMarked words new p → ((k : ℕ) → bit_of words k ≡ bit_for (get_or (take p v) k 0)) → (k : ℕ) → bit_of new k ≡ bit_for (get_or (take (p + 1) v) k 0)
-bits_more_marked v words new p l z m h k = by_place (cases_eq k p)
-  where
-    by_place : (k ≡ p) ⊎ (k ≡ p → ⊥) → bit_of new k ≡ bit_for (get_or (take (p + 1) v) k 0)
-    by_place (inl e) =
-        let entry : get_or (take (p + 1) v) k 0 ≡ get_or v p 0 = get_or-take (p + 1) v k 0 (omega arith) ∙ ap (λ (i : ℕ). get_or v i 0) e in
-        let one : bit_for (get_or v p 0) ≡ 1 = ap (λ (t : Bool). if t then 0 else 1) (ne_eqb (get_or v p 0) 0 z) in
-        ap (λ (i : ℕ). bit_of new i) e ∙ (m.here ∙ sym (ap bit_for entry ∙ one))
-    by_place (inr d) = m.others k d ∙ (h k ∙ ap bit_for (same (cases_lt k p)))
-      where
-        same : (k < p) ⊎ (p ≤ k) → get_or (take p v) k 0 ≡ get_or (take (p + 1) v) k 0
-        same (inl a) = get_or-take p v k 0 a ∙ sym (get_or-take (p + 1) v k 0 (omega arith))
-        same (inr g) = get_or_past (take p v) k 0 (omega (arith, length-take p v)) ∙ sym (get_or_past (take (p + 1) v) k 0 (omega (arith, d, length-take (p + 1) v)))
 
 -- ---- supports
 bit_is : (n : ℕ) → (bit_for n == 1) ≡ not (n == 0)

@@ -4,11 +4,11 @@ use Rattle.std.proofs.lemmas.Bool.{both_ways}
 use Rattle.std.proofs.lemmas.Int.{ints}
 use Rattle.std.proofs.lemmas.List.{get_or-map, length-map}
 use Rattle.std.proofs.lemmas.List.Elements.{All-contains, All-map, All-nil, All-push, All-weaker, Contains-append_left, Contains-push}
-use Rattle.ps_elim.specs.Choosing.{IsLeastAmong, IsPositive, lesser_of}
+use Rattle.ps_elim.specs.inner.Choosing.{IsLeastAmong, IsPositive, lesser_of}
 use Rattle.ps_elim.specs.Elimination.{HasNoRefutation, IsLeastRefutation, last_set}
 use Rattle.ps_elim.specs.Supports.{is_less}
 use Rattle.ps_elim.specs.Vectors.{constant_under}
-use Rattle.ps_elim.specs.Weighing.{IsWeighted, vectors_of}
+use Rattle.ps_elim.specs.inner.Weighing.{IsWeighted, vectors_of}
 use Rattle.ps_elim.specs.declared.weighted.Weighted.{Weighted}
 use Rattle.ps_elim.proofs.Order.{is_less-irreflexive, is_less-trans}
 use Rattle.ps_term.specs.declared.row.Row.{Row}

@@ -2,8 +2,8 @@
 use Rattle.std.proofs.Common.{◌≡◌, ◌≤◌, ◌<◌, ℕ, zero, suc, ℤ, pos, Bool, true, false, IsTrue, List, [], ◌∷◌, All, refl, sym, ap, ap₂, ◌∙◌, subst, arith, ◌≤ℤ◌}
 use Rattle.std.proofs.lemmas.Int.{ints}
 use Rattle.std.proofs.lemmas.List.Elements.{All-contains, All-head, All-tail}
-use Rattle.ps_elim.specs.Combining.{AllFit, eliminated, width}
-use Rattle.ps_elim.specs.Elimination.{AreStagesOf, Ends, HasNoRefutation, IsElimination, IsLeastRefutation, last_set}
+use Rattle.ps_elim.specs.Combining.{eliminated, width}
+use Rattle.ps_elim.specs.Elimination.{HasNoRefutation, IsElimination, IsLeastRefutation, last_set}
 use Rattle.ps_elim.specs.Refutation.{HasCanonicalRows}
 use Rattle.ps_elim.specs.Stages.{AllPass, AreStages, Passes, StopsAt, first_set, variables}
 use Rattle.ps_elim.specs.Supports.{is_less}

@@ -2,14 +2,16 @@
 use Rattle.std.proofs.Common.{◌≡◌, ℕ, zero, suc, ◌+◌, ◌^◌, ◌<◌, ◌≤◌, List, [], ◌∷◌, ◌++◌, length, map, All, sym, ap, ◌∙◌, subst, arith}
 use Rattle.std.proofs.lemmas.List.{append_assoc, length_push}
 use Rattle.std.proofs.lemmas.List.Elements.{All-head, All-tail, All-nil, All-push}
-use Rattle.ps_elim.specs.Combining.{AllFit, eliminated, width}
+use Rattle.ps_elim.specs.Combining.{AllFit, all_combined, eliminated, negatives, positives, width, zeros}
 use Rattle.ps_elim.specs.Elimination.{Ends, IsTooWide, LeavesRange, last_set}
 use Rattle.ps_elim.specs.Stages.{AllPass, AreStages, Passes, StopsAt, first_set, set_after, variables}
 use Rattle.ps_elim.specs.Vectors.{AreSums}
-use Rattle.ps_elim.specs.Weighing.{IsWeighted, vectors_of}
+use Rattle.ps_elim.specs.inner.Antichains.{IsAntichain}
+use Rattle.ps_elim.specs.inner.Weighing.{IsWeighted, vectors_of}
 use Rattle.ps_elim.specs.declared.limits.TheConstants.{MOST_VECTORS}
 use Rattle.ps_elim.specs.declared.stage.Stage.{Stage}
 use Rattle.ps_elim.specs.declared.weighted.Weighted.{Weighted}
+use Rattle.ps_elim.proofs.Antichains.{kept_apart, units_apart}
 use Rattle.ps_term.specs.declared.row.Row.{Row}
 use Rattle.ps_term.specs.declared.var.Var.{Var}
 
@@ -25,6 +27,7 @@ HaveSums rows stages = All (λ stage. AreSums rows stage.vectors stage.rows) sta
 pub record Eliminating (rows : List Row) (set : List Weighted) (stages : List Stage) (rest : List Var) : Type 0 where
   pub weighted : All (IsWeighted rows) set
   pub few : length set < 2 ^ 32
+  pub apart : IsAntichain (vectors_of set)
   pub last : set_after rows (vectors_of set) rest ≡ last_set rows
   pub ends : AllPass rows (vectors_of set) rest → Ends rows
   pub made : (more : List Stage) → AreStages rows (vectors_of set) rest more → AreStages rows (first_set rows) (variables rows) (stages ++ more)
@@ -36,6 +39,7 @@ pub Eliminating-start : (rows : List Row) (set : List Weighted) → All (IsWeigh
 Eliminating-start rows set h e l = record {
   weighted = h;
   few = l;
+  apart = subst IsAntichain (sym e) (units_apart (length rows));
   last = ap (λ (vs : List (List ℕ)). set_after rows vs (variables rows)) e;
   ends = λ p. subst (λ (vs : List (List ℕ)). AllPass rows vs (variables rows)) e p;
   made = λ more p. subst (λ (vs : List (List ℕ)). AreStages rows vs (variables rows) more) e p;
@@ -57,6 +61,7 @@ Eliminating-step rows set next stages x rest stage e p all same few is vs rs =
     record {
       weighted = all;
       few = omega (arith, few);
+      apart = subst IsAntichain (sym same) (kept_apart (zeros rows x (vectors_of set) ++ all_combined rows x (positives rows x (vectors_of set)) (negatives rows x (vectors_of set))));
       last = ap (λ (us : List (List ℕ)). set_after rows us rest) same ∙ e.last;
       ends = λ h. e.ends (p, subst (λ (us : List (List ℕ)). AllPass rows us rest) same h);
       made = λ more h. subst (λ (ss : List Stage). AreStages rows (first_set rows) (variables rows) ss) (sym (append_assoc stages (stage ∷ []) more)) (e.made (stage ∷ more) (is, vs, sums_here, subst (λ (us : List (List ℕ)). AreStages rows us rest more) same h));

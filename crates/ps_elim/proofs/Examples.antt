@@ -1,63 +1,68 @@
 -- The definitions give the worked answers.
-use Rattle.std.proofs.Common.{◌≡◌, ◌<◌, ◌-◌, ◌*◌, ◌^◌, ℕ, ℤ, pos, negsuc, List, [], ◌∷◌, ◌++◌, replicate, All, FitsSigned, lit<, lit≤, refl, subst, arith}
+use Rattle.std.proofs.Common.{◌≡◌, ◌<◌, ◌-◌, ◌*◌, ◌^◌, ℕ, ℤ, pos, negsuc, ◌+ℤ◌, ◌*ℤ◌, Bool, true, false, if◌then◌else◌, List, [], ◌∷◌, All, Contains, FitsSigned, IsTrue, lit<, lit≤, inl, inr, refl, sym, subst, arith}
 use Rattle.std.specs.Int.{w128}
+use Rattle.std.proofs.lemmas.Bool.{false≢true}
 use Rattle.std.proofs.lemmas.Int.{ints}
-use Rattle.std.proofs.lemmas.List.Elements.{All-head}
-use Rattle.ps_elim.specs.Combining.{AllFit, PairFits, all_combined, eliminated, negatives, positives, width}
-use Rattle.ps_elim.specs.Elimination.{IsTooWide, LeavesRange, last_set}
-use Rattle.ps_elim.specs.Stages.{first_set, variables}
+use Rattle.std.proofs.lemmas.List.Elements.{All-cons, All-head, All-nil}
+use Rattle.ps_list.proofs.Members.{cons_cases, here, nothing}
+use Rattle.ps_elim.specs.Combining.{AllFit, PairFits, WeightedFits, negatives, width}
+use Rattle.ps_elim.specs.Elimination.{IsLeastRefutation}
+use Rattle.ps_elim.specs.Examples.{PairsAreTooMany, SumRefutesTwo, TwiceIsPast, great, two, wide}
+use Rattle.ps_elim.specs.Stages.{Passes, first_set}
+use Rattle.ps_elim.specs.Supports.{is_less}
 use Rattle.ps_elim.specs.declared.limits.TheConstants.{MOST_VECTORS}
-use Rattle.ps_term.specs.declared.row.Row.{Row}
-use Rattle.ps_term.specs.declared.var.Var.{Var}
+use Rattle.ps_term.specs.Var.{var_eq}
 use Rattle.ps_term.specs.declared.var.Var.TheVariants.{Global}
 
-abbrev pub row : List (Var × ℤ) → ℤ → Row
-row pairs constant = record { term = record { pairs = pairs; constant = constant } }
+-- ---- a refutation
+-- what so often the first row and so often the second give to a variable that is g0 or isn't
+abbrev under : ℕ → ℕ → Bool → ℤ
+under m n t = (pos m *ℤ ((if t then pos 1 else pos 0) +ℤ pos 0)) +ℤ ((pos n *ℤ ((if t then negsuc 0 else pos 0) +ℤ pos 0)) +ℤ pos 0)
 
--- g0 + 1 <= 0 and -g0 <= 0
-abbrev rows : List Row
-rows = row ((Global 0, pos 1) ∷ []) (pos 1) ∷ row ((Global 0, negsuc 0) ∷ []) (pos 0) ∷ []
+either_fits : (t : Bool) → WeightedFits 1 (under 1 0 t) 1 (under 0 1 t)
+either_fits true = (record { sfits = omega arith }, (record { sfits = omega arith }, record { sfits = omega arith }))
+either_fits false = (record { sfits = omega arith }, (record { sfits = omega arith }, record { sfits = omega arith }))
 
-two_rows : last_set rows ≡ (1 ∷ 1 ∷ []) ∷ []
-two_rows = refl
+pair_fits : PairFits two (Global 0) (1 ∷ 0 ∷ []) (0 ∷ 1 ∷ [])
+pair_fits = record {
+  entries = (first, (second, tt));
+  coefficients = λ y. either_fits (var_eq y (Global 0));
+  constant = first;
+}
+  where
+    first : WeightedFits 1 (pos 1) 1 (pos 0)
+    first = (record { sfits = omega arith }, (record { sfits = omega arith }, record { sfits = omega arith }))
 
--- 2*g0 - 3*g1 - 1, -2*g0 + 3*g1 + 1 and 0
-abbrev three : List Row
-three = row ((Global 0, pos 2) ∷ (Global 1, negsuc 2) ∷ []) (negsuc 0) ∷ row ((Global 0, negsuc 1) ∷ (Global 1, pos 3) ∷ []) (pos 1) ∷ row [] (pos 0) ∷ []
+    second : WeightedFits 1 (pos 0) 1 (pos 1)
+    second = (record { sfits = omega arith }, (record { sfits = omega arith }, record { sfits = omega arith }))
 
-three_variables : variables three ≡ Global 0 ∷ Global 1 ∷ []
-three_variables = refl
+passes : Passes two (first_set two) (Global 0)
+passes = record {
+  few = lit≤ tt;
+  fits = All-cons (λ p. All (PairFits two (Global 0) p) ((0 ∷ 1 ∷ []) ∷ [])) (1 ∷ 0 ∷ []) [] (All-cons (PairFits two (Global 0) (1 ∷ 0 ∷ [])) (0 ∷ 1 ∷ []) [] pair_fits (All-nil (PairFits two (Global 0) (1 ∷ 0 ∷ [])))) (All-nil (λ p. All (PairFits two (Global 0) p) ((0 ∷ 1 ∷ []) ∷ [])));
+}
 
-three_rows : last_set three ≡ (0 ∷ 0 ∷ 1 ∷ []) ∷ (1 ∷ 1 ∷ 0 ∷ []) ∷ []
-three_rows = refl
+none_less : (u : List ℕ) → Contains ((1 ∷ 1 ∷ []) ∷ []) u → ¬ IsTrue (is_less u (1 ∷ 1 ∷ []))
+none_less u c less = elim (cons_cases (1 ∷ 1 ∷ []) [] u c) [
+  | inl same ↦ false≢true (subst (λ (v : List ℕ). is_less v (1 ∷ 1 ∷ []) ≡ true) (sym same) less)
+  | inr rest ↦ nothing u rest
+]
 
--- g0 + g1, -g0 + g1, g0 - g1 and -g0 - g1: the first with the last, and the second with the third, cancel at once
-abbrev four : List Row
-four = row ((Global 0, pos 1) ∷ (Global 1, pos 1) ∷ []) (pos 0) ∷ row ((Global 0, negsuc 0) ∷ (Global 1, pos 1) ∷ []) (pos 0) ∷ row ((Global 0, pos 1) ∷ (Global 1, negsuc 0) ∷ []) (pos 0) ∷ row ((Global 0, negsuc 0) ∷ (Global 1, negsuc 0) ∷ []) (pos 0) ∷ []
+least : IsLeastRefutation two (1 ∷ 1 ∷ [])
+least = record {
+  is_last = here (1 ∷ 1 ∷ []) [];
+  positive = omega (arith, ints);
+  least = λ u c positive. none_less u c;
+}
 
-after_g0 : eliminated four (Global 0) (first_set four) ≡ (1 ∷ 1 ∷ 0 ∷ 0 ∷ []) ∷ (1 ∷ 0 ∷ 0 ∷ 1 ∷ []) ∷ (0 ∷ 1 ∷ 1 ∷ 0 ∷ []) ∷ (0 ∷ 0 ∷ 1 ∷ 1 ∷ []) ∷ []
-after_g0 = refl
+pub refutes_two : SumRefutesTwo
+refutes_two = ((passes, tt), least)
 
--- at g1 the first and the last of these make a vector, whose support strictly contains those of the two between
-made_at_g1 : all_combined four (Global 1) (positives four (Global 1) (eliminated four (Global 0) (first_set four))) (negatives four (Global 1) (eliminated four (Global 0) (first_set four))) ≡ (1 ∷ 1 ∷ 1 ∷ 1 ∷ []) ∷ []
-made_at_g1 = refl
-
--- so it is dropped
-dropped : last_set four ≡ (1 ∷ 0 ∷ 0 ∷ 1 ∷ []) ∷ (0 ∷ 1 ∷ 1 ∷ 0 ∷ []) ∷ []
-dropped = refl
-
--- 46 times g0 and 45 times -g0 give 2,070 pairs
-abbrev wide : List Row
-wide = replicate 46 (row ((Global 0, pos 1) ∷ []) (pos 0)) ++ replicate 45 (row ((Global 0, negsuc 0) ∷ []) (pos 0))
-
-too_wide : IsTooWide wide 0 2070
+-- ---- answers that end before the last stage
+pub too_wide : PairsAreTooMany
 too_wide =
     let count : 2070 ≡ width wide (Global 0) (first_set wide) = refl in
     (subst (λ (n : ℕ). MOST_VECTORS < n) count (lit< tt), count)
-
--- the greatest number of 128 bits times g0, and -2 times g0: the product with 2 doesn't fit
-abbrev great : List Row
-great = row ((Global 0, pos (2 ^ 127 - 1)) ∷ []) (pos 0) ∷ row ((Global 0, negsuc 1) ∷ []) (pos 0) ∷ []
 
 twice_does_not_fit : FitsSigned w128 (pos (2 * (2 ^ 127 - 1))) → ⊥
 twice_does_not_fit h = let within = h.sfits in omega (arith, ints, within)
@@ -68,5 +73,5 @@ no_pair_fits fits =
     let pair : PairFits great (Global 0) (1 ∷ 0 ∷ []) (0 ∷ 1 ∷ []) = All-head (PairFits great (Global 0) (1 ∷ 0 ∷ [])) (0 ∷ 1 ∷ []) [] first in
     twice_does_not_fit (pair.coefficients (Global 0)).0
 
-leaves_range : LeavesRange great 0
+pub leaves_range : TwiceIsPast
 leaves_range = (lit≤ tt, no_pair_fits)

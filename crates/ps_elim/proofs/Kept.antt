@@ -4,10 +4,10 @@ use Rattle.std.specs.List.{AllByRecursion}
 use Rattle.std.proofs.lemmas.Bool.{false≢true}
 use Rattle.std.proofs.lemmas.List.{drop_more, take_more, drop_all, append_assoc, append-nil, get_or-map, take-map, drop-map}
 use Rattle.std.proofs.lemmas.List.Elements.{All-from_recursion, recursion_from_All}
-use Rattle.ps_elim.specs.Marking.{marked, stays_at, stays_between, staying, staying_after}
+use Rattle.ps_elim.specs.inner.Marking.{marked, stays_at, stays_between, staying, staying_after}
 use Rattle.ps_elim.specs.Places.{is_part, support_of}
-use Rattle.ps_elim.specs.Supports.{has_support_of, is_inside, is_new_after, is_strictly_inside, kept, kept_after, stays_beside}
-use Rattle.ps_elim.specs.Weighing.{vectors_of}
+use Rattle.ps_elim.specs.Supports.{has_support_of, is_inside, is_new_after, kept, kept_after, stays_beside}
+use Rattle.ps_elim.specs.inner.Weighing.{vectors_of}
 use Rattle.ps_elim.specs.declared.weighted.Weighted.{Weighted}
 
 -- ---- marks
@@ -82,10 +82,6 @@ is_part-support_of (m ∷ u) (n ∷ v) =
     ap₂ (λ (p q : Bool). (p || not (n == 0)) && q) (not_not (m == 0)) (is_part-support_of u v)
 
 -- what the supports of two vectors say
-pub strictly_by_supports : (u v : List ℕ) (p q : List Bool) (t : Bool) → p ≡ support_of u → q ≡ support_of v → t ≡ (is_part p q && not (is_part q p)) → t ≡ is_strictly_inside u v
-strictly_by_supports u v p q t e f h =
-    h ∙ (ap₂ (λ (a b : List Bool). is_part a b && not (is_part b a)) e f ∙ ap₂ (λ (a b : Bool). a && not b) (is_part-support_of u v) (is_part-support_of v u))
-
 pub same_by_supports : (u v : List ℕ) (p q : List Bool) (t : Bool) → p ≡ support_of u → q ≡ support_of v → t ≡ (is_part p q && is_part q p) → t ≡ has_support_of u v
 same_by_supports u v p q t e f h =
     h ∙ (ap₂ (λ (a b : List Bool). is_part a b && is_part b a) e f ∙ ap₂ (λ (a b : Bool). a && b) (is_part-support_of u v) (is_part-support_of v u))
@@ -98,16 +94,19 @@ stays_at-is ws i w a b d l is e f g =
     parts ∙ (ap₂ (λ (us vs : List (List ℕ)). stays_between us w.vector vs) (sym (take-map (λ u. u.vector) i ws)) (sym (drop-map (λ u. u.vector) (i + 1) ws)) ∙ ap (λ (v : List ℕ). stays_between (take i (vectors_of ws)) v (drop (i + 1) (vectors_of ws))) (sym here))
 
 -- what one vector says of another, by cases
-pub by_strict : (s r : Bool) → s ≡ true → false ≡ (not s && r)
-by_strict true r e = refl
-by_strict false r e = absurd (false≢true e)
+pub inside_by_supports : (u v : List ℕ) (p q : List Bool) (t : Bool) → p ≡ support_of u → q ≡ support_of v → t ≡ is_part p q → t ≡ is_inside u v
+inside_by_supports u v p q t e f h = h ∙ (ap₂ (λ (a b : List Bool). is_part a b) e f ∙ is_part-support_of u v)
 
-pub by_other : (s h l : Bool) → s ≡ false → h ≡ false → true ≡ (not s && not (h && l))
-by_other false false l e f = refl
-by_other false true l e f = absurd (false≢true (sym f))
-by_other true h l e f = absurd (false≢true (sym e))
+pub by_outside : (a b l : Bool) → a ≡ false → true ≡ (not (a && not b) && not ((a && b) && l))
+by_outside false b l e = refl
+by_outside true b l e = absurd (false≢true (sym e))
 
-pub by_order : (s h l : Bool) → s ≡ false → h ≡ true → not l ≡ (not s && not (h && l))
-by_order false true l e f = refl
-by_order false false l e f = absurd (false≢true f)
-by_order true h l e f = absurd (false≢true (sym e))
+pub by_strict : (a b l : Bool) → a ≡ true → b ≡ false → false ≡ (not (a && not b) && not ((a && b) && l))
+by_strict true false l e f = refl
+by_strict true true l e f = absurd (false≢true (sym f))
+by_strict false b l e f = absurd (false≢true e)
+
+pub by_order : (a b l : Bool) → a ≡ true → b ≡ true → not l ≡ (not (a && not b) && not ((a && b) && l))
+by_order true true l e f = refl
+by_order true false l e f = absurd (false≢true f)
+by_order false b l e f = absurd (false≢true e)

@@ -8,12 +8,12 @@ use Rattle.std.proofs.lemmas.List.Folds.{list_all-append}
 use Rattle.std.proofs.lemmas.List.Kept.{AllPairs-cons}
 use Rattle.ps_list.proofs.Members.{nothing, cons_cases, here, there}
 use Rattle.ps_elim.specs.Supports.{IsLeastIn, has_support_of, is_less, is_new_after, is_strictly_inside, kept, kept_after, stays_beside}
-use Rattle.ps_elim.specs.Marking.{stays_by, differs}
+use Rattle.ps_elim.specs.inner.Marking.{stays_by, differs}
 use Rattle.ps_elim.proofs.Order.{is_less-irreflexive, is_inside_itself, same_unless_less}
 
 -- ---- tests of all members
 
-all_of : {X : Type 0} (p : X → Bool) (xs : List X) (x : X) → list_all p xs ≡ true → Contains xs x → p x ≡ true
+pub all_of : {X : Type 0} (p : X → Bool) (xs : List X) (x : X) → list_all p xs ≡ true → Contains xs x → p x ≡ true
 all_of p [] x h c = absurd (nothing x c)
 all_of p (y ∷ ys) x h c =
     let both : (p y ≡ true) × (list_all p ys ≡ true) = and_parts (p y) (list_all p ys) h in
@@ -58,13 +58,13 @@ if_contains true w xs v c = there w xs v c
 if_contains false w xs v c = c
 
 -- a kept one stands after, stays beside all, and isn't one of those before
-record IsKept (before after : List (List ℕ)) (v : List ℕ) : Type 0 where
+pub record IsKept (before after : List (List ℕ)) (v : List ℕ) : Type 0 where
   pub stands : Contains after v
   pub stays : stays_beside (before ++ after) v ≡ true
   pub new : is_new_after before v ≡ true
 
 -- a test with its vector
-abbrev passes : List (List ℕ) → List ℕ → List (List ℕ) → Bool
+abbrev pub passes : List (List ℕ) → List ℕ → List (List ℕ) → Bool
 passes before w after = stays_beside before w && stays_beside after w && is_new_after before w
 
 kept_first : (before after : List (List ℕ)) (w : List ℕ) → passes before w after ≡ true → IsKept before (w ∷ after) w
@@ -84,7 +84,7 @@ kept_later before after w v h = record {
   new = (and_parts _ _ (sym (list_all-append (λ u. is_less u v || is_less v u) before (w ∷ [])) ∙ h.new)).0;
 }
 
-kept_stays : (before after : List (List ℕ)) (v : List ℕ) → Contains (kept_after before after) v → IsKept before after v
+pub kept_stays : (before after : List (List ℕ)) (v : List ℕ) → Contains (kept_after before after) v → IsKept before after v
 kept_stays before [] v c = absurd (nothing v c)
 kept_stays before (w ∷ after) v c = by_test (passes before w after) refl c (λ d. kept_later before after w v (kept_stays (before ++ w ∷ []) after v d))
   where

@@ -1,19 +1,21 @@
+pub mod Antichains
 pub mod Ascent
 pub mod Bits
 pub mod Choosing
 pub mod Counting
 pub mod Determined
 pub mod Eliminating
+pub mod Entries
 mod Examples
 pub mod Gcds
 pub mod Kept
 pub mod Least
 pub mod Order
 pub mod Pairing
+pub mod Placing
 pub mod Rows
 pub mod Splitting
 pub mod Sums
 pub mod Units
 pub mod Vanishing
 pub mod Widths
-pub mod Zipping

@@ -5,12 +5,12 @@ use Rattle.std.proofs.lemmas.List.Elements.{All-push}
 use Rattle.ps_elim.specs.Combining.{PairFits, WeightedFits, all_combined, combined, size_under, weight, weighted_entries}
 use Rattle.ps_elim.specs.Divisors.{common_divisor}
 use Rattle.ps_elim.specs.Vectors.{IsSum, coefficient_under, constant_under}
-use Rattle.ps_elim.specs.Weighing.{IsWeighted, pointed_to, vectors_of}
-use Rattle.ps_elim.specs.Weights.{AreWeights, RowFits, size_in}
+use Rattle.ps_elim.specs.inner.Weighing.{IsWeighted, pointed_to, vectors_of}
+use Rattle.ps_elim.specs.inner.Weights.{AreWeights, TermsFit, size_in}
 use Rattle.ps_elim.specs.declared.pair.Weights.{Weights}
 use Rattle.ps_elim.specs.declared.weighted.Weighted.{Weighted}
 use Rattle.ps_elim.proofs.Sums.{weighted-entries}
-use Rattle.ps_elim.proofs.Zipping.{EntriesFit}
+use Rattle.ps_elim.proofs.Entries.{EntriesFit}
 use Rattle.ps_term.specs.Pairs.{coefficient}
 use Rattle.ps_term.specs.declared.row.Row.{Row}
 use Rattle.ps_term.specs.declared.var.Var.{Var}
@@ -22,6 +22,10 @@ same_error e d h = let same : e ≡ d = cc in ap (λ x. Err x) same
 pub on_ok : {T E : Type 0} (P : Type 0) (r : Result T E) → P → OnOk r P
 on_ok P (Ok x) p = p
 on_ok P (Err e) p = tt
+
+pub on_ok_too : {T E P Q : Type 0} (r : Result T E) → (P → Q) → OnOk r P → OnOk r Q
+on_ok_too (Ok x) f p = f p
+on_ok_too (Err e) f p = tt
 
 size_is : (rows : List Row) (x : Var) (w : Weighted) → IsWeighted rows w → size_in x w.row ≡ size_under rows x w.vector
 size_is rows x w h = ap unsigned_abs (h.sum.coefficients x)
@@ -40,7 +44,7 @@ pair_sum rows p q m n row h k c d = record {
   constant = d ∙ (ap₂ (λ (y z : ℤ). (pos m *ℤ y) +ℤ (pos n *ℤ z)) h.sum.constant k.sum.constant ∙ sym (weighted-entries (λ t. t.constant) rows m p.vector n q.vector (h.long ∙ sym k.long)));
 }
 
-pub pair_fits : (rows : List Row) (x : Var) (p q : Weighted) (m n : ℕ) → IsWeighted rows p → IsWeighted rows q → m ≡ weight rows x p.vector q.vector → n ≡ weight rows x q.vector p.vector → EntriesFit m n p.vector q.vector → RowFits m p.row n q.row → PairFits rows x p.vector q.vector
+pub pair_fits : (rows : List Row) (x : Var) (p q : Weighted) (m n : ℕ) → IsWeighted rows p → IsWeighted rows q → m ≡ weight rows x p.vector q.vector → n ≡ weight rows x q.vector p.vector → EntriesFit m n p.vector q.vector → TermsFit m p.row.term n q.row.term → PairFits rows x p.vector q.vector
 pair_fits rows x p q m n h k e f a b = record {
   entries = subst₂ (λ (i j : ℕ). EntriesFit i j p.vector q.vector) e f a;
   coefficients = λ y. subst₂ (λ (i j : ℕ). WeightedFits i (coefficient_under rows y p.vector) j (coefficient_under rows y q.vector)) e f (subst₂ (λ (i j : ℤ). WeightedFits m i n j) (h.sum.coefficients y) (k.sum.coefficients y) (b.0 y));

@@ -1,12 +1,11 @@
--- When the weighted sum of two rows stays within 128 bits.
+-- When the weighted sum of two terms stays within 128 bits.
 use Rattle.std.proofs.Common.{◌≡◌, ℕ, ℤ, pos, ◌+ℤ◌, ◌*ℤ◌, Bool, true, false, List, [], ◌∷◌, FitsSigned, unsigned_abs, refl, sym, subst, arith}
 use Rattle.std.specs.Int.{w128, ◌∣◌}
 use Rattle.std.specs.List.{AllByRecursion}
 use Rattle.std.proofs.lemmas.Int.{ints}
 use Rattle.std.proofs.lemmas.List.Elements.{All-from_recursion, recursion_from_All}
 use Rattle.std.proofs.lemmas.Nat.Gcd.{dvd-zero}
-use Rattle.ps_elim.specs.Weights.{RowFits}
-use Rattle.ps_term.specs.declared.row.Row.{Row}
+use Rattle.ps_elim.specs.inner.Weights.{TermsFit}
 use Rattle.ps_term.specs.declared.term.Term.{Term}
 use Rattle.ps_term.specs.declared.var.Var.{Var}
 use Rattle.ps_term.specs.Factors.{DividesAll}
@@ -18,7 +17,7 @@ use Rattle.ps_term.proofs.Ring.{mul-zero}
 use Rattle.ps_term.proofs.Uniqueness.{coefficient-first}
 use Rattle.ps_term.proofs.Variables.{var_eq-true}
 
-zero_fits : FitsSigned w128 (pos 0)
+pub zero_fits : FitsSigned w128 (pos 0)
 zero_fits = record { sfits = omega arith }
 
 nothing_scaled : (s by : ℤ) → FitsSigned w128 s → ScaledFits s by (pos 0)
@@ -39,7 +38,7 @@ scaled_everywhere left by [] c f h x = nothing_scaled (left x) by (f x)
 scaled_everywhere left by (p ∷ ps) c f h x =
     at_variable left by p ps x c h.0 (scaled_everywhere left by ps c.2 f h.1 x) (var_eq x p.0) refl
 
-below_first : (p : Var × ℤ) (ps : List (Var × ℤ)) (x : Var) → IsCanonical (p ∷ ps) → var_eq x p.0 ≡ true → coefficient x ps ≡ pos 0
+pub below_first : (p : Var × ℤ) (ps : List (Var × ℤ)) (x : Var) → IsCanonical (p ∷ ps) → var_eq x p.0 ≡ true → coefficient x ps ≡ pos 0
 below_first p ps x c e =
     subst (λ (y : Var). coefficient y ps ≡ pos 0) (sym (var_eq-true x p.0 e)) (coefficient-below p.0 ps (IsBelowAll-canonical p.0 ps c.1 c.2))
 
@@ -62,7 +61,7 @@ pairs_fit : (left : List (Var × ℤ)) (by : ℤ) (ps : List (Var × ℤ)) → I
 pairs_fit left by ps c f h =
     All-from_recursion (λ p. ScaledFits (coefficient p.0 left) by p.1) ps (scaled_at_pairs (λ x. coefficient x left) by ps c f h)
 
--- ---- the two steps of the sum of two rows
+-- ---- the two steps of the sum of two terms
 abbrev pub nothing : Term
 nothing = record { pairs = []; constant = pos 0 }
 
@@ -79,23 +78,23 @@ part_of m p none part e h k = record {
 alone : (z : ℤ) → (pos 0 +ℤ z) ≡ z
 alone z = omega (arith, ints)
 
-pub first_fits : (m : ℕ) (p : Row) (n : ℕ) (q : Row) (none : Term) → none ≡ nothing → IsCanonical p.term.pairs → RowFits m p n q → TermFits none (pos m) p.term
+pub first_fits : (m : ℕ) (p : Term) (n : ℕ) (q : Term) (none : Term) → none ≡ nothing → IsCanonical p.pairs → TermsFit m p n q → TermFits none (pos m) p
 first_fits m p n q none e c h =
-    subst (λ (t : Term). TermFits t (pos m) p.term) (sym e) (pairs_fit [] (pos m) p.term.pairs c (λ _. zero_fits) (λ x. once (pos m *ℤ coefficient x p.term.pairs) (h.0 x).0), once (pos m *ℤ p.term.constant) h.1.0)
+    subst (λ (t : Term). TermFits t (pos m) p) (sym e) (pairs_fit [] (pos m) p.pairs c (λ _. zero_fits) (λ x. once (pos m *ℤ coefficient x p.pairs) (h.0 x).0), once (pos m *ℤ p.constant) h.1.0)
   where
     once : (z : ℤ) → FitsSigned w128 z → FitsSigned w128 z × FitsSigned w128 (pos 0 +ℤ z)
     once z f = (f, subst (λ (y : ℤ). FitsSigned w128 y) (sym (alone z)) f)
 
-pub second_fits : (m : ℕ) (p : Row) (n : ℕ) (q : Row) (part : Term) → IsPart m p.term part → IsCanonical q.term.pairs → RowFits m p n q → TermFits part (pos n) q.term
+pub second_fits : (m : ℕ) (p : Term) (n : ℕ) (q : Term) (part : Term) → IsPart m p part → IsCanonical q.pairs → TermsFit m p n q → TermFits part (pos n) q
 second_fits m p n q part is c h =
-    (pairs_fit part.pairs (pos n) q.term.pairs c (λ x. subst (λ (z : ℤ). FitsSigned w128 z) (sym (is.coefficients x)) (h.0 x).0) (λ x. subst (λ (z : ℤ). ScaledFits z (pos n) (coefficient x q.term.pairs)) (sym (is.coefficients x)) (h.0 x).1), subst (λ (z : ℤ). ScaledFits z (pos n) q.term.constant) (sym is.constant) h.1.1)
+    (pairs_fit part.pairs (pos n) q.pairs c (λ x. subst (λ (z : ℤ). FitsSigned w128 z) (sym (is.coefficients x)) (h.0 x).0) (λ x. subst (λ (z : ℤ). ScaledFits z (pos n) (coefficient x q.pairs)) (sym (is.coefficients x)) (h.0 x).1), subst (λ (z : ℤ). ScaledFits z (pos n) q.constant) (sym is.constant) h.1.1)
 
-pub both_fit : (m : ℕ) (p : Row) (n : ℕ) (q : Row) (none part : Term) → none ≡ nothing → IsPart m p.term part → IsCanonical p.term.pairs → IsCanonical q.term.pairs → TermFits none (pos m) p.term → TermFits part (pos n) q.term → RowFits m p n q
+pub both_fit : (m : ℕ) (p : Term) (n : ℕ) (q : Term) (none part : Term) → none ≡ nothing → IsPart m p part → IsCanonical p.pairs → IsCanonical q.pairs → TermFits none (pos m) p → TermFits part (pos n) q → TermsFit m p n q
 both_fit m p n q none part e is c d h k =
-    let first : TermFits nothing (pos m) p.term = subst (λ (t : Term). TermFits t (pos m) p.term) e h in
-    let at : (x : Var) → FitsSigned w128 (pos m *ℤ coefficient x p.term.pairs) = λ x. (pairs_everywhere [] (pos m) p.term.pairs c (λ _. zero_fits) first.0 x).0 in
-    let then : (x : Var) → ScaledFits (coefficient x part.pairs) (pos n) (coefficient x q.term.pairs) = pairs_everywhere part.pairs (pos n) q.term.pairs d (λ x. subst (λ (z : ℤ). FitsSigned w128 z) (sym (is.coefficients x)) (at x)) k.0 in
-    (λ x. (at x, subst (λ (z : ℤ). ScaledFits z (pos n) (coefficient x q.term.pairs)) (is.coefficients x) (then x)), (first.1.0, subst (λ (z : ℤ). ScaledFits z (pos n) q.term.constant) is.constant k.1))
+    let first : TermFits nothing (pos m) p = subst (λ (t : Term). TermFits t (pos m) p) e h in
+    let at : (x : Var) → FitsSigned w128 (pos m *ℤ coefficient x p.pairs) = λ x. (pairs_everywhere [] (pos m) p.pairs c (λ _. zero_fits) first.0 x).0 in
+    let then : (x : Var) → ScaledFits (coefficient x part.pairs) (pos n) (coefficient x q.pairs) = pairs_everywhere part.pairs (pos n) q.pairs d (λ x. subst (λ (z : ℤ). FitsSigned w128 z) (sym (is.coefficients x)) (at x)) k.0 in
+    (λ x. (at x, subst (λ (z : ℤ). ScaledFits z (pos n) (coefficient x q.pairs)) (is.coefficients x) (then x)), (first.1.0, subst (λ (z : ℤ). ScaledFits z (pos n) q.constant) is.constant k.1))
 
 -- ---- what divides each coefficient divides that of each pair
 pub divides_pairs : (d : ℕ) (ps : List (Var × ℤ)) → IsCanonical ps → ((x : Var) → d ∣ unsigned_abs (coefficient x ps)) → DividesAll d ps

@@ -6,7 +6,7 @@ use Rattle.std.proofs.lemmas.List.Elements.{All-from_recursion, All-weaker, recu
 use Rattle.std.proofs.Math.Nat.{mul-le-mul}
 use Rattle.ps_elim.specs.Combining.{AllFit, all_combined, combined, negatives, positives, width, zeros}
 use Rattle.ps_elim.specs.Vectors.{coefficient_under}
-use Rattle.ps_elim.specs.Weighing.{AllPairsFit, ArePairable, IsPairable, IsWeighted, coefficient_in, is_of, pointed_to, vectors_of}
+use Rattle.ps_elim.specs.inner.Weighing.{AllPairsFit, ArePairable, IsPairable, IsWeighted, coefficient_in, is_of, pointed_to, vectors_of}
 use Rattle.ps_elim.specs.declared.sign.Sign.{Sign}
 use Rattle.ps_elim.specs.declared.sign.Sign.TheVariants.{Zero, Positive, Negative}
 use Rattle.ps_elim.specs.declared.weighted.Weighted.{Weighted}

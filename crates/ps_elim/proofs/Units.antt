@@ -4,7 +4,7 @@ use Rattle.std.proofs.lemmas.Int.{ints}
 use Rattle.std.proofs.lemmas.List.{get_or-map, length-map, length-replicate, length-set, map_push, take_more, take_all}
 use Rattle.ps_elim.specs.Places.{support_of}
 use Rattle.ps_elim.specs.Vectors.{IsSum, units}
-use Rattle.ps_elim.specs.Weighing.{IsWeighted, vectors_of}
+use Rattle.ps_elim.specs.inner.Weighing.{IsWeighted, vectors_of}
 use Rattle.ps_elim.specs.declared.weighted.Weighted.{Weighted}
 use Rattle.ps_farkas.specs.Refutes.{weighted}
 use Rattle.ps_term.specs.declared.row.Row.{Row}

@@ -1,5 +1,5 @@
 -- The width of the first stage is that of the signs of the rows.
-use Rattle.std.proofs.Common.{◌≡◌, ◌≤◌, ◌<◌, ℕ, suc, zero, ◌+◌, ◌*◌, ℤ, pos, ◌*ℤ◌, Bool, true, false, if◌then◌else◌, List, [], ◌∷◌, length, get_or, drop, map, replicate, Option, Some, None, slice_get, refl, sym, ap, ap₂, ◌∙◌, subst, arith}
+use Rattle.std.proofs.Common.{◌≡◌, ◌<◌, ℕ, suc, ◌+◌, ◌*◌, ℤ, Bool, true, false, if◌then◌else◌, List, [], ◌∷◌, length, get_or, drop, map, replicate, Some, slice_get, refl, sym, ap, ap₂, ◌∙◌, subst, arith}
 use Rattle.std.specs.List.{filter}
 use Rattle.std.proofs.lemmas.Int.{ints}
 use Rattle.std.proofs.lemmas.List.{drop_more}
@@ -7,10 +7,9 @@ use Rattle.ps_elim.specs.Combining.{width}
 use Rattle.ps_elim.specs.Elimination.{IsTooWide}
 use Rattle.ps_elim.specs.Stages.{first_set, variables, StopsAt}
 use Rattle.ps_elim.specs.Vectors.{coefficient_under, units}
-use Rattle.ps_elim.specs.Weighing.{is_of}
-use Rattle.ps_elim.specs.Width.{count_of_sign, width_of_rows}
+use Rattle.ps_elim.specs.inner.Weighing.{is_of}
+use Rattle.ps_elim.specs.inner.Width.{width_of_rows}
 use Rattle.ps_elim.specs.declared.limits.TheConstants.{MOST_VECTORS}
-use Rattle.ps_elim.specs.declared.sign.Sign.{Sign}
 use Rattle.ps_elim.specs.declared.sign.Sign.TheVariants.{Zero, Positive, Negative}
 use Rattle.ps_elim.proofs.Eliminating.{WideAt}
 use Rattle.ps_elim.proofs.Units.{weighted-zeros}

@@ -6,10 +6,6 @@ pub mod Stages
 pub mod Elimination
 pub mod Refutation
 pub mod Places
-pub mod Words
-pub mod Weighing
-pub mod Weights
-pub mod Marking
-pub mod Choosing
-pub mod Width
 pub mod Ascending
+pub mod Examples
+pub mod inner

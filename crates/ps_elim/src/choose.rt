@@ -1,8 +1,8 @@
 // The vector that an elimination answers.
 ghost use Rattle.std.specs.Prelude.{◌≡◌, ◌≤ℤ◌, pos, All, IfSome, IfNone, option_copied};
-ghost use Rattle.ps_elim.specs.Choosing.{IsLeastAmong, lesser_of};
+ghost use Rattle.ps_elim.specs.inner.Choosing.{IsLeastAmong, lesser_of};
 
-use crate::filter::is_less;
+use crate::lexicographic::is_less;
 use crate::weighted::Weighted;
 
 // The lexicographically least of the vectors whose row has a positive constant.
@@ -26,7 +26,7 @@ fn lesser<'a>(best: Option<&'a Weighted>, weighted: &'a Weighted) -> &'a Weighte
 {
     match best {
         Some(so_far) => {
-            if is_less(weighted.vector.as_slice(), so_far.vector.as_slice()) {
+            if is_less(&weighted.vector, &so_far.vector) {
                 weighted
             } else {
                 so_far

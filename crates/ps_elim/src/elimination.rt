@@ -4,7 +4,7 @@ ghost use Rattle.ps_elim.specs.Elimination.{IsElimination};
 ghost use Rattle.ps_elim.specs.Refutation.{IfRefuted, IfStages};
 ghost use Rattle.ps_elim.specs.Stages.{variables};
 ghost use Rattle.ps_elim.specs.Vectors.{AreSums};
-ghost use Rattle.ps_elim.specs.Weighing.{vectors_of};
+ghost use Rattle.ps_elim.specs.inner.Weighing.{vectors_of};
 ghost use Rattle.ps_farkas.specs.Refutes.{Refutes};
 ghost use Rattle.ps_term.specs.declared.var.Var.{Var};
 ghost use Rattle.ps_term.specs.Row.{Holds};
@@ -33,9 +33,10 @@ use std::alloc::{AllocError, Global};
 /// vectors, which is told before any of them is made, and `Past128` where a product or a sum of its
 /// making lies outside `i128`.
 ///
-/// The memory is that of all sets. A set of `n` vectors takes time of its entries, and of `n * n`
-/// comparisons of supports, 64 places at a time. Where the first set after the unit vectors would be too
-/// wide, that is told by the coefficients alone, and no vector is made.
+/// The memory is that of the entries that aren't 0, and of the rows, in all sets. A set takes time of both, and
+/// of comparisons of supports, 64 places at a time, of which each newly made vector has one with each other
+/// vector. Where the first set after the unit vectors would be too wide, that is told by the coefficients
+/// alone, and no vector is made.
 pub fn eliminate(alloc: Global, rows: &[Row]) -> Result<Elim, AllocError>
     requires few_rows { length rows.now < 2 ^ 32 }
     requires few_variables { length (variables rows.now) < 2 ^ 32 }
@@ -75,7 +76,7 @@ pub fn eliminate(alloc: Global, rows: &[Row]) -> Result<Elim, AllocError>
         }
     }
     match least_refutation(set.as_slice()) {
-        Some(least) => Ok(Elim::Refuted(least.vector.copy(alloc)?)),
+        Some(least) => Ok(Elim::Refuted(Sequence::from_list(least.vector.to_list(alloc)?))),
         None => Ok(Elim::Stages(Sequence::from_list(stages))),
     }
 }

@@ -1,35 +1,45 @@
 // The vectors that stay for their supports.
-ghost use Rattle.std.specs.Prelude.{◌≡◌, ◌≤◌, ◌<◌, ◌+◌, ◌&&◌, List, All, length, take, drop, slice_index_or, IfOk};
-ghost use Rattle.std.specs.List.{list_all};
-ghost use Rattle.ps_elim.specs.Marking.{differs, marked, stays_at, stays_by, staying};
-ghost use Rattle.ps_elim.specs.Supports.{is_less, is_new_after, kept, stays_beside};
-ghost use Rattle.ps_elim.specs.Weighing.{IsWeighted, vectors_of};
+ghost use Rattle.std.specs.Prelude.{◌≡◌, ◌≤◌, ◌<◌, List, All, length, take, IfOk};
+ghost use Rattle.ps_elim.specs.Supports.{is_new_after, kept, stays_beside};
+ghost use Rattle.ps_elim.specs.inner.Antichains.{IsAntichain};
+ghost use Rattle.ps_elim.specs.inner.Marking.{differs, marked, stays_at, stays_by, staying};
+ghost use Rattle.ps_elim.specs.inner.Weighing.{IsWeighted, vectors_of};
 ghost use Rattle.ps_term.specs.declared.row.Row.{Row};
 
+use crate::lexicographic::is_less;
 use crate::weighted::Weighted;
 use std::alloc::{AllocError, Global};
 
-// Those whose support strictly contains that of no other one, and of several with one support the least.
-pub(crate) fn kept(alloc: Global, made: Vec<Weighted>) -> Result<Vec<Weighted>, AllocError>
+// Those whose support strictly contains that of no other one, and of several with one support the least. Of so many
+// first ones it is known that no support is inside that of another.
+pub(crate) fn kept(
+    alloc: Global,
+    made: Vec<Weighted>,
+    known: usize,
+) -> Result<Vec<Weighted>, AllocError>
     ghost rows: { List Row }
-    requires { All (IsWeighted rows) made.items }
+    requires weighted { All (IsWeighted rows) made.items }
+    requires few { known ≤ length made.items }
+    requires known { IsAntichain (take known (vectors_of made.items)) }
     ensures weighted { IfOk result (λ list. All (IsWeighted rows) list.items) }
     ensures vectors { IfOk result (λ list. vectors_of list.items ≡ kept (vectors_of made.items)) }
     ensures few { IfOk result (λ list. length list.items ≤ length made.items) }
 {
-    let marks = marks(alloc, made.as_slice())?;
+    let marks = marks(alloc, made.as_slice(), known)?;
     marked(alloc, made, marks.as_slice())
 }
 
 // For each vector whether it stays.
-fn marks(alloc: Global, made: &[Weighted]) -> Result<Vec<bool>, AllocError>
+fn marks(alloc: Global, made: &[Weighted], known: usize) -> Result<Vec<bool>, AllocError>
     ghost rows: { List Row }
-    requires { All (IsWeighted rows) made.now }
+    requires weighted { All (IsWeighted rows) made.now }
+    requires few { known ≤ length made.now }
+    requires known { IsAntichain (take known (vectors_of made.now)) }
     ensures { IfOk result (λ marks. marks.items ≡ staying (vectors_of made.now)) }
 {
     let mut marks = Vec::with_capacity(alloc, made.len())?;
     for at in 0..made.len() {
-        marks.push(stays_at(made, at))?;
+        marks.push(stays(made, known, at))?;
     }
     Ok(marks)
 }
@@ -52,7 +62,23 @@ fn marked(alloc: Global, list: Vec<Weighted>, marks: &[bool]) -> Result<Vec<Weig
     Ok(some)
 }
 
-// Whether the vector of this place stays.
+// Whether the vector of this place stays. The first ones stay beside one another.
+fn stays(made: &[Weighted], known: usize, at: usize) -> bool
+    ghost rows: { List Row }
+    requires weighted { All (IsWeighted rows) made.now }
+    requires few { known ≤ length made.now }
+    requires known { IsAntichain (take known (vectors_of made.now)) }
+    requires within { at < length made.now }
+    ensures { result ≡ stays_at (vectors_of made.now) at }
+{
+    if at < known {
+        stays_beside(&made[known..], &made[at])
+    } else {
+        stays_at(made, at)
+    }
+}
+
+// Whether the vector of this place stays, beside all others.
 fn stays_at(made: &[Weighted], at: usize) -> bool
     ghost rows: { List Row }
     requires weighted { All (IsWeighted rows) made.now }
@@ -92,13 +118,13 @@ fn stays_by(other: &Weighted, weighted: &Weighted) -> bool
     requires weighted { IsWeighted rows weighted.now }
     ensures { result ≡ stays_by weighted.now.vector other.now.vector }
 {
-    if other.support.strictly_inside(&weighted.support) {
-        return false;
-    }
-    if !other.support.is_same(&weighted.support) {
+    if !other.support.inside(&weighted.support) {
         return true;
     }
-    !is_less(other.vector.as_slice(), weighted.vector.as_slice())
+    if !weighted.support.inside(&other.support) {
+        return false;
+    }
+    !is_less(&other.vector, &weighted.vector)
 }
 
 fn is_new_after(others: &[Weighted], weighted: &Weighted) -> bool
@@ -125,22 +151,5 @@ fn differs(other: &Weighted, weighted: &Weighted) -> bool
     if !other.support.is_same(&weighted.support) {
         return true;
     }
-    let vector = weighted.vector.as_slice();
-    let other = other.vector.as_slice();
-    is_less(other, vector) || is_less(vector, other)
-}
-
-// Lexicographic order.
-pub(crate) fn is_less(vector: &[u128], other: &[u128]) -> bool
-    ensures { result ≡ is_less vector.now other.now }
-{
-    for (at, entry) in vector.iter().enumerate() {
-        if at >= other.len() {
-            return false;
-        }
-        if *entry != other[at] {
-            return *entry < other[at];
-        }
-    }
-    vector.len() < other.len()
+    is_less(&other.vector, &weighted.vector) || is_less(&weighted.vector, &other.vector)
 }

@@ -1,7 +1,8 @@
 // The set of vectors that comes after one variable is eliminated.
 ghost use Rattle.std.specs.Prelude.{◌≡◌, ◌≤◌, ◌<◌, ◌++◌, ◌^◌, List, All, length, map, IfOk, OnOk, IsErrOf};
 ghost use Rattle.ps_elim.specs.Combining.{PairFits, all_combined, combined};
-ghost use Rattle.ps_elim.specs.Weighing.{AllPairsFit, ArePairable, IsNext, IsPairable, IsWeighted, pointed_to, vectors_of};
+ghost use Rattle.ps_elim.specs.inner.Antichains.{IsAntichain};
+ghost use Rattle.ps_elim.specs.inner.Weighing.{AllPairsFit, ArePairable, IsNext, IsPairable, IsWeighted, pointed_to, vectors_of};
 ghost use Rattle.ps_elim.specs.declared.sign.Sign.TheVariants.{Positive, Negative};
 ghost use Rattle.ps_term.specs.declared.row.Row.{Row};
 
@@ -35,6 +36,7 @@ pub(crate) fn next_set(
     ghost rows: { List Row }
     requires weighted { All (IsWeighted rows) set.now }
     requires few { length set.now < 2 ^ 32 }
+    requires apart { IsAntichain (vectors_of set.now) }
     ensures { IfOk result (IsNext rows variable (vectors_of set.now)) }
 {
     let zeros = with_sign(alloc, set, variable, Sign::Zero)?;
@@ -52,7 +54,7 @@ pub(crate) fn next_set(
         negatives.as_slice(),
         made,
     ) {
-        Ok(made) => Ok(Next::Set(kept(alloc, made)?)),
+        Ok(made) => Ok(Next::Set(kept(alloc, made, zeros.len())?)),
         Err(TermEnd::Past128) => Ok(Next::Past128),
         Err(TermEnd::Memory(end)) => Err(end),
     }

@@ -1,26 +1,24 @@
 // The vector of a pair of vectors whose rows have opposite coefficients at a variable.
-ghost use Rattle.std.specs.Prelude.{◌≡◌, ◌≢◌, ◌<◌, ◌+◌, ◌*◌, ◌^◌, ◌+ℤ◌, ◌*ℤ◌, ◌<ℤ◌, ℤ, pos, List, All, length, IfOk, OnOk, IsErrOf, SomeIff};
-ghost use Rattle.std.specs.List.{AllZip};
-ghost use Rattle.ps_elim.specs.Combining.{PairFits, WeightedFits, combined, weighted_entries};
-ghost use Rattle.ps_elim.specs.Divisors.{reduced};
-ghost use Rattle.ps_elim.specs.Vectors.{IsSum};
-ghost use Rattle.ps_elim.specs.Weighing.{IsPairable, IsWeighted};
-ghost use Rattle.ps_elim.specs.Weights.{AreWeights, RowFits};
+ghost use Rattle.std.specs.Prelude.{◌≡◌, ◌<◌, ◌^◌, ◌↔◌, ◌+ℤ◌, ◌*ℤ◌, ◌<ℤ◌, pos, List, IfOk, OnOk, IsErrOf, IsTrue};
+ghost use Rattle.ps_elim.specs.Combining.{PairFits, combined};
+ghost use Rattle.ps_elim.specs.inner.Weighing.{IsPairable, IsWeighted};
+ghost use Rattle.ps_elim.specs.inner.Weights.{AreWeights, TermsFit};
 ghost use Rattle.ps_elim.specs.declared.sign.Sign.TheVariants.{Positive, Negative};
 ghost use Rattle.ps_term.specs.declared.row.Row.{Row};
 ghost use Rattle.ps_term.specs.declared.var.Var.{Var};
 ghost use Rattle.ps_term.specs.Pairs.{coefficient};
 
 use crate::reduce::reduced;
+use crate::sum::weighted_sum;
 use crate::weighted::Weighted;
-use ps_term::{Row, Term, TermEnd, Var, add_scaled, gcd};
-use std::alloc::{AllocError, Global};
+use ps_term::{Row, TermEnd, Var, gcd};
+use std::alloc::Global;
 
 // How often each of two vectors is taken.
 #[derive(Clone, Copy, Debug, PartialEq, Eq)]
-struct Weights {
-    first: u128,
-    second: u128,
+pub(crate) struct Weights {
+    pub(crate) first: u128,
+    pub(crate) second: u128,
 }
 
 // The least sum of the two in which the variable vanishes, divided by what its entries have in common.
@@ -42,8 +40,8 @@ pub(crate) fn combined(
 {
     let weights = weights_of(variable, &p.row, &q.row);
     let row = weighted_row(alloc, weights, &p.row, &q.row)?;
-    let entries = weighted_entries(alloc, weights, p.vector.as_slice(), q.vector.as_slice())?;
-    reduced(alloc, entries, row).map_err(TermEnd::Memory)
+    let vector = p.vector.weighted_sum(alloc, weights, &q.vector)?;
+    reduced(alloc, vector, row).map_err(TermEnd::Memory)
 }
 
 // The least weights with which the variable vanishes in the sum of the two rows.
@@ -61,46 +59,6 @@ fn weights_of(variable: Var, p: &Row, q: &Row) -> Weights
     }
 }
 
-// The sum of the two vectors, each entry within `i128`.
-fn weighted_entries(
-    alloc: Global,
-    weights: Weights,
-    p: &[u128],
-    q: &[u128],
-) -> Result<Vec<u128>, TermEnd>
-    requires { length p.now ≡ length q.now }
-    ensures entries { IfOk result
-        (λ sum. sum.items ≡ weighted_entries weights.first p.now weights.second q.now) }
-    ensures small { IfOk result (λ sum. All (λ n. n < 2 ^ 127) sum.items) }
-    ensures fits { OnOk result
-        (AllZip (λ i j. WeightedFits weights.first (pos i) weights.second (pos j)) p.now q.now) }
-    ensures past { IsErrOf result TermEnd.Past128
-        → ¬ AllZip (λ i j. WeightedFits weights.first (pos i) weights.second (pos j)) p.now q.now }
-{
-    let mut sum = Vec::with_capacity(alloc, p.len()).map_err(TermEnd::Memory)?;
-    for i in 0..p.len() {
-        let entry = weighted_entry(weights, p[i], q[i]).ok_or(TermEnd::Past128)?;
-        sum.push(entry).map_err(|_| TermEnd::Memory(AllocError))?;
-    }
-    Ok(sum)
-}
-
-fn weighted_entry(weights: Weights, p: u128, q: u128) -> Option<u128>
-    ensures { SomeIff result (WeightedFits weights.first (pos p) weights.second (pos q))
-        ((weights.first * p) + (weights.second * q)) }
-{
-    let first = within_signed(weights.first.checked_mul(p)?)?;
-    let second = within_signed(weights.second.checked_mul(q)?)?;
-    within_signed(first + second)
-}
-
-// The number, if it is within `i128`.
-fn within_signed(n: u128) -> Option<u128>
-    ensures { SomeIff result (n < 2 ^ 127) n }
-{
-    if n > i128::MAX as u128 { None } else { Some(n) }
-}
-
 // The sum of the two rows.
 fn weighted_row(alloc: Global, weights: Weights, p: &Row, q: &Row) -> Result<Row, TermEnd>
     requires positive { (x : Var) × (pos 0 <ℤ coefficient x p.now.term.pairs) }
@@ -111,16 +69,21 @@ fn weighted_row(alloc: Global, weights: Weights, p: &Row, q: &Row) -> Result<Row
     ensures constant { IfOk result (λ sum. sum.term.constant
         ≡ ((pos weights.first *ℤ p.now.term.constant) +ℤ
         (pos weights.second *ℤ q.now.term.constant))) }
-    ensures fits { OnOk result (RowFits weights.first p.now weights.second q.now) }
+    ensures small { OnOk result (weights.first < 2 ^ 127) }
+    ensures fits { OnOk result (TermsFit weights.first p.now.term weights.second q.now.term) }
     ensures past { IsErrOf result TermEnd.Past128
-        → ¬ RowFits weights.first p.now weights.second q.now }
+        → ¬ TermsFit weights.first p.now.term weights.second q.now.term }
 {
-    let first = within_signed(weights.first).ok_or(TermEnd::Past128)? as i128;
-    // The proof takes from these calls that each variable stands once.
-    let _first_pairs = p.term.pairs.as_slice();
-    let _second_pairs = q.term.pairs.as_slice();
-    let none = Term::from_constant(alloc, 0);
-    let part = add_scaled(alloc, &none, first, &p.term)?;
-    let term = add_scaled(alloc, &part, weights.second as i128, &q.term)?;
+    if !is_within(weights.first) {
+        return Err(TermEnd::Past128);
+    }
+    let term = weighted_sum(alloc, weights, &p.term, &q.term)?;
     Ok(Row { term })
+}
+
+// Whether the number is within `i128`.
+fn is_within(n: u128) -> bool
+    ensures { IsTrue result ↔ (n < 2 ^ 127) }
+{
+    n <= i128::MAX as u128
 }

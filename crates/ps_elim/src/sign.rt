@@ -1,7 +1,7 @@
 // The vectors whose rows have a coefficient of some sign.
 ghost use Rattle.std.specs.Prelude.{◌≡◌, IfOk};
 ghost use Rattle.std.specs.List.{filter};
-ghost use Rattle.ps_elim.specs.Weighing.{coefficient_in, is_of, pointed_to};
+ghost use Rattle.ps_elim.specs.inner.Weighing.{coefficient_in, is_of, pointed_to};
 
 use crate::weighted::Weighted;
 use ps_term::Var;

@@ -1,6 +1,7 @@
 //! Stages of an elimination.
 ghost use Rattle.std.specs.Prelude.{◌≡◌, IfOk};
 
+use crate::vector::Vector;
 use ps_list::{Duplicate, Sequence};
 use ps_term::{Row, Var};
 use std::alloc::{AllocError, Global};
@@ -10,7 +11,7 @@ use std::alloc::{AllocError, Global};
 pub struct Stage {
     pub variable: Var,
     /// Vectors of multipliers, one entry for each of the given rows.
-    pub vectors: Sequence<Sequence<u128>>,
+    pub vectors: Sequence<Vector>,
     /// For each vector the sum of the given rows, weighted by its entries.
     pub rows: Sequence<Row>,
 }

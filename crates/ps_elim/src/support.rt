@@ -2,7 +2,8 @@
 ghost use Rattle.std.specs.Prelude.{◌≡◌, ◌&&◌, not, length, IfOk};
 ghost use Rattle.ps_elim.specs.Places.{is_part, support_of};
 
-use crate::words::{is_inside, words_of};
+use crate::vector::Vector;
+use crate::words::is_inside;
 use std::alloc::{AllocError, Global};
 use std::marker::Model;
 
@@ -16,7 +17,7 @@ pub struct Support {
 
 impl Model for Support {
     ghost use Rattle.std.specs.Prelude.{Bool, List};
-    ghost use Rattle.ps_elim.specs.Words.{bits_of, HasPlaces};
+    ghost use Rattle.ps_elim.specs.inner.Words.{bits_of, HasPlaces};
 
     ghost Value = { List Bool };
 
@@ -26,13 +27,13 @@ impl Model for Support {
 }
 
 impl Support {
-    /// The support of the vector, in time of its length and memory of a bit for each entry.
-    pub fn new(alloc: Global, vector: &[u128]) -> Result<Support, AllocError>
+    /// The support of the vector, in time of its entries that aren't 0 and memory of a bit for each entry.
+    pub fn new(alloc: Global, vector: &Vector) -> Result<Support, AllocError>
         ensures { IfOk result (λ support. support ≡ support_of vector.now) }
     {
         Ok(Support {
-            words: words_of(alloc, vector)?,
-            places: vector.len(),
+            words: vector.words(alloc)?,
+            places: vector.places(),
         })
     }
 

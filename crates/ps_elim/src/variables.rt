@@ -1,14 +1,13 @@
 // The variables of rows.
 ghost use Rattle.std.specs.Prelude.{◌≡◌, ◌↔◌, ◌<◌, ◌^◌, IfOk, IsTrue, OnOk, length};
 ghost use Rattle.ps_elim.specs.Stages.{variables, with_variables};
+ghost use Rattle.ps_elim.specs.declared.limits.TheConstants.{TOO_MANY_PAIRS};
 ghost use Rattle.std.specs.List.{sum_by};
 
+use crate::limits::TOO_MANY_PAIRS;
 use ps_term::{Row, Var};
 use std::alloc::{AllocError, Global};
 use std::collections::BTreeSet;
-
-// So many pairs are too many.
-const MOST_PAIRS: usize = 1 << 32;
 
 // The variables that stand in the rows, ascending.
 pub(crate) fn variables(alloc: Global, rows: &[Row]) -> Result<Vec<Var>, AllocError>
@@ -24,13 +23,13 @@ pub(crate) fn variables(alloc: Global, rows: &[Row]) -> Result<Vec<Var>, AllocEr
 /// Whether the rows have fewer than 2^32 pairs in all, and so fewer than 2^32 variables; in time of the
 /// number of rows, without memory.
 pub fn has_few_variables(rows: &[Row]) -> bool
-    ensures pairs { IsTrue result ↔ (sum_by (λ r. length r.term.pairs) rows.now < 2 ^ 32) }
+    ensures pairs { IsTrue result ↔ (sum_by (λ r. length r.term.pairs) rows.now < TOO_MANY_PAIRS) }
     ensures variables { IsTrue result → length (variables rows.now) < 2 ^ 32 }
 {
     let mut count = 0;
     for row in rows {
         count += row.term.pairs.as_slice().len();
-        if count >= MOST_PAIRS {
+        if count >= TOO_MANY_PAIRS {
             return false;
         }
     }

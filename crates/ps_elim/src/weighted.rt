@@ -2,7 +2,7 @@
 ghost use Rattle.std.specs.Prelude.{◌≡◌, IfOk};
 
 use crate::support::Support;
-use ps_list::{Duplicate, Sequence};
+use crate::vector::Vector;
 use ps_term::Row;
 use std::alloc::{AllocError, Global};
 
@@ -10,7 +10,7 @@ use std::alloc::{AllocError, Global};
 // which the vector isn't 0.
 #[derive(Debug, Drop)]
 pub(crate) struct Weighted {
-    pub(crate) vector: Sequence<u128>,
+    pub(crate) vector: Vector,
     pub(crate) row: Row,
     pub(crate) support: Support,
 }

@@ -3,8 +3,8 @@ ghost use Rattle.std.specs.Prelude.{◌≡◌, ◌<◌, ◌≤◌, ◌^◌, leng
 ghost use Rattle.std.specs.List.{filter};
 ghost use Rattle.ps_elim.specs.Elimination.{IsTooWide};
 ghost use Rattle.ps_elim.specs.Stages.{variables};
-ghost use Rattle.ps_elim.specs.Weighing.{is_of};
-ghost use Rattle.ps_elim.specs.Width.{width_of_rows};
+ghost use Rattle.ps_elim.specs.inner.Weighing.{is_of};
+ghost use Rattle.ps_elim.specs.inner.Width.{width_of_rows};
 ghost use Rattle.ps_elim.specs.declared.limits.TheConstants.{MOST_VECTORS};
 ghost use Rattle.ps_term.specs.Pairs.{coefficient};
 

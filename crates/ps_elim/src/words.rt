@@ -1,25 +1,36 @@
 // Bits in words of 64, one for each place of a vector.
 ghost use Rattle.std.specs.Prelude.{◌≡◌, ◌≤◌, ◌<◌, ◌/◌, ◌↔◌, ℕ, length, IfOk, IsTrue};
 ghost use Rattle.std.specs.Int.{bit_at};
-ghost use Rattle.ps_elim.specs.Words.{AreWordsOf, IsMarked, IsPartOf};
+ghost use Rattle.ps_elim.specs.inner.Entries.{AreEntries, IsPlace, entries_of};
+ghost use Rattle.ps_elim.specs.inner.Words.{AreWordsOf, IsMarked, IsPartOf};
+ghost use Rattle.ps_term.specs.declared.var.Var.TheVariants.{Global as AtPlace};
 
+use ps_term::{Term, Var};
 use std::alloc::{AllocError, Global};
 
 // How many places a word has.
 const PLACES: usize = 64;
 
 // The words in which exactly the bits of the entries other than 0 are set.
-pub(crate) fn words_of(alloc: Global, vector: &[u128]) -> Result<Vec<u64>, AllocError>
-    ensures { IfOk result (λ words. AreWordsOf vector.now words.items) }
+pub(crate) fn words_of(alloc: Global, entries: &Term, places: usize) -> Result<Vec<u64>, AllocError>
+    requires { AreEntries entries.now places }
+    ensures { IfOk result (λ words. AreWordsOf (entries_of entries.now places) words.items) }
 {
-    let mut words = vec![in alloc; 0u64; vector.len().div_ceil(PLACES)]?;
-    for (place, entry) in vector.iter().enumerate() {
-        if *entry == 0 {
-            continue;
-        }
-        mark(&mut words, place);
+    let mut words = vec![in alloc; 0u64; places.div_ceil(PLACES)]?;
+    for pair in entries.pairs.as_slice() {
+        mark(&mut words, place_of(pair.0));
     }
     Ok(words)
+}
+
+// The place that the variable stands for.
+fn place_of(variable: Var) -> usize
+    ensures { (n : ℕ) → IsPlace variable n → (variable ≡ AtPlace result) × (result < n) }
+{
+    match variable {
+        Var::Global(place) => place as usize,
+        Var::Local(_, _) | Var::Havoc(_) => 0,
+    }
 }
 
 // Sets the bit of the place.

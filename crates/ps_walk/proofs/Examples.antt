@@ -1,83 +1,64 @@
 -- The definitions give the worked answers.
-use Rattle.std.proofs.Common.{◌≡◌, ◌↔◌, ◌≤◌, ℤ, pos, negsuc, ◌≢◌, ◌≤ℤ◌, ◌<ℤ◌, List, [], ◌∷◌, FitsSigned, unsigned_abs, refl, arith}
+use Rattle.std.proofs.Common.{◌↔◌, ◌≤◌, ℤ, pos, negsuc, ◌≢◌, ◌≤ℤ◌, ◌<ℤ◌, [], ◌∷◌, FitsSigned, unsigned_abs, inl, refl, arith}
 use Rattle.std.specs.Int.{w128}
 use Rattle.std.proofs.lemmas.Int.{ints}
 use Rattle.std.proofs.lemmas.List.Elements.{All-nil, All-cons, All-head, All-tail, All-from_recursion}
-use Rattle.ps_elim.specs.declared.stage.Stage.{Stage}
 use Rattle.ps_term.specs.declared.row.Row.{Row}
 use Rattle.ps_term.specs.declared.var.Var.{Var}
 use Rattle.ps_term.specs.declared.var.Var.TheVariants.{Global}
 use Rattle.ps_term.specs.Pairs.{coefficient}
-use Rattle.ps_walk.specs.Answer.{IsWalk}
-use Rattle.ps_walk.specs.Bounds.{Allows, HoldsAt, IsLower, IsNearest, IsUpper, RowFits, StageFits}
+use Rattle.ps_walk.specs.Bounds.{Allows, HoldsAt, IsLower, IsUpper, RowFits, StageFits}
+use Rattle.ps_walk.specs.Examples.{FarEndsWalk, FarIsPast, NoneIsBetween, NothingIsWalked, SecondIsMissed, SixIsFound, SixIsLower, SixIsNearest, below, far, first_of_three, from_6, one_row, over, second_of_three, stage_of, three, zero_row}
 use Rattle.ps_walk.specs.Rows.{Passes}
 use Rattle.ps_walk.specs.Walking.{IsFound}
-use Rattle.ps_walk.specs.Values.{value_in, without}
-use Rattle.ps_walk.specs.declared.answer.Walk.TheVariants.{Values, NoInteger, Misses}
+use Rattle.ps_walk.specs.Values.{value_in}
 use Rattle.ps_walk.proofs.RowBounds.{fits_above, fits_below}
 
-abbrev row : List (Var × ℤ) → ℤ → Row
-row pairs constant = record { term = record { pairs = pairs; constant = constant } }
-
--- -g0 + 6 <= 0, which bounds g0 from below by 6
-abbrev above : Row
-above = row ((Global 0, negsuc 0) ∷ []) (pos 6)
-
--- a list of values gives the first pair's value, and 0 to what it lacks
-taken : value_in ((Global 0, pos 6) ∷ (Global 1, pos 2) ∷ []) (Global 1) ≡ pos 2
-taken = refl
-
-lacking : value_in ((Global 0, pos 6) ∷ []) (Global 1) ≡ pos 0
-lacking = refl
-
--- a row's other pairs
-rest : without (Global 0) ((Global 0, pos 2) ∷ (Global 1, pos 3) ∷ []) ≡ (Global 1, pos 3) ∷ []
-rest = refl
-
-holds_from_6 : (v : Var → ℤ) (n : ℤ) → HoldsAt v (Global 0) above n ↔ (pos 6 ≤ℤ n)
+holds_from_6 : (v : Var → ℤ) (n : ℤ) → HoldsAt v (Global 0) from_6 n ↔ (pos 6 ≤ℤ n)
 holds_from_6 v n = (λ h. omega (arith, ints, h), λ h. omega (arith, ints, h))
 
-lower_is_6 : (v : Var → ℤ) → IsLower v (Global 0) (above ∷ []) (pos 6)
+pub lower_is_6 : SixIsLower
 lower_is_6 v n =
-    (λ h. (holds_from_6 v n).0 (All-head (λ r. coefficient (Global 0) r.term.pairs <ℤ pos 0 → HoldsAt v (Global 0) r n) above [] h (omega (arith, ints))), λ h. All-cons (λ r. coefficient (Global 0) r.term.pairs <ℤ pos 0 → HoldsAt v (Global 0) r n) above [] (λ lt. (holds_from_6 v n).1 h) (All-nil (λ r. coefficient (Global 0) r.term.pairs <ℤ pos 0 → HoldsAt v (Global 0) r n)))
+    (λ h. (holds_from_6 v n).0 (All-head (λ r. coefficient (Global 0) r.term.pairs <ℤ pos 0 → HoldsAt v (Global 0) r n) from_6 [] h (omega (arith, ints))), λ h. All-cons (λ r. coefficient (Global 0) r.term.pairs <ℤ pos 0 → HoldsAt v (Global 0) r n) from_6 [] (λ lt. (holds_from_6 v n).1 h) (All-nil (λ r. coefficient (Global 0) r.term.pairs <ℤ pos 0 → HoldsAt v (Global 0) r n)))
 
--- of the numbers from 6 on, 6 is nearest to 0
-nearest_is_6 : IsNearest (λ n. pos 6 ≤ℤ n) (pos 6)
+pub nearest_is_6 : SixIsNearest
 nearest_is_6 = record { allows = omega (arith, ints); nearest = far }
   where
     far : (m : ℤ) → pos 6 ≤ℤ m → 6 ≤ unsigned_abs m
     far (pos k) h = omega (arith, ints)
     far (negsuc k) h = absurd (omega (arith, ints))
 
--- no rows and no stages: no values
-nothing : IsWalk [] [] (Values [])
+pub nothing : NothingIsWalked
 nothing = (tt, λ k d l. absurd (omega arith))
 
--- of a row g0 - 2^127 <= 0 the bound is past 128 bits
-abbrev far : Row
-far = row ((Global 0, pos 1) ∷ []) (negsuc 170141183460469231731687303715884105727)
-
-past : (v : Var → ℤ) → ¬ RowFits v (Global 0) far
+pub past : FarIsPast
 past v f =
     let no : FitsSigned w128 (pos 170141183460469231731687303715884105728) = f.upper (pos 170141183460469231731687303715884105728) (λ n. (λ h. omega (arith, ints, h), λ h. omega (arith, ints, h))) in
     omega (arith, no.sfits)
 
--- the walk of that row alone gives g0 the value 6
-abbrev one_stage : Stage
-one_stage = record { variable = Global 0; vectors = (1 ∷ []) ∷ []; rows = above ∷ [] }
+pub far_ends : FarEndsWalk
+far_ends = inl (record {
+  before = [];
+  here = stage_of (Global 0) ((1 ∷ []) ∷ []) (far ∷ []);
+  after = [];
+  is = refl;
+  later = [];
+  found = tt;
+  stops = λ fits. past (value_in []) (All-head (λ r. coefficient (Global 0) r.term.pairs ≢ pos 0 → RowFits (value_in []) (Global 0) r) far [] fits (λ e. omega (arith, ints, e)));
+})
 
 fits_6 : FitsSigned w128 (pos 6)
 fits_6 = record { sfits = omega arith }
 
-stage_fits : (v : Var → ℤ) → StageFits v (Global 0) (above ∷ [])
+stage_fits : (v : Var → ℤ) → StageFits v (Global 0) (from_6 ∷ [])
 stage_fits v =
-    All-from_recursion (λ r. coefficient (Global 0) r.term.pairs ≢ pos 0 → RowFits v (Global 0) r) (above ∷ []) (λ _. fits_below v (Global 0) above (pos 6) fits_6 fits_6 (holds_from_6 v), tt)
+    All-from_recursion (λ r. coefficient (Global 0) r.term.pairs ≢ pos 0 → RowFits v (Global 0) r) (from_6 ∷ []) (λ _. fits_below v (Global 0) from_6 (pos 6) fits_6 fits_6 (holds_from_6 v), tt)
 
-allows_from_6 : (v : Var → ℤ) (n : ℤ) → Allows v (Global 0) (above ∷ []) n ↔ (pos 6 ≤ℤ n)
+allows_from_6 : (v : Var → ℤ) (n : ℤ) → Allows v (Global 0) (from_6 ∷ []) n ↔ (pos 6 ≤ℤ n)
 allows_from_6 v n =
-    (λ h. (lower_is_6 v n).0 h.0, λ h. ((lower_is_6 v n).1 h, All-from_recursion (λ r. pos 0 <ℤ coefficient (Global 0) r.term.pairs → HoldsAt v (Global 0) r n) (above ∷ []) (λ lt. absurd (omega (arith, ints, lt)), tt)))
+    (λ h. (lower_is_6 v n).0 h.0, λ h. ((lower_is_6 v n).1 h, All-from_recursion (λ r. pos 0 <ℤ coefficient (Global 0) r.term.pairs → HoldsAt v (Global 0) r n) (from_6 ∷ []) (λ lt. absurd (omega (arith, ints, lt)), tt)))
 
-six : IsWalk (above ∷ []) (one_stage ∷ []) (Values ((Global 0, pos 6) ∷ []))
+pub six : SixIsFound
 six = (
   (
     record {
@@ -90,30 +71,11 @@ six = (
     },
     tt,
   ),
-  All-from_recursion (Passes (value_in ((Global 0, pos 6) ∷ []))) (above ∷ []) ((((record { sfits = omega arith }, record { sfits = omega arith }), record { sfits = omega arith }), omega (arith, ints)), tt),
+  All-from_recursion (Passes (value_in ((Global 0, pos 6) ∷ []))) (from_6 ∷ []) ((((record { sfits = omega arith }, record { sfits = omega arith }), record { sfits = omega arith }), omega (arith, ints)), tt),
 )
 
--- 2*g0 - 3*g1 - 1, -2*g0 + 3*g1 + 1 and 0, which leave g0 no whole number once g1 is 0
-abbrev below : Row
-below = row ((Global 0, pos 2) ∷ (Global 1, negsuc 2) ∷ []) (negsuc 0)
-
-abbrev over : Row
-over = row ((Global 0, negsuc 1) ∷ (Global 1, pos 3) ∷ []) (pos 1)
-
-abbrev zero_row : Row
-zero_row = row [] (pos 0)
-
-abbrev three : List Row
-three = below ∷ over ∷ zero_row ∷ []
-
-abbrev first_stage : Stage
-first_stage = record { variable = Global 0; vectors = (1 ∷ 0 ∷ 0 ∷ []) ∷ (0 ∷ 1 ∷ 0 ∷ []) ∷ (0 ∷ 0 ∷ 1 ∷ []) ∷ []; rows = three }
-
-abbrev second_stage : Stage
-second_stage = record { variable = Global 1; vectors = (0 ∷ 0 ∷ 1 ∷ []) ∷ (1 ∷ 1 ∷ 0 ∷ []) ∷ []; rows = zero_row ∷ zero_row ∷ [] }
-
 -- g1 is bounded by no row, so it is 0
-free : IsFound [] second_stage (Global 1, pos 0)
+free : IsFound [] second_of_three (Global 1, pos 0)
 free = record {
   variable = refl;
   fits = All-from_recursion (λ r. coefficient (Global 1) r.term.pairs ≢ pos 0 → RowFits (value_in []) (Global 1) r) (zero_row ∷ zero_row ∷ []) (λ n. absurd (n refl), (λ n. absurd (n refl), tt));
@@ -146,11 +108,11 @@ three_upper n =
     let part = λ (r : Row). pos 0 <ℤ coefficient (Global 0) r.term.pairs → HoldsAt with_g1 (Global 0) r n in
     (λ h. (below_holds n).0 (All-head part below (over ∷ zero_row ∷ []) h (omega (arith, ints))), λ h. All-from_recursion part three (λ lt. (below_holds n).1 h, (λ lt. absurd (omega (arith, ints, lt)), (λ lt. absurd (omega (arith, ints, lt)), tt))))
 
-apart : IsWalk three (first_stage ∷ second_stage ∷ []) (NoInteger (Global 0) (pos 1) (pos 0))
+pub apart : NoneIsBetween
 apart = record {
   before = [];
-  here = first_stage;
-  after = second_stage ∷ [];
+  here = first_of_three;
+  after = second_of_three ∷ [];
   is = refl;
   later = (Global 1, pos 0) ∷ [];
   found = (free, tt);
@@ -163,11 +125,7 @@ apart = record {
   };
 }
 
--- without stages 1 <= 0 is the first given row that doesn't hold
-abbrev one_row : Row
-one_row = row [] (pos 1)
-
-missed : IsWalk (zero_row ∷ one_row ∷ []) [] (Misses 1)
+pub missed : SecondIsMissed
 missed = (
   [],
   tt,

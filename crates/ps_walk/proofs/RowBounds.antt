@@ -8,8 +8,8 @@ use Rattle.ps_term.specs.declared.var.Var.{Var}
 use Rattle.ps_term.specs.Pairs.{coefficient, pairs_value}
 use Rattle.ps_term.specs.Term.{value}
 use Rattle.ps_walk.specs.Bounds.{HoldsAt, LowerRowsHold, RowFits, StageFits, UpperRowsHold}
-use Rattle.ps_walk.specs.Findings.{AreBounds, IsAtLeast, IsAtMost, IsChoice, IsFinding, IsRowBound, lower_of, upper_of}
-use Rattle.ps_walk.specs.Sums.{SumFits}
+use Rattle.ps_walk.specs.inner.Findings.{AreBounds, IsAtLeast, IsAtMost, IsChoice, IsFinding, IsRowBound, lower_of, upper_of}
+use Rattle.ps_term.specs.Evaluation.{EvaluationFitsFrom}
 use Rattle.ps_walk.specs.Values.{with_value, without}
 use Rattle.ps_walk.specs.declared.bound.RowBound.{RowBound}
 use Rattle.ps_walk.specs.declared.bound.RowBound.TheVariants.{Free, AtLeast, AtMost}
@@ -40,14 +40,14 @@ lower_at v x r a rest l ea er is n =
     let by = holds_by v x r a rest n ea er in
     (λ h. (is n).0 (by.0 h), λ h. by.1 ((is n).1 h))
 
-pub fits_above : (v : Var → ℤ) (x : Var) (r : Row) (u : ℤ) → SumFits v (pos 0) (without x r.term.pairs) r.term.constant → FitsSigned w128 u → ((n : ℤ) → HoldsAt v x r n ↔ (n ≤ℤ u)) → RowFits v x r
+pub fits_above : (v : Var → ℤ) (x : Var) (r : Row) (u : ℤ) → EvaluationFitsFrom v (pos 0) (without x r.term.pairs) r.term.constant → FitsSigned w128 u → ((n : ℤ) → HoldsAt v x r n ↔ (n ≤ℤ u)) → RowFits v x r
 fits_above v x r u sum fits is = record {
   sum = sum;
   lower = λ b other. absurd (not_both (HoldsAt v x r) u b is other);
   upper = λ b other. subst (λ (z : ℤ). FitsSigned w128 z) (sym (same_upper (HoldsAt v x r) u b is other)) fits;
 }
 
-pub fits_below : (v : Var → ℤ) (x : Var) (r : Row) (l : ℤ) → SumFits v (pos 0) (without x r.term.pairs) r.term.constant → FitsSigned w128 l → ((n : ℤ) → HoldsAt v x r n ↔ (l ≤ℤ n)) → RowFits v x r
+pub fits_below : (v : Var → ℤ) (x : Var) (r : Row) (l : ℤ) → EvaluationFitsFrom v (pos 0) (without x r.term.pairs) r.term.constant → FitsSigned w128 l → ((n : ℤ) → HoldsAt v x r n ↔ (l ≤ℤ n)) → RowFits v x r
 fits_below v x r l sum fits is = record {
   sum = sum;
   lower = λ b other. subst (λ (z : ℤ). FitsSigned w128 z) (sym (same_lower (HoldsAt v x r) l b is other)) fits;

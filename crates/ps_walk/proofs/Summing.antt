@@ -10,14 +10,14 @@ use Rattle.ps_term.specs.Pairs.{coefficient, pairs_value}
 use Rattle.ps_term.specs.Sums.{ScaledFits}
 use Rattle.ps_term.specs.Var.{var_eq}
 use Rattle.ps_term.proofs.Ring.{distribute_right, mul-zero, zero-mul}
-use Rattle.ps_walk.specs.Findings.{others, values_beside}
-use Rattle.ps_walk.specs.Sums.{SumFits}
+use Rattle.ps_walk.specs.inner.Findings.{others, values_beside}
+use Rattle.ps_term.specs.Evaluation.{EvaluationFitsFrom}
 use Rattle.ps_walk.specs.Values.{with_value, without}
 
 pub record Summed (values : Var → ℤ) (pairs : List (Var × ℤ)) (constant so_far : ℤ) (rest : List (Var × ℤ)) : Type 0 where
   pub total : (so_far +ℤ pairs_value values rest) ≡ pairs_value values pairs
-  pub fits : SumFits values so_far rest constant → SumFits values (pos 0) pairs constant
-  pub fit : SumFits values (pos 0) pairs constant → SumFits values so_far rest constant
+  pub fits : EvaluationFitsFrom values so_far rest constant → EvaluationFitsFrom values (pos 0) pairs constant
+  pub fit : EvaluationFitsFrom values (pos 0) pairs constant → EvaluationFitsFrom values so_far rest constant
 
 Summed-turn : (v : Var → ℤ) (ps : List (Var × ℤ)) (c s : ℤ) (p : Var × ℤ) (rest : List (Var × ℤ)) → Summed v ps c s (p ∷ rest) → ScaledFits s p.1 (v p.0) → Summed v ps c (s +ℤ (p.1 *ℤ v p.0)) rest
 Summed-turn v ps c s p rest w h =
@@ -32,9 +32,9 @@ Summed-step v ps qs c s new k i d w h e f n =
     subst (λ (z : ℤ). Summed v ps c z (drop (i + 1) qs)) (sym is) (Summed-turn v ps c s (get_or qs i d) (drop (i + 1) qs) here fits)
 
 -- a product that doesn't fit
-pub Summed-past : (v : Var → ℤ) (ps qs : List (Var × ℤ)) (c s k : ℤ) (i : ℕ) (d : Var × ℤ) → Summed v ps c s (drop i qs) → i < length qs → k ≡ v (get_or qs i d).0 → ¬ ScaledFits s (get_or qs i d).1 k → ¬ SumFits v (pos 0) ps c
+pub Summed-past : (v : Var → ℤ) (ps qs : List (Var × ℤ)) (c s k : ℤ) (i : ℕ) (d : Var × ℤ) → Summed v ps c s (drop i qs) → i < length qs → k ≡ v (get_or qs i d).0 → ¬ ScaledFits s (get_or qs i d).1 k → ¬ EvaluationFitsFrom v (pos 0) ps c
 Summed-past v ps qs c s k i d w h e past f =
-    let here : SumFits v s (get_or qs i d ∷ drop (i + 1) qs) c = subst (λ (rs : List (Var × ℤ)). SumFits v s rs c) (drop_more qs i d h) (w.fit f) in
+    let here : EvaluationFitsFrom v s (get_or qs i d ∷ drop (i + 1) qs) c = subst (λ (rs : List (Var × ℤ)). EvaluationFitsFrom v s rs c) (drop_more qs i d h) (w.fit f) in
     past (subst (λ (z : ℤ). ScaledFits s (get_or qs i d).1 z) (sym e) here.0)
 
 pub var_eq_sym : (a b : Var) → var_eq a b ≡ var_eq b a
@@ -74,26 +74,26 @@ same_scaled s a z e f =
     let same : (s +ℤ (a *ℤ z)) ≡ s = omega (arith, ints, none) in
     ((subst (λ (k : ℤ). FitsSigned w128 k) (sym none) zero_fits, subst (λ (k : ℤ). FitsSigned w128 k) (sym same) f), same)
 
-without_fits : (x : Var) (v : Var → ℤ) (s : ℤ) (ps : List (Var × ℤ)) (c : ℤ) → FitsSigned w128 s → SumFits (with_value x (pos 0) v) s ps c ↔ SumFits v s (without x ps) c
+without_fits : (x : Var) (v : Var → ℤ) (s : ℤ) (ps : List (Var × ℤ)) (c : ℤ) → FitsSigned w128 s → EvaluationFitsFrom (with_value x (pos 0) v) s ps c ↔ EvaluationFitsFrom v s (without x ps) c
 without_fits x v s [] c f = (λ h. h, λ h. h)
 without_fits x v s (p ∷ ps) c f =
     front x v s p ps c f (var_eq x p.0) (var_eq p.0 x) (var_eq_sym x p.0) (λ t. without_fits x v t ps c)
   where
-    front : (x : Var) (v : Var → ℤ) (s : ℤ) (p : Var × ℤ) (ps : List (Var × ℤ)) (c : ℤ) → FitsSigned w128 s → (t u : Bool) → t ≡ u → ((z : ℤ) → FitsSigned w128 z → SumFits (with_value x (pos 0) v) z ps c ↔ SumFits v z (without x ps) c) → (ScaledFits s p.1 (if u then pos 0 else v p.0) × SumFits (with_value x (pos 0) v) (s +ℤ (p.1 *ℤ (if u then pos 0 else v p.0))) ps c) ↔ SumFits v s (cond (not t) (p ∷ without x ps) (without x ps)) c
+    front : (x : Var) (v : Var → ℤ) (s : ℤ) (p : Var × ℤ) (ps : List (Var × ℤ)) (c : ℤ) → FitsSigned w128 s → (t u : Bool) → t ≡ u → ((z : ℤ) → FitsSigned w128 z → EvaluationFitsFrom (with_value x (pos 0) v) z ps c ↔ EvaluationFitsFrom v z (without x ps) c) → (ScaledFits s p.1 (if u then pos 0 else v p.0) × EvaluationFitsFrom (with_value x (pos 0) v) (s +ℤ (p.1 *ℤ (if u then pos 0 else v p.0))) ps c) ↔ EvaluationFitsFrom v s (cond (not t) (p ∷ without x ps) (without x ps)) c
     front x v s p ps c f true true e h =
         let same = same_scaled s p.1 (pos 0) refl f in
-        (λ a. (h s f).0 (subst (λ (z : ℤ). SumFits (with_value x (pos 0) v) z ps c) same.1 a.1), λ b. (same.0, subst (λ (z : ℤ). SumFits (with_value x (pos 0) v) z ps c) (sym same.1) ((h s f).1 b)))
+        (λ a. (h s f).0 (subst (λ (z : ℤ). EvaluationFitsFrom (with_value x (pos 0) v) z ps c) same.1 a.1), λ b. (same.0, subst (λ (z : ℤ). EvaluationFitsFrom (with_value x (pos 0) v) z ps c) (sym same.1) ((h s f).1 b)))
     front x v s p ps c f false false e h =
         (λ a. (a.0, (h (s +ℤ (p.1 *ℤ v p.0)) a.0.1).0 a.1), λ b. (b.0, (h (s +ℤ (p.1 *ℤ v p.0)) b.0.1).1 b.1))
     front x v s p ps c f true false e h = absurd (cc)
     front x v s p ps c f false true e h = absurd (cc)
 
-pub beside_fits : (left_out : Option Var) (v : Var → ℤ) (ps : List (Var × ℤ)) (c : ℤ) → SumFits (values_beside left_out v) (pos 0) ps c ↔ SumFits v (pos 0) (others left_out ps) c
+pub beside_fits : (left_out : Option Var) (v : Var → ℤ) (ps : List (Var × ℤ)) (c : ℤ) → EvaluationFitsFrom (values_beside left_out v) (pos 0) ps c ↔ EvaluationFitsFrom v (pos 0) (others left_out ps) c
 beside_fits None v ps c = (λ h. h, λ h. h)
 beside_fits (Some x) v ps c = without_fits x v (pos 0) ps c (record { sfits = omega arith })
 
 -- the whole value, once nothing is left
-pub Summed-end : (left_out : Option Var) (v : Var → ℤ) (ps : List (Var × ℤ)) (c s : ℤ) (o : Option ℤ) → Summed (values_beside left_out v) ps c s [] → SomeIff o (FitsSigned w128 (s +ℤ c)) (s +ℤ c) → SomeIff o (SumFits v (pos 0) (others left_out ps) c) (pairs_value v (others left_out ps) +ℤ c)
+pub Summed-end : (left_out : Option Var) (v : Var → ℤ) (ps : List (Var × ℤ)) (c s : ℤ) (o : Option ℤ) → Summed (values_beside left_out v) ps c s [] → SomeIff o (FitsSigned w128 (s +ℤ c)) (s +ℤ c) → SomeIff o (EvaluationFitsFrom v (pos 0) (others left_out ps) c) (pairs_value v (others left_out ps) +ℤ c)
 Summed-end left_out v ps c s None w h = λ f. h (w.fit ((beside_fits left_out v ps c).1 f))
 Summed-end left_out v ps c s (Some k) w h =
     ((beside_fits left_out v ps c).0 (w.fits h.0), omega (arith, ints, h.1, w.total, beside_value left_out v ps))

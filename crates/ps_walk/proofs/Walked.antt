@@ -11,7 +11,7 @@ use Rattle.ps_term.specs.declared.var.Var.{Var}
 use Rattle.ps_term.specs.declared.var.Var.TheVariants.{Global, Local, Havoc}
 use Rattle.ps_term.specs.Var.{var_eq}
 use Rattle.ps_walk.specs.Answer.{AllowsNone, StagePast}
-use Rattle.ps_walk.specs.Findings.{IsFinding, values_of, var_cmp}
+use Rattle.ps_walk.specs.inner.Findings.{IsFinding, values_of, var_cmp}
 use Rattle.ps_walk.specs.Values.{value_in}
 use Rattle.ps_walk.specs.Walking.{AreFound, StopsAt}
 use Rattle.ps_walk.specs.declared.finding.Finding.TheVariants.{Value, Nothing, Past128 as FoundPast}

@@ -5,7 +5,7 @@ use Rattle.ps_term.specs.declared.row.Row.{Row}
 use Rattle.ps_term.specs.declared.var.Var.{Var}
 use Rattle.ps_term.specs.Pairs.{coefficient}
 use Rattle.ps_term.specs.Row.{Holds}
-use Rattle.ps_walk.specs.Sums.{SumFits}
+use Rattle.ps_term.specs.Evaluation.{EvaluationFitsFrom}
 use Rattle.ps_walk.specs.Values.{with_value, without}
 
 -- the row holds where the variable x is n
@@ -38,7 +38,7 @@ pub record IsNearest (allowed : ℤ → Type 0) (n : ℤ) : Type 0 where
 
 -- at the values of the other variables the row is evaluated, and bounds the variable, within 128 bits
 pub record RowFits (values : Var → ℤ) (x : Var) (r : Row) : Type 0 where
-  pub sum : SumFits values (pos 0) (without x r.term.pairs) r.term.constant
+  pub sum : EvaluationFitsFrom values (pos 0) (without x r.term.pairs) r.term.constant
   pub lower : (b : ℤ) → ((n : ℤ) → HoldsAt values x r n ↔ (b ≤ℤ n)) → FitsSigned w128 b
   pub upper : (b : ℤ) → ((n : ℤ) → HoldsAt values x r n ↔ (n ≤ℤ b)) → FitsSigned w128 b
 

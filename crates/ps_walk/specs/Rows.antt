@@ -4,11 +4,11 @@ use Rattle.ps_term.specs.declared.row.Row.{Row}
 use Rattle.ps_term.specs.declared.var.Var.{Var}
 use Rattle.ps_term.specs.Row.{Holds}
 use Rattle.ps_term.specs.Term.{value}
-use Rattle.ps_walk.specs.Sums.{SumFits}
+use Rattle.ps_term.specs.Evaluation.{EvaluationFits}
 
 -- the row is evaluated within 128 bits
 abbrev pub IsEvaluated : (Var → ℤ) → Row → Type 0
-IsEvaluated values r = SumFits values (pos 0) r.term.pairs r.term.constant
+IsEvaluated values r = EvaluationFits values r.term
 
 -- the row is evaluated, and holds
 abbrev pub Passes : (Var → ℤ) → Row → Type 0

@@ -3,7 +3,7 @@ ghost use Rattle.std.specs.Prelude.{◌≡◌, ◌≢◌, ◌↔◌, ℤ, pos, �
 ghost use Rattle.std.specs.Int.{w128};
 ghost use Rattle.ps_term.specs.Pairs.{coefficient};
 ghost use Rattle.ps_walk.specs.Bounds.{RowFits};
-ghost use Rattle.ps_walk.specs.Findings.{IsRowBound, values_of};
+ghost use Rattle.ps_walk.specs.inner.Findings.{IsRowBound, values_of};
 
 use crate::sum::value_at;
 use ps_term::{Row, Var, ceil_div};

@@ -1,7 +1,7 @@
 // The bounds that rows give to a variable, and the number between them that is nearest to 0.
 ghost use Rattle.std.specs.Prelude.{◌↔◌, ◌≤ℤ◌, ℤ, Some, IfNone, IfSome, OnSome};
 ghost use Rattle.ps_walk.specs.Bounds.{StageFits};
-ghost use Rattle.ps_walk.specs.Findings.{AreBounds, IsAtLeast, IsAtMost, IsChoice, IsFinding, lower_of, upper_of, values_of};
+ghost use Rattle.ps_walk.specs.inner.Findings.{AreBounds, IsAtLeast, IsAtMost, IsChoice, IsFinding, lower_of, upper_of, values_of};
 
 use crate::bound::{RowBound, bound_of};
 use crate::finding::Finding;

@@ -1,6 +1,6 @@
 // The given rows at the values that were found.
 ghost use Rattle.std.specs.Prelude.{◌<◌, ◌^◌, length};
-ghost use Rattle.ps_walk.specs.Findings.{IsEnding, values_of};
+ghost use Rattle.ps_walk.specs.inner.Findings.{IsEnding, values_of};
 
 use crate::sum::value_at;
 use ps_term::{Row, Var};

@@ -9,6 +9,7 @@ mod finding;
 mod integer;
 pub mod laws;
 mod sum;
+pub mod worked;
 
 pub use answer::Walk;
 pub use integer::integer_walk;

@@ -1,8 +1,8 @@
 // The value of a row's term at the values found so far.
 ghost use Rattle.std.specs.Prelude.{◌≡◌, pos, SomeIff};
 ghost use Rattle.ps_term.specs.Term.{value};
-ghost use Rattle.ps_walk.specs.Findings.{others, values_beside, values_of};
-ghost use Rattle.ps_walk.specs.Sums.{SumFits};
+ghost use Rattle.ps_walk.specs.inner.Findings.{others, values_beside, values_of};
+ghost use Rattle.ps_term.specs.Evaluation.{EvaluationFitsFrom};
 
 use ps_term::{Row, Var, is_same, scaled_sum};
 use std::collections::BTreeMap;
@@ -15,7 +15,7 @@ pub(crate) fn value_at(
     left_out: Option<Var>,
 ) -> Option<i128>
     ensures { SomeIff result
-        (SumFits (values_of found.now) (pos 0) (others left_out row.now.term.pairs) row.now.term.constant)
+        (EvaluationFitsFrom (values_of found.now) (pos 0) (others left_out row.now.term.pairs) row.now.term.constant)
         (value (values_of found.now) (record { pairs = others left_out row.now.term.pairs; constant = row.now.term.constant })) }
 {
     let mut sum: i128 = 0;

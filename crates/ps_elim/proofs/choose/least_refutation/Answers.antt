@@ -3,7 +3,7 @@ use Rattle.std.specs.Int.{w128}
 use Rattle.std.specs.Option.{option_copied}
 use Rattle.std.proofs.lemmas.Int.{ints}
 use Rattle.std.proofs.lemmas.List.{take_all, take_more}
-use Rattle.ps_elim.specs.Choosing.{IsLeastAmong, IsPositive}
+use Rattle.ps_elim.specs.inner.Choosing.{IsLeastAmong, IsPositive}
 use Rattle.ps_elim.specs.declared.weighted.Weighted.{Weighted}
 use Rattle.ps_elim.proofs.Choosing.{IsBest, IsBest-more, IsBest-skip}
 use Rattle.ps_elim.proofs.choose.least_refutation.Goals as goal

@@ -2,8 +2,8 @@ use Rattle.std.proofs.Common.{◌≡◌, ◌+◌, ◌^◌, ◌<◌, ◌≤◌, �
 use Rattle.std.proofs.lemmas.List.{append-nil, drop_all, drop_more, length-map, length_push}
 use Rattle.ps_elim.specs.Elimination.{AreStagesOf, Ends, IsLeastRefutation}
 use Rattle.ps_elim.specs.Stages.{AreStages, first_set, variables}
-use Rattle.ps_elim.specs.Weighing.{IsNext, vectors_of}
-use Rattle.ps_elim.specs.Choosing.{IsLeastAmong}
+use Rattle.ps_elim.specs.inner.Weighing.{IsNext, vectors_of}
+use Rattle.ps_elim.specs.inner.Choosing.{IsLeastAmong}
 use Rattle.ps_elim.specs.declared.next.Next.{Next}
 use Rattle.ps_elim.specs.declared.next.Next.TheVariants.{Set, Past128}
 use Rattle.ps_elim.specs.declared.stage.Stage.{Stage}
@@ -82,17 +82,17 @@ returns-in-Some-clause-answer c =
     let last = end rows set c.loop-number.stages.items c.deref-variable-items.result.now c.loop-number.number all c.loop-number-test.false c.loop-number.invariant.state in
     let best = c.in-Some.least.now in
     let least : IsLeastAmong set best = subst (λ (ws : List Weighted). IsLeastAmong ws best) c.as_slice-2.ensures.value c.in-Some.ensures.least in
-    (last.ends tt, subst (λ (v : List ℕ). IsLeastRefutation rows v) (sym c.in_ok-copy-in-Some.ensures) (least_refutation_is rows set best last.weighted last.last least))
+    (last.ends tt, subst (λ (v : List ℕ). IsLeastRefutation rows v) (sym (c.from_list.ensures ∙ c.in_ok-to_list-in-Some.ensures)) (least_refutation_is rows set best last.weighted last.last least))
 
 refuted : (rows : List Row) (v : List ℕ) → Ends rows × IsLeastRefutation rows v → Refutes rows v
 refuted rows v h = last_refutes rows v h.1.is_last h.1.positive
 
 pub returns-in-Some-clause-refuted : goal.returns-in-Some-clause-refuted
-returns-in-Some-clause-refuted c = refuted c.args.rows.now c.in_ok-copy-in-Some.field-0 (returns-in-Some-clause-answer c)
+returns-in-Some-clause-refuted c = refuted c.args.rows.now c.from_list.result (returns-in-Some-clause-answer c)
 
 pub returns-in-Some-clause-sound : goal.returns-in-Some-clause-sound
 returns-in-Some-clause-sound c =
-    Refutes-no_values c.args.rows.now c.in_ok-copy-in-Some.field-0 (refuted c.args.rows.now c.in_ok-copy-in-Some.field-0 (returns-in-Some-clause-answer c))
+    Refutes-no_values c.args.rows.now c.from_list.result (refuted c.args.rows.now c.from_list.result (returns-in-Some-clause-answer c))
 
 pub returns-clause-answer : goal.returns-clause-answer
 returns-clause-answer c =
@@ -106,4 +106,4 @@ returns-clause-answer c =
       made = subst (λ (ss : List Stage). AreStages rows (first_set rows) (variables rows) ss) (append-nil stages) (last.made [] tt);
       unrefuted = no_refutation_is rows set last.weighted last.last (subst (λ (ws : List Weighted). All (λ w. w.row.term.constant ≤ℤ pos 0) ws) c.as_slice-2.ensures.value c.in-None.ensures.none);
     } in
-    subst (λ (ss : List Stage). AreStagesOf rows ss) (sym c.from_list.ensures) is
+    subst (λ (ss : List Stage). AreStagesOf rows ss) (sym c.from_list-in-None.ensures) is

@@ -1,6 +1,6 @@
 use Rattle.std.proofs.Common.{◌≡◌, ◌++◌, map}
 use Rattle.std.specs.Vec.Iter.{into_iter_items}
-use Rattle.ps_elim.specs.Weighing.{vectors_of}
+use Rattle.ps_elim.specs.inner.Weighing.{vectors_of}
 use Rattle.ps_elim.proofs.elimination.stage_of.Given as goal
 
 abbrev pub invariant-loop-weighted : goal.invariant-loop-weighted

@@ -1,9 +1,9 @@
 use Rattle.std.proofs.Common.{◌≡◌, ◌≤◌, All, Bool, List, [], length, sym, ap, ◌∙◌, subst}
 use Rattle.std.proofs.lemmas.List.{length-map}
 use Rattle.std.proofs.lemmas.Result.{IfOk-weaker}
-use Rattle.ps_elim.specs.Marking.{marked, staying}
+use Rattle.ps_elim.specs.inner.Marking.{marked, staying}
 use Rattle.ps_elim.specs.Supports.{kept}
-use Rattle.ps_elim.specs.Weighing.{IsWeighted, vectors_of}
+use Rattle.ps_elim.specs.inner.Weighing.{IsWeighted, vectors_of}
 use Rattle.ps_elim.specs.declared.weighted.Weighted.{Weighted}
 use Rattle.ps_elim.proofs.Kept.{All-marked, kept-marked, length-marked, length-staying_after, vectors_of-marked}
 use Rattle.ps_elim.proofs.filter.kept.Goals as goal
@@ -18,7 +18,7 @@ pub returns-clause-weighted : goal.returns-clause-weighted
 returns-clause-weighted g c =
     let ws = c.args.made.items in
     let ms = c.as_slice-2.result.now in
-    IfOk-weaker c.marked.result (λ some. some.items ≡ marked ms ws) (λ list. All (IsWeighted g.rows) list.items) (λ some e. subst (λ (us : List Weighted). All (IsWeighted g.rows) us) (sym e) (All-marked (IsWeighted g.rows) ms ws c.requires)) c.marked.ensures
+    IfOk-weaker c.marked.result (λ some. some.items ≡ marked ms ws) (λ list. All (IsWeighted g.rows) list.items) (λ some e. subst (λ (us : List Weighted). All (IsWeighted g.rows) us) (sym e) (All-marked (IsWeighted g.rows) ms ws c.requires.0)) c.marked.ensures
 
 pub returns-clause-vectors : goal.returns-clause-vectors
 returns-clause-vectors g c =

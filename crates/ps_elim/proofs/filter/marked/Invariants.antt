@@ -1,6 +1,6 @@
 use Rattle.std.proofs.Common.{◌≡◌, ◌++◌, drop, length}
 use Rattle.std.specs.Vec.Iter.{into_iter_items}
-use Rattle.ps_elim.specs.Marking.{marked}
+use Rattle.ps_elim.specs.inner.Marking.{marked}
 use Rattle.ps_elim.proofs.filter.marked.Given as goal
 
 abbrev pub invariant-loop-weighted : goal.invariant-loop-weighted

@@ -1,7 +1,7 @@
 use Rattle.std.proofs.Common.{◌+◌, true, false, List, drop, take, refl, sym, ap, ◌∙◌}
 use Rattle.std.proofs.lemmas.List.{take_rest}
 use Rattle.ps_elim.specs.Supports.{is_new_after, stays_beside}
-use Rattle.ps_elim.specs.Weighing.{vectors_of}
+use Rattle.ps_elim.specs.inner.Weighing.{vectors_of}
 use Rattle.ps_elim.specs.declared.weighted.Weighted.{Weighted}
 use Rattle.ps_elim.proofs.Kept.{stays_at-is}
 use Rattle.ps_elim.proofs.filter.stays_at.Goals as goal

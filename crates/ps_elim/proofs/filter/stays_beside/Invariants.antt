@@ -1,6 +1,6 @@
 use Rattle.std.proofs.Common.{◌≡◌, drop}
 use Rattle.ps_elim.specs.Supports.{stays_beside}
-use Rattle.ps_elim.specs.Weighing.{vectors_of}
+use Rattle.ps_elim.specs.inner.Weighing.{vectors_of}
 use Rattle.ps_elim.proofs.filter.stays_beside.Given as goal
 
 abbrev pub invariant-loop-other : goal.invariant-loop-other

@@ -1,28 +1,27 @@
-use Rattle.std.proofs.Common.{◌≡◌, not, ◌&&◌, List, ℕ, sym, ap, ap₂, ◌∙◌}
-use Rattle.ps_elim.specs.Supports.{has_support_of, is_less, is_strictly_inside}
-use Rattle.ps_elim.proofs.Kept.{by_order, by_other, by_strict, same_by_supports, strictly_by_supports}
+use Rattle.std.proofs.Common.{not, sym, ap, ◌∙◌}
+use Rattle.ps_elim.specs.Supports.{is_inside, is_less}
+use Rattle.ps_elim.proofs.Kept.{by_order, by_outside, by_strict, inside_by_supports}
 use Rattle.ps_elim.proofs.filter.stays_by.Goals as goal
 
-pub returns-then-strictly_inside : goal.returns-then-strictly_inside
-returns-then-strictly_inside g c =
+pub returns-then-not-inside : goal.returns-then-not-inside
+returns-then-not-inside g c =
     let u = c.args.other.now in
     let v = c.args.weighted.now in
-    let strict = strictly_by_supports u.vector v.vector u.support v.support c.strictly_inside.result c.requires.0.support c.requires.1.support c.strictly_inside.ensures in
-    by_strict (is_strictly_inside u.vector v.vector) (not (has_support_of u.vector v.vector && is_less u.vector v.vector)) (sym strict ∙ c.if-strictly_inside.true)
+    let inside = inside_by_supports u.vector v.vector u.support v.support c.inside.result c.requires.0.support c.requires.1.support c.inside.ensures in
+    by_outside (is_inside u.vector v.vector) (is_inside v.vector u.vector) (is_less u.vector v.vector) (sym inside ∙ c.if-not-inside.true)
 
-pub returns-then-not-is_same : goal.returns-then-not-is_same
-returns-then-not-is_same g c =
+pub returns-then-not-inside-2 : goal.returns-then-not-inside-2
+returns-then-not-inside-2 g c =
     let u = c.args.other.now in
     let v = c.args.weighted.now in
-    let strict = strictly_by_supports u.vector v.vector u.support v.support c.strictly_inside.result c.requires.0.support c.requires.1.support c.strictly_inside.ensures in
-    let same = same_by_supports u.vector v.vector u.support v.support c.is_same.result c.requires.0.support c.requires.1.support c.is_same.ensures in
-    by_other (is_strictly_inside u.vector v.vector) (has_support_of u.vector v.vector) (is_less u.vector v.vector) (sym strict ∙ c.if-strictly_inside.false) (sym same ∙ c.if-not-is_same.true)
+    let inside = inside_by_supports u.vector v.vector u.support v.support c.inside.result c.requires.0.support c.requires.1.support c.inside.ensures in
+    let around = inside_by_supports v.vector u.vector v.support u.support c.inside-2.result c.requires.1.support c.requires.0.support c.inside-2.ensures in
+    by_strict (is_inside u.vector v.vector) (is_inside v.vector u.vector) (is_less u.vector v.vector) (sym inside ∙ c.if-not-inside.false) (sym around ∙ c.if-not-inside-2.true)
 
 pub returns : goal.returns
 returns g c =
     let u = c.args.other.now in
     let v = c.args.weighted.now in
-    let strict = strictly_by_supports u.vector v.vector u.support v.support c.strictly_inside.result c.requires.0.support c.requires.1.support c.strictly_inside.ensures in
-    let same = same_by_supports u.vector v.vector u.support v.support c.is_same.result c.requires.0.support c.requires.1.support c.is_same.ensures in
-    let less : c.is_less.result ≡ is_less u.vector v.vector = c.is_less.ensures ∙ ap₂ (λ (p q : List ℕ). is_less p q) c.as_slice.ensures c.as_slice-2.ensures in
-    ap not less ∙ by_order (is_strictly_inside u.vector v.vector) (has_support_of u.vector v.vector) (is_less u.vector v.vector) (sym strict ∙ c.if-strictly_inside.false) (sym same ∙ c.if-not-is_same.false)
+    let inside = inside_by_supports u.vector v.vector u.support v.support c.inside.result c.requires.0.support c.requires.1.support c.inside.ensures in
+    let around = inside_by_supports v.vector u.vector v.support u.support c.inside-2.result c.requires.1.support c.requires.0.support c.inside-2.ensures in
+    ap not c.is_less.ensures ∙ by_order (is_inside u.vector v.vector) (is_inside v.vector u.vector) (is_less u.vector v.vector) (sym inside ∙ c.if-not-inside.false) (sym around ∙ c.if-not-inside-2.false)

@@ -1,7 +1,7 @@
 use Rattle.std.proofs.Common.{◌≡◌, ◌++◌, ◌∷◌, [], ◌∙◌, ap, length, replicate, set, rules, sym}
 use Rattle.std.proofs.lemmas.List.Elements.{All-push}
 use Rattle.ps_elim.specs.Places.{support_of}
-use Rattle.ps_elim.specs.Weighing.{IsWeighted}
+use Rattle.ps_elim.specs.inner.Weighing.{IsWeighted}
 use Rattle.ps_elim.proofs.Units.{unit_weighted, units-end, units-step}
 use Rattle.ps_elim.proofs.first.first_set.Goals as goal
 
@@ -13,7 +13,7 @@ loop-place-preserved c =
     let r = c.index-rows-place.result in
     let w = c.in_ok-with_support.field-0 in
     let pushed : c.push.new.self.items ≡ c.loop-place.set.items ++ w ∷ [] = search rules in
-    let entries : w.vector ≡ set (replicate n 0) i 1 = c.in_ok-with_support.ensures.vector ∙ c.in_ok-entries.ensures in
+    let entries : w.vector ≡ set (replicate n 0) i 1 = c.in_ok-with_support.ensures.vector ∙ c.in_ok-vector.ensures in
     let here : IsWeighted rows w = unit_weighted rows i r w c.loop-place-test.true c.index-rows-place.is entries (c.in_ok-with_support.ensures.row ∙ c.in_ok-copy.ensures) (c.in_ok-with_support.ensures.support ∙ ap support_of (sym c.in_ok-with_support.ensures.vector)) in
     rw pushed (record {
       weighted = All-push (IsWeighted rows) c.loop-place.set.items w c.loop-place.invariant.weighted here;

@@ -1,5 +1,5 @@
 use Rattle.std.proofs.Common.{◌≡◌, take}
-use Rattle.ps_elim.specs.Weighing.{pointed_to}
+use Rattle.ps_elim.specs.inner.Weighing.{pointed_to}
 use Rattle.ps_elim.proofs.next.copies.Given as goal
 
 abbrev pub invariant-loop-weighted : goal.invariant-loop-weighted

@@ -2,7 +2,7 @@ use Rattle.std.proofs.Common.{All, List, subst}
 use Rattle.std.proofs.lemmas.List.{take_all}
 use Rattle.std.proofs.lemmas.Result.{err_from_is_err_and}
 use Rattle.ps_elim.specs.Combining.{PairFits}
-use Rattle.ps_elim.specs.Weighing.{AllPairsFit, IsPairable, pointed_to, vectors_of}
+use Rattle.ps_elim.specs.inner.Weighing.{AllPairsFit, IsPairable, pointed_to, vectors_of}
 use Rattle.ps_elim.specs.declared.sign.Sign.TheVariants.{Positive}
 use Rattle.ps_elim.specs.declared.weighted.Weighted.{Weighted}
 use Rattle.ps_elim.proofs.Pairing.{all_pairs-step, fits-step, pointed_item, same_error, vector_item}

@@ -1,6 +1,6 @@
 use Rattle.std.proofs.Common.{◌≡◌, ◌++◌, All, take}
 use Rattle.ps_elim.specs.Combining.{all_combined}
-use Rattle.ps_elim.specs.Weighing.{AllPairsFit, IsWeighted, pointed_to, vectors_of}
+use Rattle.ps_elim.specs.inner.Weighing.{AllPairsFit, IsWeighted, pointed_to, vectors_of}
 use Rattle.ps_elim.proofs.next.with_pairs.Given as goal
 
 abbrev pub invariant-loop-positive : goal.invariant-loop-positive

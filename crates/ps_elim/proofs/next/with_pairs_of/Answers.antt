@@ -2,7 +2,7 @@ use Rattle.std.proofs.Common.{◌≡◌, ◌++◌, ◌∷◌, [], rules}
 use Rattle.std.proofs.lemmas.List.Elements.{All-push}
 use Rattle.std.proofs.lemmas.Result.{err_from_is_err_and}
 use Rattle.ps_elim.specs.Combining.{PairFits, combined}
-use Rattle.ps_elim.specs.Weighing.{IsPairable, IsWeighted}
+use Rattle.ps_elim.specs.inner.Weighing.{IsPairable, IsWeighted}
 use Rattle.ps_elim.specs.declared.sign.Sign.TheVariants.{Negative}
 use Rattle.ps_elim.proofs.Pairing.{fits-step, pairs-step, pointed_item, same_error, vector_item}
 use Rattle.ps_term.specs.declared.term.TermEnd.TheVariants.{Past128}

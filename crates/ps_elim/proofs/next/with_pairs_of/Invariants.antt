@@ -1,6 +1,6 @@
 use Rattle.std.proofs.Common.{◌≡◌, ◌++◌, All, map, take}
 use Rattle.ps_elim.specs.Combining.{PairFits, combined}
-use Rattle.ps_elim.specs.Weighing.{IsWeighted, pointed_to, vectors_of}
+use Rattle.ps_elim.specs.inner.Weighing.{IsWeighted, pointed_to, vectors_of}
 use Rattle.ps_elim.proofs.next.with_pairs_of.Given as goal
 
 abbrev pub invariant-loop-negative : goal.invariant-loop-negative

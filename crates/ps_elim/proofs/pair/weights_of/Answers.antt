@@ -2,7 +2,7 @@ use Rattle.std.proofs.Common.{◌≡◌, ◌/◌, ℕ, FitsSigned, unsigned_abs,
 use Rattle.std.specs.Int.{w128}
 use Rattle.std.proofs.lemmas.Int.{to_z-of_z}
 use Rattle.ps_elim.specs.Divisors.{common_divisor}
-use Rattle.ps_elim.specs.Weights.{size_in}
+use Rattle.ps_elim.specs.inner.Weights.{size_in}
 use Rattle.ps_elim.proofs.Gcds.{common_divisor-swap, gcd_is}
 use Rattle.ps_elim.proofs.pair.weights_of.Goals as goal
 

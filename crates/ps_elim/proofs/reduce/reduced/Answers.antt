@@ -1,4 +1,4 @@
-use Rattle.std.proofs.Common.{◌≡◌, ℕ, ◌<◌, ◌≤◌, ◌/◌, ◌*ℤ◌, ◌^◌, pos, List, map, length, IfOk, Result, Ok, Err, unsigned_abs, sym, ap, ◌∙◌, subst, arith}
+use Rattle.std.proofs.Common.{◌≡◌, ℕ, All, ◌<◌, ◌≤◌, ◌/◌, ◌*ℤ◌, ◌^◌, pos, List, map, length, IfOk, Result, Ok, Err, unsigned_abs, sym, ap, ◌∙◌, subst, arith}
 use Rattle.std.specs.Int.{◌∣◌}
 use Rattle.std.proofs.lemmas.List.{length-map}
 use Rattle.std.proofs.lemmas.List.Elements.{recursion_from_All}
@@ -6,9 +6,9 @@ use Rattle.std.proofs.lemmas.Result.{IfOk-weaker}
 use Rattle.ps_elim.specs.Divisors.{divisor_of_all, reduced}
 use Rattle.ps_elim.specs.Places.{support_of}
 use Rattle.ps_elim.specs.Vectors.{IsSum}
-use Rattle.ps_elim.specs.Weighing.{IsWeighted}
+use Rattle.ps_elim.specs.inner.Weighing.{IsWeighted}
 use Rattle.ps_elim.specs.declared.weighted.Weighted.{Weighted}
-use Rattle.ps_elim.proofs.Gcds.{divisor_of_all-small, reduced-same}
+use Rattle.ps_elim.proofs.Gcds.{divisor_of_all-common, divisor_of_all-small, reduced-same}
 use Rattle.ps_elim.proofs.Sums.{reduced_divides, reduced_part}
 use Rattle.ps_term.specs.Pairs.{coefficient}
 use Rattle.ps_term.specs.declared.row.Row.{Row}
@@ -17,28 +17,28 @@ use Rattle.ps_elim.proofs.reduce.reduced.Goals as goal
 
 pub returns-then-divisor-le1-clause-vector : goal.returns-then-divisor-le1-clause-vector
 returns-then-divisor-le1-clause-vector g c =
-    let v = c.args.entries.items in
-    let is : c.divisor_of-divisor.result ≡ divisor_of_all v = c.divisor_of-divisor.ensures ∙ ap divisor_of_all c.as_slice.ensures.value in
+    let v = c.args.vector in
+    let is : c.divisor-divisor.result ≡ divisor_of_all v = c.divisor-divisor.ensures in
     let small : divisor_of_all v ≤ 1 = omega (arith, is, c.if-divisor-le1.true) in
     IfOk-weaker c.with_support.result (λ made. made.vector ≡ v) (λ made. made.vector ≡ reduced v) (λ made e. e ∙ sym (reduced-same v small)) c.with_support.ensures.vector
 
-pub divided_row-requires-clause-small : goal.divided_row-requires-clause-small
-divided_row-requires-clause-small g c =
-    let v = c.args.entries.items in
-    let is : c.divisor_of-divisor.result ≡ divisor_of_all v = c.divisor_of-divisor.ensures ∙ ap divisor_of_all c.as_slice.ensures.value in
+pub divided_term-requires-clause-small : goal.divided_term-requires-clause-small
+divided_term-requires-clause-small g c =
+    let v = c.args.vector in
+    let is : c.divisor-divisor.result ≡ divisor_of_all v = c.divisor-divisor.ensures in
     omega (arith, is, divisor_of_all-small (2 ^ 127) v (omega arith) (recursion_from_All (λ n. n < 2 ^ 127) v c.requires.1.0))
 
-pub divided_row-requires-clause-coefficients : goal.divided_row-requires-clause-coefficients
-divided_row-requires-clause-coefficients g c =
-    let v = c.args.entries.items in
-    let is : c.divisor_of-divisor.result ≡ divisor_of_all v = c.divisor_of-divisor.ensures ∙ ap divisor_of_all c.as_slice.ensures.value in
+pub divided_term-requires-clause-coefficients : goal.divided_term-requires-clause-coefficients
+divided_term-requires-clause-coefficients g c =
+    let v = c.args.vector in
+    let is : c.divisor-divisor.result ≡ divisor_of_all v = c.divisor-divisor.ensures in
     let some : 0 < divisor_of_all v = omega (arith, is, c.if-divisor-le1.false) in
     λ x. subst (λ (d : ℕ). d ∣ unsigned_abs (coefficient x c.args.row.term.pairs)) (sym is) (reduced_divides (λ t. coefficient x t.pairs) g.rows v (coefficient x c.args.row.term.pairs) some (c.requires.1.1.coefficients x))
 
-pub divided_row-requires-clause-constant : goal.divided_row-requires-clause-constant
-divided_row-requires-clause-constant g c =
-    let v = c.args.entries.items in
-    let is : c.divisor_of-divisor.result ≡ divisor_of_all v = c.divisor_of-divisor.ensures ∙ ap divisor_of_all c.as_slice.ensures.value in
+pub divided_term-requires-clause-constant : goal.divided_term-requires-clause-constant
+divided_term-requires-clause-constant g c =
+    let v = c.args.vector in
+    let is : c.divisor-divisor.result ≡ divisor_of_all v = c.divisor-divisor.ensures in
     let some : 0 < divisor_of_all v = omega (arith, is, c.if-divisor-le1.false) in
     subst (λ (d : ℕ). d ∣ unsigned_abs c.args.row.term.constant) (sym is) (reduced_divides (λ t. t.constant) g.rows v c.args.row.term.constant some c.requires.1.1.constant)
 
@@ -60,14 +60,24 @@ weighted_from rows v u row w e l s a b d = record {
   support = d ∙ ap support_of (sym a);
 }
 
+pub divided-requires-clause-small : goal.divided-requires-clause-small
+divided-requires-clause-small g c =
+    let v = c.args.vector in
+    let is : c.divisor-divisor.result ≡ divisor_of_all v = c.divisor-divisor.ensures in
+    omega (arith, is, divisor_of_all-small (2 ^ 127) v (omega arith) (recursion_from_All (λ n. n < 2 ^ 127) v c.requires.1.0))
+
+pub divided-requires-clause-divides : goal.divided-requires-clause-divides
+divided-requires-clause-divides g c =
+    subst (λ (d : ℕ). All (λ n. d ∣ n) c.args.vector) (sym c.divisor-divisor.ensures) (divisor_of_all-common c.args.vector)
+
 pub returns-clause-weighted : goal.returns-clause-weighted
 returns-clause-weighted g c =
-    let v = c.args.entries.items in
-    let is : c.divisor_of-divisor.result ≡ divisor_of_all v = c.divisor_of-divisor.ensures ∙ ap divisor_of_all c.as_slice.ensures.value in
+    let v = c.args.vector in
+    let is : c.divisor-divisor.result ≡ divisor_of_all v = c.divisor-divisor.ensures in
     let some : 0 < divisor_of_all v = omega (arith, is, c.if-divisor-le1.false) in
     let old = c.args.row in
-    let new = c.in_ok-row.row in
-    let u = c.divided_entries-entries.result.items in
-    let same : u ≡ reduced v = c.divided_entries-entries.ensures ∙ ap (λ (d : ℕ). map (λ n. n / d) v) is in
-    let sum = divided_sum g.rows v old new some c.requires.1.1 (λ x. subst (λ (d : ℕ). coefficient x old.term.pairs ≡ (pos d *ℤ coefficient x new.term.pairs)) is (c.in_ok-row.ensures.coefficients x)) (subst (λ (d : ℕ). old.term.constant ≡ (pos d *ℤ new.term.constant)) is c.in_ok-row.ensures.constant) in
+    let new : Row = record { term = c.in_ok-term.term } in
+    let u = c.in_ok-vector.vector in
+    let same : u ≡ reduced v = c.in_ok-vector.ensures ∙ ap (λ (d : ℕ). map (λ n. n / d) v) is in
+    let sum = divided_sum g.rows v old new some c.requires.1.1 (λ x. subst (λ (d : ℕ). coefficient x old.term.pairs ≡ (pos d *ℤ coefficient x new.term.pairs)) is (c.in_ok-term.ensures.coefficients x)) (subst (λ (d : ℕ). old.term.constant ≡ (pos d *ℤ new.term.constant)) is c.in_ok-term.ensures.constant) in
     together (λ w. w.vector ≡ u) (λ w. w.row ≡ new) (λ w. w.support ≡ support_of u) (IsWeighted g.rows) c.with_support-2.result (λ w a b d. weighted_from g.rows v u new w same c.requires.0 sum a b d) c.with_support-2.ensures.vector c.with_support-2.ensures.row c.with_support-2.ensures.support

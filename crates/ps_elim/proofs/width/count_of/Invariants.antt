@@ -1,6 +1,6 @@
 use Rattle.std.proofs.Common.{◌≡◌, ◌+◌, ◌≤◌, drop, length}
 use Rattle.std.specs.List.{filter}
-use Rattle.ps_elim.specs.Weighing.{is_of}
+use Rattle.ps_elim.specs.inner.Weighing.{is_of}
 use Rattle.ps_term.specs.Pairs.{coefficient}
 use Rattle.ps_elim.proofs.width.count_of.Given as goal
 

@@ -3,7 +3,7 @@ use Rattle.std.specs.Int.{w128}
 use Rattle.std.proofs.lemmas.Int.{ints, to_z-of_z}
 use lib.Signed.{lt_z}
 use Rattle.ps_term.specs.Pairs.{coefficient}
-use Rattle.ps_walk.specs.Findings.{values_of}
+use Rattle.ps_walk.specs.inner.Findings.{values_of}
 use Rattle.ps_walk.proofs.Bounding.{below_zero}
 use Rattle.ps_walk.proofs.RowBounds.{upper_at, lower_at, fits_above, fits_below}
 use Rattle.ps_walk.proofs.bound.bound_of.Goals as goal

@@ -4,7 +4,7 @@ use Rattle.std.proofs.lemmas.List.Elements.{All-more}
 use Rattle.ps_term.specs.declared.row.Row.{Row}
 use Rattle.ps_term.specs.Pairs.{coefficient}
 use Rattle.ps_walk.specs.Bounds.{RowFits, StageFits}
-use Rattle.ps_walk.specs.Findings.{values_of}
+use Rattle.ps_walk.specs.inner.Findings.{values_of}
 use Rattle.ps_walk.proofs.RowBounds.{AreBounds-step}
 use Rattle.ps_walk.proofs.bounds.bounds_of.Goals as goal
 

@@ -1,6 +1,6 @@
 use Rattle.std.proofs.Common.{take}
 use Rattle.ps_walk.specs.Bounds.{StageFits}
-use Rattle.ps_walk.specs.Findings.{AreBounds, values_of}
+use Rattle.ps_walk.specs.inner.Findings.{AreBounds, values_of}
 use Rattle.ps_walk.proofs.bounds.bounds_of.Given as goal
 
 abbrev pub invariant-loop-row : goal.invariant-loop-row

@@ -1,4 +1,4 @@
-use Rattle.ps_walk.specs.Findings.{values_of}
+use Rattle.ps_walk.specs.inner.Findings.{values_of}
 use Rattle.ps_walk.proofs.RowBounds.{finding_by}
 use Rattle.ps_walk.proofs.bounds.find.Goals as goal
 

@@ -2,7 +2,7 @@ use Rattle.std.proofs.Common.{ℤ, pos, ◌≤ℤ◌, ◌<ℤ◌, All, FitsSigne
 use Rattle.std.specs.Int.{w128}
 use Rattle.std.proofs.lemmas.Int.{ints}
 use Rattle.std.proofs.lemmas.List.{take_all}
-use Rattle.ps_walk.specs.Findings.{values_of}
+use Rattle.ps_walk.specs.inner.Findings.{values_of}
 use Rattle.ps_walk.specs.Rows.{Fails, IsPast, Passes}
 use Rattle.ps_walk.proofs.Endings.{first_at, passed_more}
 use Rattle.ps_walk.proofs.ending.ending_of.Goals as goal

@@ -1,5 +1,5 @@
 use Rattle.std.proofs.Common.{take, All}
-use Rattle.ps_walk.specs.Findings.{values_of}
+use Rattle.ps_walk.specs.inner.Findings.{values_of}
 use Rattle.ps_walk.specs.Rows.{Passes}
 use Rattle.ps_walk.proofs.ending.ending_of.Given as goal
 

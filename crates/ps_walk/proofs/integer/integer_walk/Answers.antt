@@ -3,7 +3,7 @@ use Rattle.std.specs.Int.{w128}
 use Rattle.std.proofs.lemmas.Int.{to_z-of_z}
 use Rattle.ps_term.specs.declared.var.Var.{Var}
 use Rattle.ps_elim.specs.Ascending.{Ascend}
-use Rattle.ps_walk.specs.Findings.{IsFinding, values_of}
+use Rattle.ps_walk.specs.inner.Findings.{IsFinding, values_of}
 use Rattle.ps_walk.specs.declared.finding.Finding.TheVariants.{Value, Nothing, Past128}
 use Rattle.ps_walk.proofs.Walked.{Walked-step, Walked-end, found_variables, stops_apart, stops_past}
 use Rattle.ps_walk.proofs.integer.integer_walk.Goals as goal

@@ -4,7 +4,7 @@ use Rattle.std.proofs.lemmas.Int.{to_z-of_z}
 use Rattle.std.proofs.lemmas.List.{drop_all}
 use Rattle.ps_term.specs.declared.var.Var.{Var}
 use Rattle.ps_term.specs.declared.var.Var.TheVariants.{Global}
-use Rattle.ps_walk.specs.Findings.{values_beside, values_of}
+use Rattle.ps_walk.specs.inner.Findings.{values_beside, values_of}
 use Rattle.ps_walk.proofs.Summing.{Summed, Summed-step, Summed-past, Summed-end, beside_fits}
 use Rattle.ps_walk.proofs.sum.value_at.Goals as goal
 

@@ -1,5 +1,5 @@
 use Rattle.std.proofs.Common.{drop}
-use Rattle.ps_walk.specs.Findings.{values_beside, values_of}
+use Rattle.ps_walk.specs.inner.Findings.{values_beside, values_of}
 use Rattle.ps_walk.proofs.Summing.{Summed}
 use Rattle.ps_walk.proofs.sum.value_at.Given as goal
 

@@ -1,6 +1,6 @@
 use Rattle.std.proofs.Common.{◌≡◌, ◌↔◌, Bool, true, List, ℕ, length, sym, ap, ap₂, ◌∙◌, subst₂}
 use Rattle.ps_elim.specs.Places.{is_part}
-use Rattle.ps_elim.specs.Words.{IsPartOf}
+use Rattle.ps_elim.specs.inner.Words.{IsPartOf}
 use Rattle.ps_elim.proofs.Bits.{part_by_words, same_words}
 use Rattle.ps_elim.proofs.support.Support.inside.Goals as goal
 
