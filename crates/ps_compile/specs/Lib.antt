@@ -1,5 +1,6 @@
 pub mod Checks
 pub mod Compiled
+pub mod Conditions
 pub mod Examples
 pub mod Kept
 pub mod Layout

@@ -2,7 +2,10 @@
 //! text's failures. Definitions and their laws; the call that makes the graph comes later.
 #![tactic(auto)]
 
+mod alternatives;
 pub mod laws;
 pub mod limits;
+mod starts;
+mod sums;
 mod terms;
 pub mod worked;
