@@ -1,7 +1,8 @@
 //! The graph of a program: how its body is laid out, its limits, and that its error traces are the
-//! text's failures. Definitions and their laws; the call that makes the graph comes later.
+//! text's failures. Definitions and their laws, and the call that makes the graph.
 #![tactic(auto)]
 
+mod alternatives;
 mod command_key;
 mod compile_end;
 mod compiling;
@@ -17,10 +18,11 @@ mod plan;
 mod route;
 mod routes;
 mod setting;
-mod stubs;
+mod starts;
+mod sums;
 mod table;
 mod terms;
 pub mod worked;
 
-pub use compiling::compile;
 pub use compile_end::CompileEnd;
+pub use compiling::compile;

@@ -7,7 +7,8 @@ ghost use Rattle.ps_compile.specs.inner.Compilable.{CondIsCompilable, StmtIsComp
 ghost use Rattle.ps_graph.specs.Paths.{Assigns, paths, ways};
 
 use crate::route::{Route, one_op};
-use crate::stubs::{alternatives_of, sum_term};
+use crate::alternatives::alternatives_of;
+use crate::sums::sum_term;
 use ps_command::{Command, Op};
 use ps_list::Sequence;
 use ps_term::{Row, Term, TermEnd, Var};

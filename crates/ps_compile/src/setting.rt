@@ -7,7 +7,7 @@ ghost use Rattle.ps_command.specs.declared.command.Command.{Command};
 ghost use Rattle.ps_compile.specs.Conditions.{IsCompilable};
 ghost use Rattle.ps_compile.specs.inner.Settings.{AreDeclaredIn, IsSettingOf};
 
-use crate::stubs::start_rows;
+use crate::starts::start_rows;
 use ps_command::{Command, Setting, SymbolicForm, symbolic};
 use ps_list::Sequence;
 use ps_term::TermEnd;
