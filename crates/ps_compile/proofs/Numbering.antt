@@ -98,6 +98,10 @@ one_stands p (x ∷ xs) h = at (p x) h (one_stands p xs)
 
 -- ---- the loop of the table
 
+pub nothing_left : {X : Type 0} (xs : List X) → length xs ≡ 0 → xs ≡ []
+nothing_left [] h = refl
+nothing_left (x ∷ xs) h = let no_such : ⊥ = omega (arith, h) in absurd no_such
+
 -- the edges that are numbered, and the drafts that are left
 pub record Numbering (all rest : List Draft) (keys : List CommandKey) (es : List Edge) : Type 0 where
   pub done : List Draft

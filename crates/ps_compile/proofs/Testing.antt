@@ -214,4 +214,4 @@ lays_after (Ok x) body a b c ss ts m n g h = grows_both body a b c ss ts m n g h
 lays_after (Err e) body a b c ss ts m n g h = end_second body a b ss ts m e g h
 
 pub commands_count : (drafts : List Draft) → length (commands_on drafts) ≡ length drafts
-commands_count drafts = length-map (λ (l : Draft). l.route.ops) drafts
+commands_count drafts = length-map (λ (l : Draft). l.route.command.ops) drafts

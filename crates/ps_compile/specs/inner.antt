@@ -1,5 +1,4 @@
 -- What only clauses within the crate speak of.
-pub mod Compilable
 pub mod Counts
 pub mod Drafts
 pub mod Inside

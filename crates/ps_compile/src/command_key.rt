@@ -58,8 +58,7 @@ impl Hash for OpKey {
                 row.term.constant.hash(state);
                 row.term.pairs.as_slice().hash(state);
             }
-            Op::Assign(variable, term) => {
-                variable.hash(state);
+            Op::Assign(_variable, term) => {
                 term.constant.hash(state);
                 term.pairs.as_slice().hash(state);
             }

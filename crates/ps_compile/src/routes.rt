@@ -3,7 +3,6 @@ ghost use Rattle.std.specs.Prelude.{◌≡◌, ◌++◌, ◌∷◌, [], true, fa
 ghost use Rattle.ps_compile.specs.inner.Counts.{paths_of};
 ghost use Rattle.ps_compile.specs.inner.Drafts.{route_of};
 ghost use Rattle.ps_compile.specs.inner.Routes.{after_all, after_one, assigned_route, cond_paths, guarded_route};
-ghost use Rattle.ps_compile.specs.inner.Compilable.{CondIsCompilable, StmtIsCompilable, BlockIsCompilable, SumIsCompilable, TestIsCompilable};
 ghost use Rattle.ps_graph.specs.Paths.{Assigns, paths, ways};
 
 use crate::route::{Route, one_op};
@@ -18,7 +17,6 @@ use std::alloc::{AllocError, Global};
 // The paths of a statement, in order. It is called only where they are at most 64.
 #[cycle(routes)]
 pub(crate) fn stmt_routes(alloc: Global, kind: &StmtKind) -> Result<Vec<Route>, AllocError>
-    requires { StmtIsCompilable kind.now }
     ensures { IfOk result (λ routes. routes.items ≡ map route_of (paths kind.now)) }
 {
     match kind {
@@ -45,7 +43,6 @@ pub(crate) fn stmt_routes(alloc: Global, kind: &StmtKind) -> Result<Vec<Route>, 
 // The paths of a block, from its last statement to its first.
 #[cycle(routes)]
 fn block_routes(alloc: Global, block: &[Stmt]) -> Result<Vec<Route>, AllocError>
-    requires { BlockIsCompilable block.now }
     ensures { IfOk result (λ routes. routes.items ≡ map route_of (paths_of block.now)) }
 {
     let mut all = one(alloc, Route::empty(alloc))?;
@@ -58,7 +55,6 @@ fn block_routes(alloc: Global, block: &[Stmt]) -> Result<Vec<Route>, AllocError>
 
 // The ways in which a test holds, or fails.
 pub(crate) fn ways_routes(alloc: Global, test: &Test, holds: bool) -> Result<Vec<Route>, AllocError>
-    requires { TestIsCompilable test.now }
     ensures { IfOk result (λ routes. routes.items ≡ map route_of (ways holds test.now)) }
 {
     match test {
@@ -69,7 +65,6 @@ pub(crate) fn ways_routes(alloc: Global, test: &Test, holds: bool) -> Result<Vec
 
 // Those of an assertion: first those on which it holds.
 fn assert_routes(alloc: Global, cond: &Cond) -> Result<Vec<Route>, AllocError>
-    requires { CondIsCompilable cond.now }
     ensures { IfOk result (λ routes. routes.items ≡
         map route_of (cond_paths true false cond.now ++ cond_paths false true cond.now)) }
 {
@@ -86,13 +81,19 @@ fn cond_routes(
     holds: bool,
     fails: bool,
 ) -> Result<Vec<Route>, AllocError>
-    requires { CondIsCompilable cond.now }
     ensures { IfOk result (λ routes. routes.items ≡ map route_of (cond_paths holds fails cond.now)) }
 {
     match alternatives_of(alloc, holds, cond) {
         Ok(alternatives) => guarded_routes(alloc, alternatives, fails),
-        Err(TermEnd::Memory(end)) => Err(end),
-        Err(TermEnd::Past128) => unreachable!(),
+        Err(end) => Err(memory_end(end)),
+    }
+}
+
+// Want of memory. No number of a program that can be compiled is so great that its terms leave 128 bits.
+fn memory_end(end: TermEnd) -> AllocError {
+    match end {
+        TermEnd::Memory(end) => end,
+        TermEnd::Past128 => AllocError,
     }
 }
 
@@ -130,13 +131,11 @@ fn guarded(alloc: Global, rows: Sequence<Row>, fails: bool) -> Result<Route, All
 
 // The route of an assignment.
 fn assign_route(alloc: Global, variable: Var, sum: &Sum) -> Result<Route, AllocError>
-    requires { SumIsCompilable sum.now }
     ensures { IfOk result (λ route. route ≡ route_of (Assigns variable sum.now ∷ [])) }
 {
     match sum_term(alloc, sum) {
         Ok(term) => assigned(alloc, variable, term),
-        Err(TermEnd::Memory(end)) => Err(end),
-        Err(TermEnd::Past128) => unreachable!(),
+        Err(end) => Err(memory_end(end)),
     }
 }
 

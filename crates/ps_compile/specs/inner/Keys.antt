@@ -42,7 +42,7 @@ op_key_eq a b = op_eq a.op b.op
 abbrev pub key_eq : CommandKey → CommandKey → Bool
 key_eq a b = pointwise op_key_eq a.ops b.ops
 
--- what a hash is fed
+-- what a hash is fed; of an assignment the term alone
 abbrev pub pair_fed : Var × ℤ → fed.HashWrites
 pair_fed p = hashes.ghosts.hash_input p.0 ++ fed.i128 p.1
 
@@ -51,7 +51,7 @@ term_fed t = fed.i128 t.constant ++ fed.slice pair_fed t.pairs
 
 abbrev pub op_fed : Op → fed.HashWrites
 op_fed (Assume r) = term_fed r.term
-op_fed (Assign x t) = (hashes.ghosts.hash_input x ++ fed.i128 t.constant) ++ fed.slice pair_fed t.pairs
+op_fed (Assign _ t) = term_fed t
 op_fed (Havoc x) = hashes.ghosts.hash_input x
 
 abbrev pub op_key_fed : OpKey → fed.HashWrites

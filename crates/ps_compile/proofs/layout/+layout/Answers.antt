@@ -3,7 +3,6 @@ use Rattle.ps_compile.specs.Layout.{inner_of, sites_of, opened_of, start_of}
 use Rattle.ps_tree.specs.declared.stmt.Stmt.{Stmt}
 use Rattle.ps_tree.specs.declared.stmt.StmtKind.TheVariants.{If, While}
 use Rattle.ps_compile.proofs.Blocks.{block_fails, block_steps, if_err, if_err_held, if_lays, while_err, while_lays}
-use Rattle.ps_compile.proofs.Parts.{if_held, if_failed, while_block}
 use Rattle.ps_compile.proofs.layout.+layout.Goals as goal
 
 pub lay_block-returns-in-Err-lay_stmt : goal.lay_block-returns-in-Err-lay_stmt
@@ -48,12 +47,3 @@ lay_stmt-returns-in-Ok-open_while t c =
     while_lays c.lay_block-in-While.result 0 c.args.plan.now c.open_while.new.plan c.lay_block-in-While.new.plan c.args.stmt.now.place c.args.stmt.now.kind
     c.in-While.test c.as_slice-block.result.now c.args.a c.args.b c.in-Ok-open_while.first
     (c.in-While.is ∙ ap (λ (x : List Stmt). While c.in-While.test x) (sym c.as_slice-block.ensures)) c.in-Ok-open_while.ensures c.lay_block-in-While.ensures
-
-pub lay_stmt-lay_block-requires : goal.lay_stmt-lay_block-requires
-lay_stmt-lay_block-requires t c = if_held c.args.stmt.now.kind c.in-If.test c.in-If.held c.in-If.failed c.as_slice-held.result.now c.in-If.is c.as_slice-held.ensures c.requires
-
-pub lay_stmt-lay_block-requires-in-If : goal.lay_stmt-lay_block-requires-in-If
-lay_stmt-lay_block-requires-in-If t c = if_failed c.args.stmt.now.kind c.in-If.test c.in-If.held c.in-If.failed c.as_slice-failed.result.now c.in-If.is c.as_slice-failed.ensures c.requires
-
-pub lay_stmt-lay_block-requires-in-While : goal.lay_stmt-lay_block-requires-in-While
-lay_stmt-lay_block-requires-in-While t c = while_block c.args.stmt.now.kind c.in-While.test c.in-While.block c.as_slice-block.result.now c.in-While.is c.as_slice-block.ensures c.requires

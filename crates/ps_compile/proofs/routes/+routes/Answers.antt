@@ -5,7 +5,6 @@ use Rattle.ps_compile.proofs.Counting.{atomic_is}
 use Rattle.ps_tree.specs.declared.stmt.Stmt.{Stmt}
 use Rattle.ps_compile.specs.inner.Drafts.{route_of}
 use Rattle.ps_compile.proofs.Routing.{routes_step, if_routes}
-use Rattle.ps_compile.proofs.Parts.{atomic_block, if_held, if_failed}
 use Rattle.ps_compile.proofs.routes.+routes.Goals as goal
 
 pub block_routes-loop-i-preserved : goal.block_routes-loop-i-preserved
@@ -27,12 +26,3 @@ stmt_routes-returns-in_ok-append-in-If t c =
     c.in_ok-second-in-If.second.items c.as_slice-in-If-6.result.now c.in-If.is c.as_slice-in-If.ensures c.as_slice-in-If-4.ensures
     c.in_ok-holds-in-If.ensures c.as_slice-in-If-2.ensures.value c.in_ok-first-in-If.ensures c.as_slice-in-If-3.ensures.value c.in_ok-all-in-If.ensures
     c.in_ok-fails-in-If.ensures c.as_slice-in-If-5.ensures.value c.in_ok-second-in-If.ensures c.as_slice-in-If-6.ensures.value c.in_ok-others-in-If.ensures h
-
-pub stmt_routes-block_routes-requires : goal.stmt_routes-block_routes-requires
-stmt_routes-block_routes-requires t c = atomic_block c.args.kind.now c.in-Atomic.block c.as_slice.result.now c.in-Atomic.is c.as_slice.ensures c.requires
-
-pub stmt_routes-block_routes-requires-in-If : goal.stmt_routes-block_routes-requires-in-If
-stmt_routes-block_routes-requires-in-If t c = if_held c.args.kind.now c.in-If.test c.in-If.held c.in-If.failed c.as_slice-in-If.result.now c.in-If.is c.as_slice-in-If.ensures c.requires
-
-pub stmt_routes-block_routes-requires-in-If-2 : goal.stmt_routes-block_routes-requires-in-If-2
-stmt_routes-block_routes-requires-in-If-2 t c = if_failed c.args.kind.now c.in-If.test c.in-If.held c.in-If.failed c.as_slice-in-If-4.result.now c.in-If.is c.as_slice-in-If-4.ensures c.requires
