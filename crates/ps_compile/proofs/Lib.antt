@@ -1,9 +1,13 @@
+pub mod Alternating
+pub mod Declaring
 pub mod Examples
 pub mod Facts
 pub mod Initials
 pub mod Laying
 pub mod Meets
+pub mod Members
 pub mod OneWay
+pub mod Small
 pub mod Spots
 pub mod Products
 pub mod Worth
