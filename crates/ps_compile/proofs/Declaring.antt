@@ -1,16 +1,15 @@
 -- The commands of a program that is compiled, and its rows at the start, name declared variables alone.
-use Rattle.std.proofs.Common.{◌≡◌, Bool, true, false, not, ◌&&◌, refl, sym, ◌∙◌, ap, ap₂, ℕ, suc, ◌+◌, ◌<◌, ℤ, pos, negsuc, ◌+ℤ◌, ◌*ℤ◌, List, [], ◌∷◌, ◌++◌, map, length, if◌then◌else◌, IsTrue, arith}
-use Rattle.std.specs.Prelude.{Option, Some, None, filter, nat_lt, neg_ℤ, cond}
+use Rattle.std.proofs.Common.{◌≡◌, Bool, true, false, not, ◌&&◌, refl, ap₂, ℕ, suc, ◌+◌, ◌<◌, ℤ, pos, negsuc, ◌+ℤ◌, ◌*ℤ◌, List, [], ◌∷◌, ◌++◌, map, length, if◌then◌else◌, IsTrue, arith}
+use Rattle.std.specs.Prelude.{Option, Some, None, filter, nat_lt, cond}
 use Rattle.std.specs.List.{AllByRecursion, flat_map, list_all, list_any}
 use Rattle.std.specs.Ordering.{int_eq}
 use Rattle.std.proofs.lemmas.Bool.Decides.{nat_tests}
 use Rattle.ps_command.specs.Named.{is_declared, is_declared_op, is_declared_row, is_local, names_local}
-use Rattle.ps_compile.proofs.Facts.{all_pass, each}
 use Rattle.ps_compile.specs.Compiled.{declared_rows, first_alternative, relation_rows, start_rows, value_rows}
 use Rattle.ps_compile.specs.Conditions.{IsCompilable, IsCompilableProduct, IsCompilableSum, IsCompilableRelation, IsCompilableCond, AreCompilableConds, IsCompilableTest, IsCompilableStmt, IsCompilableBlock}
 use Rattle.ps_compile.specs.Layout.{Site, Planned, planned_at, planned_from, all_planned, body_sites, end_of_body, opened, opened_of, inner, inner_all, sites, sites_all, sites_of, start, start_of}
-use Rattle.ps_compile.specs.Ops.{bound_row, ops_on, sum_term, with_product, with_products}
-use Rattle.ps_graph.specs.Alternatives.{Bound, at_most, less_than, opposite, of_relation, product, alternatives, one_of_each, one_of_any}
+use Rattle.ps_compile.specs.Ops.{bound_row, ops_on, sum_term, with_products}
+use Rattle.ps_graph.specs.Alternatives.{Bound, opposite, of_relation, product, alternatives, one_of_each, one_of_any}
 use Rattle.ps_graph.specs.Follows.{going_to}
 use Rattle.ps_graph.specs.Paths.{Act, Guards, Assigns, Havocs, Chooses, Fails, is_failing, guarded_by, ways, followed, paths, paths_all}
 use Rattle.ps_term.specs.Exact.{kept_before, number_term, with_pair}
@@ -34,7 +33,7 @@ use Rattle.ps_tree.specs.declared.sum.Sum.{Sum}
 
 -- ---- lists
 
-all_joined : {X : Type 0} (P : X → Type 0) (xs ys : List X) → AllByRecursion P xs → AllByRecursion P ys → AllByRecursion P (xs ++ ys)
+pub all_joined : {X : Type 0} (P : X → Type 0) (xs ys : List X) → AllByRecursion P xs → AllByRecursion P ys → AllByRecursion P (xs ++ ys)
 all_joined P [] ys h k = k
 all_joined P (x ∷ xs) ys h k = (h.0, all_joined P xs ys h.1 k)
 
@@ -42,14 +41,14 @@ all_mapped : {X Y : Type 0} (P : X → Type 0) (Q : Y → Type 0) (f : X → Y) 
 all_mapped P Q f step [] h = tt
 all_mapped P Q f step (x ∷ xs) h = (step x h.0, all_mapped P Q f step xs h.1)
 
-both : (a b : Bool) → a ≡ true → b ≡ true → (a && b) ≡ true
+pub both : (a b : Bool) → a ≡ true → b ≡ true → (a && b) ≡ true
 both a b e f = ap₂ (λ (x y : Bool). x && y) e f
 
-left_of : (a b : Bool) → (a && b) ≡ true → a ≡ true
+pub left_of : (a b : Bool) → (a && b) ≡ true → a ≡ true
 left_of true b e = refl
 left_of false b e = e
 
-right_of : (a b : Bool) → (a && b) ≡ true → b ≡ true
+pub right_of : (a b : Bool) → (a && b) ≡ true → b ≡ true
 right_of true b e = e
 right_of false b e = let no_such : false ≡ true = e in cc
 

@@ -62,3 +62,8 @@ above n most h = grind (arith, nat_tests)
 
 pub within : (n most : ℕ) → nat_lt most n ≡ false → ¬ (most < n)
 within n most h l = grind (arith, nat_tests)
+
+-- what doesn't hold
+pub never : (b : Bool) → b ≡ false → b ≡ true → ⊥
+never true e h = cc
+never false e h = cc

@@ -7,6 +7,7 @@ pub mod Laying
 pub mod Meets
 pub mod Members
 pub mod OneWay
+pub mod Readable
 pub mod Small
 pub mod Spots
 pub mod Products

@@ -54,6 +54,25 @@ pub asked_not : (globals locals : ℕ) (c : Cond) → IsCompilableCond globals l
 unfolding hidden-the_row-Cond-0 hidden
 asked_not globals locals c h = h.0
 
+-- and the other way
+row_asked : (globals locals : ℕ) {n : _} (row : Row_of-Cond n) → AllByRecursion (IsCompilableCond globals locals) (items-the_row-Cond n row) → AreCompilableConds globals locals row
+row_asked globals locals end_of-Cond h = tt
+row_asked globals locals (more_of-Cond c rest) h = (h.0, row_asked globals locals rest h.1)
+
+list_asked : (globals locals : ℕ) (cs : List Cond) → AllByRecursion (IsCompilableCond globals locals) cs → AreCompilableConds globals locals (hidden-the_row-Cond-1 cs)
+list_asked globals locals cs h =
+    row_asked globals locals (hidden-the_row-Cond-1 cs) (subst (AllByRecursion (IsCompilableCond globals locals)) (sym (items_hidden-the_row-Cond-1 cs)) h)
+
+pub asked_of_and : (globals locals : ℕ) (cs : List Cond) → AllByRecursion (IsCompilableCond globals locals) cs → IsCompilableCond globals locals (And cs)
+asked_of_and globals locals cs h = list_asked globals locals cs h
+
+pub asked_of_or : (globals locals : ℕ) (cs : List Cond) → AllByRecursion (IsCompilableCond globals locals) cs → IsCompilableCond globals locals (Or cs)
+asked_of_or globals locals cs h = list_asked globals locals cs h
+
+pub asked_of_not : (globals locals : ℕ) (c : Cond) → IsCompilableCond globals locals c → IsCompilableCond globals locals (Not c)
+unfolding hidden-the_row-Cond-0 hidden
+asked_of_not globals locals c h = (h, tt)
+
 pub asked_members : (globals locals : ℕ) (c : Cond) (ms slice : List Cond) → c ≡ And ms → slice ≡ ms → IsCompilableCond globals locals c →
     AllByRecursion (IsCompilableCond globals locals) slice
 asked_members globals locals c ms slice e f h =

@@ -1,5 +1,6 @@
 //! Worked examples of the definitions: each function does no work, and its clauses are the examples.
 ghost use Rattle.ps_compile.specs.Examples.Bodies.{BlocksAreLaidOut, BranchIsLaidOut, CounterIsLaidOut, EmptyBlocksAreLaidOut, LockIsLaidOut, LoopIsLaidOut, NestedIfIsLaidOut, OtherEntriesServe};
+ghost use Rattle.ps_compile.specs.Examples.Conditions.{LargerNumbersAreNot, LoopsInAtomicBlocksAreNot, OtherNamesAreNot, UnequalStartsAreNot, UpToTheBoundsIsCompiled};
 ghost use Rattle.ps_compile.specs.Examples.Limits.{AlternativesAreCounted, LocationsAndEdgesAreCounted, PathsAreCounted, PathsComeFirst, RowsAreCounted};
 ghost use Rattle.ps_compile.specs.Examples.Starts.{CancelledLocalsHoldOnce, StartRowsAre};
 
@@ -28,4 +29,13 @@ pub fn limits()
     ensures first { PathsComeFirst }
     ensures rows { RowsAreCounted }
     ensures locations { LocationsAndEdgesAreCounted }
+{}
+
+/// Programs that can be compiled, and programs that can't.
+pub fn conditions()
+    ensures largest { UpToTheBoundsIsCompiled }
+    ensures larger { LargerNumbersAreNot }
+    ensures others { OtherNamesAreNot }
+    ensures unequal { UnequalStartsAreNot }
+    ensures loops { LoopsInAtomicBlocksAreNot }
 {}

@@ -1,12 +1,12 @@
-use Rattle.std.proofs.Common.{rules, ◌≡◌, ◌∙◌, ◌<◌, ◌≤◌, length, true, false, not, ap, ap₂, sym, subst, List, [], ◌∷◌, IfOk}
-use Rattle.ps_compile.proofs.Alternating.{rows_of, each_start, each_step, each_end, each_none}
+use Rattle.std.proofs.Common.{rules, ◌≡◌, ◌∙◌, ◌<◌, ◌≤◌, length, true, false, not, ap, ap₂, sym, subst, List, IfOk}
+use Rattle.ps_compile.proofs.Alternating.{rows_of, each_start, each_step, each_end}
 use Rattle.ps_compile.proofs.Members.{and_true, and_false, or_true, or_false, not_is, members_are, asked_members, asked_any, asked_not}
 use Rattle.ps_compile.proofs.alternatives.+alternatives.Goals as goal
 use Rattle.ps_compile.specs.Conditions.{IsCompilableCond}
 use Rattle.ps_compile.specs.inner.Members.{any_of, each_of}
 use Rattle.ps_graph.specs.Alternatives.{Bound, alternatives, product}
 use Rattle.ps_term.specs.declared.row.Row.{Row}
-use Rattle.ps_tree.specs.declared.cond.Cond.TheVariants.{And, Or, Not}
+use Rattle.ps_tree.specs.declared.cond.Cond.TheVariants.{And, Or}
 
 pub alternatives_of-returns-in-Rel-clause-past : goal.alternatives_of-returns-in-Rel-clause-past
 alternatives_of-returns-in-Rel-clause-past t c = λ past g l h. c.of_relation.ensures.past past g l (subst (IsCompilableCond g l) c.in-Rel.is h)
