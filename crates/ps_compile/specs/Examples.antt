@@ -3,4 +3,5 @@
 pub mod Bodies
 pub mod Conditions
 pub mod Limits
+pub mod Programs
 pub mod Starts

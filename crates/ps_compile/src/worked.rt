@@ -2,6 +2,7 @@
 ghost use Rattle.ps_compile.specs.Examples.Bodies.{BlocksAreLaidOut, BranchIsLaidOut, CounterIsLaidOut, EmptyBlocksAreLaidOut, LockIsLaidOut, LoopIsLaidOut, NestedIfIsLaidOut, OtherEntriesServe};
 ghost use Rattle.ps_compile.specs.Examples.Conditions.{LargerNumbersAreNot, LoopsInAtomicBlocksAreNot, OtherNamesAreNot, UnequalStartsAreNot, UpToTheBoundsIsCompiled};
 ghost use Rattle.ps_compile.specs.Examples.Limits.{AlternativesAreCounted, LocationsAndEdgesAreCounted, PathsAreCounted, PathsComeFirst, RowsAreCounted};
+ghost use Rattle.ps_compile.specs.Examples.Programs.{HalfIsLaidOut, PoolIsLaidOut, RaceIsLaidOut};
 ghost use Rattle.ps_compile.specs.Examples.Starts.{CancelledLocalsHoldOnce, StartRowsAre};
 
 /// The edges and commands of small bodies, by their numbers.
@@ -14,6 +15,13 @@ pub fn bodies()
     ensures blocks { BlocksAreLaidOut }
     ensures empty { EmptyBlocksAreLaidOut }
     ensures entries { OtherEntriesServe }
+{}
+
+/// The edges and commands of programs that stand among the repository's examples.
+pub fn programs()
+    ensures half { HalfIsLaidOut }
+    ensures race { RaceIsLaidOut }
+    ensures pool { PoolIsLaidOut }
 {}
 
 /// The rows that hold at the start of a program.
