@@ -1,5 +1,5 @@
 -- What the worked examples rest on: commands that differ, and numbers within a limit.
-use Rattle.std.proofs.Common.{◌≡◌, ◌≢◌, Bool, true, false, not, ◌&&◌, nat_lt, refl, ap, ℕ, zero, suc, ◌<◌, ℤ, pos, ◌+ℤ◌, ◌*ℤ◌, List, [], ◌∷◌, length, arith}
+use Rattle.std.proofs.Common.{◌≡◌, ◌≢◌, Bool, true, false, not, ◌&&◌, nat_lt, refl, ap, ℕ, zero, suc, ◌+◌, ◌<◌, ℤ, pos, ◌+ℤ◌, ◌*ℤ◌, List, [], ◌∷◌, length, arith}
 use Rattle.std.specs.Prelude.{AllPairs, slice_index_or}
 use Rattle.std.specs.List.{list_all}
 use Rattle.std.specs.Ordering.{int_eq}
@@ -10,19 +10,25 @@ use Rattle.ps_command.specs.declared.op.Op.{Op}
 use Rattle.ps_command.specs.declared.op.Op.TheVariants.{Assume, Assign, Havoc}
 use Rattle.ps_term.specs.declared.term.Term.{Term}
 use Rattle.ps_term.specs.declared.var.Var.{Var}
+use Rattle.ps_term.specs.declared.var.Var.TheVariants.{Global, Local, Havoc as HavocVar}
 
 -- a number by which the commands of the examples are told apart
+abbrev var_mark : Var → ℤ
+var_mark (Global n) = pos n
+var_mark (Local _ n) = pos (20 + n)
+var_mark (HavocVar n) = pos (40 + n)
+
 abbrev first : List (Var × ℤ) → ℤ
 first [] = pos 0
-first (p ∷ _) = p.1
+first (p ∷ _) = (p.1 *ℤ pos 10) +ℤ (var_mark p.0 *ℤ pos 100)
 
 abbrev mark : Term → ℤ
-mark t = (first t.pairs *ℤ pos 10) +ℤ t.constant
+mark t = first t.pairs +ℤ t.constant
 
 abbrev pub marks : List Op → ℤ
 marks [] = pos 100
 marks (Assume r ∷ ops) = mark r.term +ℤ (pos 1000 *ℤ marks ops)
-marks (Assign _ t ∷ ops) = (mark t +ℤ pos 500) +ℤ (pos 1000 *ℤ marks ops)
+marks (Assign x t ∷ ops) = ((mark t +ℤ pos 500) +ℤ (var_mark x *ℤ pos 100000)) +ℤ (pos 1000 *ℤ marks ops)
 marks (Havoc _ ∷ ops) = pos 1000 *ℤ marks ops
 
 abbrev pub is_other : Command → Command → Bool
@@ -62,3 +68,8 @@ above n most h = grind (arith, nat_tests)
 
 pub within : (n most : ℕ) → nat_lt most n ≡ false → ¬ (most < n)
 within n most h l = grind (arith, nat_tests)
+
+-- what doesn't hold
+pub never : (b : Bool) → b ≡ false → b ≡ true → ⊥
+never true e h = cc
+never false e h = cc

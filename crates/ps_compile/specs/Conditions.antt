@@ -1,5 +1,5 @@
 -- Which programs are compiled: every program that is read is one of them.
-use Rattle.std.specs.Prelude.{◌≡◌, ℕ, ◌<◌, ◌^◌, ℤ, Bool, true, false, List, Option, Some, None, IsTrue, length, unsigned_abs}
+use Rattle.std.specs.Prelude.{◌≡◌, ℕ, ◌<◌, ◌^◌, ℤ, Bool, true, false, Option, Some, None, IsTrue, length, unsigned_abs}
 use Rattle.std.specs.List.{AllByRecursion}
 use Rattle.ps_command.specs.Named.{is_declared}
 use Rattle.ps_compile.specs.Compiled.{NoneIsNotEqual}

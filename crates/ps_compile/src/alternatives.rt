@@ -1,11 +1,11 @@
 // The alternatives of relations and conditions, as rows.
-ghost use Rattle.std.specs.Prelude.{◌≡◌, ◌∷◌, ◌++◌, [], pos, ℕ, IfOk, OnOk, IsErrOf, if◌then◌else◌, map};
+ghost use Rattle.std.specs.Prelude.{◌≡◌, ◌≤ℤ◌, ◌∷◌, ◌++◌, [], List, pos, ℕ, IfOk, OnOk, IsErrOf, if◌then◌else◌, map};
 ghost use Rattle.std.specs.List.{AllByRecursion};
 ghost use Rattle.ps_compile.specs.Compiled.{first_alternative};
 ghost use Rattle.ps_compile.specs.Conditions.{IsCompilableCond, IsCompilableRelation, IsCompilableSum};
 ghost use Rattle.ps_compile.specs.Ops.{bound_row};
 ghost use Rattle.ps_compile.specs.inner.Members.{any_of, each_of};
-ghost use Rattle.ps_graph.specs.Alternatives.{alternatives, of_relation, opposite, product};
+ghost use Rattle.ps_graph.specs.Alternatives.{alternatives, at_most, of_relation, opposite, product};
 ghost use Rattle.ps_tree.specs.declared.cond.Cond.{Rel};
 ghost use Rattle.ps_term.specs.declared.row.Row.{Row};
 
@@ -42,11 +42,17 @@ pub(crate) fn first_rows(
 fn one_row(alloc: Global, left: &Sum, right: &Sum, plus: i128) -> Result<Vec<Row>, TermEnd>
     requires { (pos 0 ≤ℤ plus) × (plus ≤ℤ pos 1) }
     ensures is { IfOk result (λ rows. rows.items ≡ bound_row (record {
-        left = left.now; right = right.now; plus = plus }) ∷ []) }
+      left = left.now;
+      right = right.now;
+      plus = plus;
+    }) ∷ []) }
     ensures past { IsErrOf result TermEnd.Past128 → (globals locals : ℕ)
         → IsCompilableSum globals locals left.now → IsCompilableSum globals locals right.now → ⊥ }
 {
-    let row = bound_row(alloc, left, right, plus)?;
+    let row = match bound_row(alloc, left, right, plus) {
+        Ok(row) => row,
+        Err(end) => return Err(end),
+    };
     let mut rows = Vec::new(alloc);
     rows.push(row).map_err(|_| TermEnd::Memory(AllocError))?;
     Ok(rows)
@@ -59,8 +65,14 @@ fn equal_rows(alloc: Global, left: &Sum, right: &Sum) -> Result<Vec<Row>, TermEn
     ensures past { IsErrOf result TermEnd.Past128 → (globals locals : ℕ)
         → IsCompilableSum globals locals left.now → IsCompilableSum globals locals right.now → ⊥ }
 {
-    let mut rows = one_row(alloc, left, right, 0)?;
-    let row = bound_row(alloc, right, left, 0)?;
+    let mut rows = match one_row(alloc, left, right, 0) {
+        Ok(rows) => rows,
+        Err(end) => return Err(end),
+    };
+    let row = match bound_row(alloc, right, left, 0) {
+        Ok(row) => row,
+        Err(end) => return Err(end),
+    };
     rows.push(row).map_err(|_| TermEnd::Memory(AllocError))?;
     Ok(rows)
 }
@@ -94,13 +106,19 @@ fn of_relation(
         → IsCompilableRelation globals locals relation.now → ⊥ }
 {
     let sign = sign_at(holds, relation.sign);
-    let first = first_rows(alloc, sign, &relation.left, &relation.right)?;
+    let first = match first_rows(alloc, sign, &relation.left, &relation.right) {
+        Ok(rows) => rows,
+        Err(end) => return Err(end),
+    };
     let mut all = Vec::new(alloc);
     all.push(Sequence::from_list(first))
         .map_err(|_| TermEnd::Memory(AllocError))?;
     match sign {
         Sign::NotEqual => {
-            let second = one_row(alloc, &relation.right, &relation.left, 1)?;
+            let second = match one_row(alloc, &relation.right, &relation.left, 1) {
+                Ok(rows) => rows,
+                Err(end) => return Err(end),
+            };
             all.push(Sequence::from_list(second))
                 .map_err(|_| TermEnd::Memory(AllocError))?;
             Ok(all)
@@ -143,33 +161,34 @@ pub(crate) fn alternatives_of(
 
 // The alternatives that take one of each member. After a member without any none is looked at.
 #[cycle(alternatives)]
-fn one_of_each(
-    alloc: Global,
-    holds: bool,
-    members: &[Cond],
-) -> Result<Vec<Sequence<Row>>, TermEnd>
+fn one_of_each(alloc: Global, holds: bool, members: &[Cond]) -> Result<Vec<Sequence<Row>>, TermEnd>
     ensures is { IfOk result (λ all. all.items ≡ map (map bound_row) (each_of holds members.now)) }
     ensures past { IsErrOf result TermEnd.Past128 → (globals locals : ℕ)
         → AllByRecursion (IsCompilableCond globals locals) members.now → ⊥ }
 {
-    let mut all = no_rows(alloc).map_err(TermEnd::Memory)?;
+    let mut all = match no_rows(alloc) {
+        Ok(all) => all,
+        Err(end) => return Err(TermEnd::Memory(end)),
+    };
     for member in members {
         if all.is_empty() {
             return Ok(all);
         }
-        let next = alternatives_of(alloc, holds, member)?;
-        all = product(alloc, all.as_slice(), next.as_slice()).map_err(TermEnd::Memory)?;
+        let next = match alternatives_of(alloc, holds, member) {
+            Ok(next) => next,
+            Err(end) => return Err(end),
+        };
+        all = match product(alloc, all.as_slice(), next.as_slice()) {
+            Ok(more) => more,
+            Err(end) => return Err(TermEnd::Memory(end)),
+        };
     }
     Ok(all)
 }
 
 // The alternatives that take one of any member.
 #[cycle(alternatives)]
-fn one_of_any(
-    alloc: Global,
-    holds: bool,
-    members: &[Cond],
-) -> Result<Vec<Sequence<Row>>, TermEnd>
+fn one_of_any(alloc: Global, holds: bool, members: &[Cond]) -> Result<Vec<Sequence<Row>>, TermEnd>
     ensures is { IfOk result (λ all. all.items ≡ map (map bound_row) (any_of holds members.now)) }
     ensures past { IsErrOf result TermEnd.Past128 → (globals locals : ℕ)
         → AllByRecursion (IsCompilableCond globals locals) members.now → ⊥ }
@@ -202,7 +221,7 @@ fn product(
 {
     let mut all = Vec::new(alloc);
     for first in firsts {
-        append_each(alloc, &mut all, first.as_slice(), seconds)?;
+        append_each(alloc, &mut all, first, seconds)?;
     }
     Ok(all)
 }
@@ -211,14 +230,14 @@ fn product(
 fn append_each(
     alloc: Global,
     all: &mut Vec<Sequence<Row>>,
-    first: &[Row],
+    first: &Sequence<Row>,
     seconds: &[Sequence<Row>],
 ) -> Result<(), AllocError>
     ensures { OnOk result (all.new.items
         ≡ all.old.items ++ map (λ (second : List Row). first.now ++ second) seconds.now) }
 {
     for second in seconds {
-        let mut rows = copies(alloc, first)?;
+        let mut rows = copies(alloc, first.as_slice())?;
         rows.append(&mut copies(alloc, second.as_slice())?)?;
         all.push(Sequence::from_list(rows)).map_err(|_| AllocError)?;
     }

@@ -22,14 +22,12 @@ pub(crate) fn sum_term(alloc: Global, sum: &Sum) -> Result<Term, TermEnd>
 
 // The row `left - right + plus <= 0`, in time of the sums' products times their variables. It is
 // `Past128` only where a number isn't small.
-pub(crate) fn bound_row(
-    alloc: Global,
-    left: &Sum,
-    right: &Sum,
-    plus: i128,
-) -> Result<Row, TermEnd>
+pub(crate) fn bound_row(alloc: Global, left: &Sum, right: &Sum, plus: i128) -> Result<Row, TermEnd>
     ensures is { IfOk result (λ row. row ≡ bound_row (record {
-        left = left.now; right = right.now; plus = plus })) }
+      left = left.now;
+      right = right.now;
+      plus = plus;
+    })) }
     ensures past { IsErrOf result TermEnd.Past128 → (globals locals : ℕ)
         → IsCompilableSum globals locals left.now → IsCompilableSum globals locals right.now
         → IsNear 1 plus → ⊥ }
