@@ -1,9 +1,9 @@
 -- The layout of statements with blocks, with their blocks as lists.
-use Rattle.std.proofs.Common.{◌≡◌, true, false, refl, sym, ◌∙◌, ap, ap₂, subst, ℕ, zero, suc, ◌+◌, ◌<◌, ◌≤◌, List, [], ◌∷◌, ◌++◌, map, length, replicate, Option, Some, arith, length-append, append_assoc, Result, drop, get_or, drop-cons}
-use Rattle.ps_compile.specs.Checks.{NoneIsExceeded, alternatives_checks, paths_checks, edges_checks, commands_of, site_checks, inner_checks, checks}
+use Rattle.std.proofs.Common.{◌≡◌, true, false, refl, sym, ◌∙◌, ap, ap₂, subst, ℕ, zero, suc, ◌+◌, ◌<◌, List, [], ◌∷◌, ◌++◌, map, length, replicate, Option, Some, arith, length-append, append_assoc, Result, drop, get_or, drop-cons}
+use Rattle.ps_compile.specs.Checks.{NoneIsExceeded, alternatives_checks, paths_checks, edges_checks, inner_checks, checks}
 use Rattle.ps_graph.specs.Follows.{going_to}
-use Rattle.ps_compile.specs.Layout.{Site, Planned, planned_from, planned_at, all_planned, own_site, start, opened, inner, inner_all, sites, sites_all, start_of, opened_of, inner_of, sites_of}
-use Rattle.ps_graph.specs.Paths.{Act, paths, ways}
+use Rattle.ps_compile.specs.Layout.{Site, planned_from, all_planned, own_site, start, opened, inner, inner_all, sites, sites_all, start_of, opened_of, inner_of, sites_of}
+use Rattle.ps_graph.specs.Paths.{ways}
 use Rattle.ps_tree.specs.declared.cond.Test.{Test}
 use Rattle.ps_tree.specs.declared.stmt.Stmt.{Stmt}
 use Rattle.ps_tree.specs.declared.stmt.StmtKind.{StmtKind, Row_of-Stmt, end_of-Stmt, more_of-Stmt, items-the_row-Stmt}
@@ -55,7 +55,7 @@ sites_list b a z next = sites_row (hidden-the_row-Stmt-0 b) a z next ∙ ap (λ 
 abbrev pub if_sites : Place → Test → List Stmt → List Stmt → ℕ → ℕ → ℕ → List Site
 if_sites place t held failed a z next =
     own_site place (If t held failed) a (next + (opened_of held + opened_of failed))
-        (going_to (start_of held z next) (ways true t) ++ going_to (start_of failed z (next + opened_of held)) (ways false t))
+    (going_to (start_of held z next) (ways true t) ++ going_to (start_of failed z (next + opened_of held)) (ways false t))
     ∷ (sites_of held (start_of held z next) z (next + (opened_of held + opened_of failed))
     ++ sites_of failed (start_of failed z (next + opened_of held)) z ((next + (opened_of held + opened_of failed)) + inner_of held))
 
@@ -66,16 +66,16 @@ same_five f a a2 b b2 c c2 d d2 e e2 p q r s t =
 pub if_is : (place : Place) (t : Test) (held failed : List Stmt) (a z next : ℕ) → sites place (If t held failed) a z next ≡ if_sites place t held failed a z next
 if_is place t held failed a z next =
     same_five (λ (oh of ih sh sf : ℕ).
-        own_site place (If t held failed) a (next + (oh + of)) (going_to sh (ways true t) ++ going_to sf (ways false t))
-        ∷ (sites_all (hidden-the_row-Stmt-0 held) sh z (next + (oh + of)) ++ sites_all (hidden-the_row-Stmt-0 failed) sf z ((next + (oh + of)) + ih)))
-        _ (opened_of held) _ (opened_of failed) _ (inner_of held) _ (start_of held z next) _ (start_of failed z (next + opened_of held))
-        (opened_list held) (opened_list failed) (inner_list held) (start_list held z next)
-        (ap (λ (o : ℕ). start (hidden-the_row-Stmt-0 failed) z (next + o)) (opened_list held) ∙ start_list failed z (next + opened_of held))
+    own_site place (If t held failed) a (next + (oh + of)) (going_to sh (ways true t) ++ going_to sf (ways false t))
+    ∷ (sites_all (hidden-the_row-Stmt-0 held) sh z (next + (oh + of)) ++ sites_all (hidden-the_row-Stmt-0 failed) sf z ((next + (oh + of)) + ih)))
+    _ (opened_of held) _ (opened_of failed) _ (inner_of held) _ (start_of held z next) _ (start_of failed z (next + opened_of held))
+    (opened_list held) (opened_list failed) (inner_list held) (start_list held z next)
+    (ap (λ (o : ℕ). start (hidden-the_row-Stmt-0 failed) z (next + o)) (opened_list held) ∙ start_list failed z (next + opened_of held))
     ∙ ap₂ (λ (x y : List Site).
-        own_site place (If t held failed) a (next + (opened_of held + opened_of failed))
-        (going_to (start_of held z next) (ways true t) ++ going_to (start_of failed z (next + opened_of held)) (ways false t)) ∷ (x ++ y))
-        (sites_list held (start_of held z next) z (next + (opened_of held + opened_of failed)))
-        (sites_list failed (start_of failed z (next + opened_of held)) z ((next + (opened_of held + opened_of failed)) + inner_of held))
+    own_site place (If t held failed) a (next + (opened_of held + opened_of failed))
+    (going_to (start_of held z next) (ways true t) ++ going_to (start_of failed z (next + opened_of held)) (ways false t)) ∷ (x ++ y))
+    (sites_list held (start_of held z next) z (next + (opened_of held + opened_of failed)))
+    (sites_list failed (start_of failed z (next + opened_of held)) z ((next + (opened_of held + opened_of failed)) + inner_of held))
 
 pub if_inner : (t : Test) (held failed : List Stmt) → inner (If t held failed) ≡ (opened_of held + opened_of failed) + (inner_of held + inner_of failed)
 if_inner t held failed =
@@ -89,9 +89,9 @@ while_sites place t block a z next =
 pub while_is : (place : Place) (t : Test) (block : List Stmt) (a z next : ℕ) → sites place (While t block) a z next ≡ while_sites place t block a z next
 while_is place t block a z next =
     ap₂ (λ (o s : ℕ). own_site place (While t block) a (next + o) (going_to s (ways true t) ++ going_to z (ways false t)) ∷ sites_all (hidden-the_row-Stmt-0 block) s a (next + o))
-        (opened_list block) (start_list block a next)
+    (opened_list block) (start_list block a next)
     ∙ ap (λ (l : List Site). own_site place (While t block) a (next + opened_of block) (going_to (start_of block a next) (ways true t) ++ going_to z (ways false t)) ∷ l)
-        (sites_list block (start_of block a next) a (next + opened_of block))
+    (sites_list block (start_of block a next) a (next + opened_of block))
 
 pub while_inner : (t : Test) (block : List Stmt) → inner (While t block) ≡ opened_of block + inner_of block
 while_inner t block = ap₂ (λ (a b : ℕ). a + b) (opened_list block) (inner_list block)
@@ -124,7 +124,7 @@ pub laying_step : (body : ℕ) (first now mid next : Plan) (s : Stmt) (rest : Li
 laying_step body first now mid next s rest from to z all n l is drafts owners g =
     laying_more body first mid next (sites s.place s.kind from to (length mid.owners.items)) (sites_of rest to z (length next.owners.items)) all (inner s.kind) (inner_of rest) n
     (subst (λ (ss : List Site). Laying body first mid ss all (inner s.kind + inner_of rest) n) same
-        (laying_open body first now mid (sites_of (s ∷ rest) from z (length now.owners.items)) all (opened_of rest) (inner s.kind + inner_of rest) n l drafts owners))
+    (laying_open body first now mid (sites_of (s ∷ rest) from z (length now.owners.items)) all (opened_of rest) (inner s.kind + inner_of rest) n l drafts owners))
     g
   where
     same : sites_of (s ∷ rest) from z (length now.owners.items) ≡ sites s.place s.kind from to (length mid.owners.items) ++ sites_of rest to z (length next.owners.items)
@@ -139,8 +139,8 @@ pub laying_fails : (body : ℕ) (first now mid : Plan) (s : Stmt) (rest : List S
 laying_fails body first now mid s rest from to z all n l is drafts owners end h =
     laying_end body first mid (sites s.place s.kind from to (length mid.owners.items)) (sites_of rest to z (length mid.owners.items + inner s.kind)) all (inner s.kind + inner_of rest) n
     (subst (λ (ss : List Site). Laying body first mid ss all (inner s.kind + inner_of rest) n)
-        (ap₂ (λ (i j : ℕ). sites s.place s.kind from i j ++ sites_of rest i z (j + inner s.kind)) (sym is) (sym (owners_more body now mid (opened_of rest) owners)))
-        (laying_open body first now mid (sites_of (s ∷ rest) from z (length now.owners.items)) all (opened_of rest) (inner s.kind + inner_of rest) n l drafts owners))
+    (ap₂ (λ (i j : ℕ). sites s.place s.kind from i j ++ sites_of rest i z (j + inner s.kind)) (sym is) (sym (owners_more body now mid (opened_of rest) owners)))
+    (laying_open body first now mid (sites_of (s ∷ rest) from z (length now.owners.items)) all (opened_of rest) (inner s.kind + inner_of rest) n l drafts owners))
     end h
 
 -- the statement of this number, and those after it
@@ -261,8 +261,8 @@ if_lays r body o0 o1 o2 o3 place k t held failed a b starts e o g h =
     (subst (λ (n : ℕ). Lays r body o0 o3 ((if_site place k t held failed a b (length o0.owners.items) ∷ []) ++ (H ++ F)) n) size
     (subst (λ (ss : List Site). Lays r body o0 o3 ss (((opened_of held + opened_of failed) + inner_of held) + inner_of failed)) (append_assoc (if_site place k t held failed a b (length o0.owners.items) ∷ []) H F)
     (lays_after r body o0 o2 o3 ((if_site place k t held failed a b (length o0.owners.items) ∷ []) ++ H) F ((opened_of held + opened_of failed) + inner_of held) (inner_of failed)
-        (grows_both body o0 o1 o2 (if_site place k t held failed a b (length o0.owners.items) ∷ []) H (opened_of held + opened_of failed) (inner_of held) o.grows g2)
-        (subst (λ (ss : List Site). Lays r body o2 o3 ss (inner_of failed)) failed_moved h))))
+    (grows_both body o0 o1 o2 (if_site place k t held failed a b (length o0.owners.items) ∷ []) H (opened_of held + opened_of failed) (inner_of held) o.grows g2)
+    (subst (λ (ss : List Site). Lays r body o2 o3 ss (inner_of failed)) failed_moved h))))
   where
     H : List Site
     H = sites_of held (start_of held b (length o0.owners.items)) b (length o0.owners.items + (opened_of held + opened_of failed))

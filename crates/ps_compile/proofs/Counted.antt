@@ -1,7 +1,7 @@
 -- One turn of each count, and its end.
-use Rattle.std.proofs.Common.{◌≡◌, Bool, true, false, not, refl, sym, ◌∙◌, ap, ap₂, subst, ℕ, zero, suc, ◌+◌, ◌-◌, ◌*◌, ◌^◌, ◌<◌, ◌≤◌, min, arith, List, [], ◌∷◌, ◌++◌, map, length, drop, get_or, drop-cons, drop_of_length-le, length-append, mul-one, mul-zero}
-use Rattle.ps_compile.proofs.Counting.{length-product, all_paths, going_append, failing_append, going_followed, failing_followed, going_guarded, failing_guarded, going_failed, failing_failed, going_ways, failing_ways, and_true, and_false, or_true, or_false, not_is, atomic_is, if_is}
-use Rattle.ps_graph.specs.Alternatives.{Bound, of_relation, opposite, product, alternatives}
+use Rattle.std.proofs.Common.{◌≡◌, Bool, true, false, sym, ◌∙◌, ap, ap₂, ℕ, suc, ◌+◌, ◌-◌, ◌*◌, ◌^◌, ◌<◌, ◌≤◌, min, arith, List, [], ◌∷◌, map, length, drop, get_or, drop-cons, drop_of_length-le, length-append}
+use Rattle.ps_compile.proofs.Counting.{length-product, going_append, failing_append, going_followed, failing_followed, going_guarded, failing_guarded, going_failed, failing_failed, going_ways, failing_ways, atomic_is, if_is}
+use Rattle.ps_graph.specs.Alternatives.{Bound, of_relation, opposite, alternatives}
 use Rattle.ps_compile.specs.inner.Counts.{going, failing, paths_of, held_alternatives}
 use Rattle.ps_compile.specs.inner.Members.{any_of, each_of}
 use Rattle.ps_graph.specs.Paths.{Act, guarded_by, ways, followed, paths}
@@ -44,9 +44,9 @@ pub each_step : (all sat new count : ℕ) (h : Bool) (m : Cond) (ms : List Cond)
     (min (new * length (each_of h (drop (i + 1) ms))) 65 ≡ n) × (new ≤ 65)
 each_step all sat new count h m ms i n l e inv c s d = (
   ap (λ (k : ℕ). min (k * length (each_of h (drop (i + 1) ms))) 65) is
-  ∙ step_product all (length (alternatives h m)) (length (each_of h (drop (i + 1) ms)))
-  ∙ ap (λ (k : ℕ). min (all * k) 65) (sym (length-product (alternatives h m) (each_of h (drop (i + 1) ms))))
-  ∙ ap (λ (l : List Cond). min (all * length (each_of h l)) 65) (sym (here ms i m l e)) ∙ inv,
+      ∙ step_product all (length (alternatives h m)) (length (each_of h (drop (i + 1) ms)))
+      ∙ ap (λ (k : ℕ). min (all * k) 65) (sym (length-product (alternatives h m) (each_of h (drop (i + 1) ms))))
+      ∙ ap (λ (l : List Cond). min (all * length (each_of h l)) 65) (sym (here ms i m l e)) ∙ inv,
   omega (arith, d),
 )
   where
@@ -58,9 +58,9 @@ pub any_step : (all sat new count : ℕ) (h : Bool) (m : Cond) (ms : List Cond) 
     (min (new + length (any_of h (drop (i + 1) ms))) 65 ≡ n) × (new ≤ 65)
 any_step all sat new count h m ms i n l e inv c s d = (
   ap (λ (k : ℕ). min (k + length (any_of h (drop (i + 1) ms))) 65) is
-  ∙ step_sum all (length (alternatives h m)) (length (any_of h (drop (i + 1) ms)))
-  ∙ ap (λ (k : ℕ). min (all + k) 65) (sym (length-append (alternatives h m) (any_of h (drop (i + 1) ms))))
-  ∙ ap (λ (l : List Cond). min (all + length (any_of h l)) 65) (sym (here ms i m l e)) ∙ inv,
+      ∙ step_sum all (length (alternatives h m)) (length (any_of h (drop (i + 1) ms)))
+      ∙ ap (λ (k : ℕ). min (all + k) 65) (sym (length-append (alternatives h m) (any_of h (drop (i + 1) ms))))
+      ∙ ap (λ (l : List Cond). min (all + length (any_of h l)) 65) (sym (here ms i m l e)) ∙ inv,
   omega (arith, d),
 )
   where
@@ -91,13 +91,13 @@ pub block_step : (g f sat g2 f2 : ℕ) (nextg nextf : ℕ) (s : Stmt) (ms : List
     f2 ≡ min (1 * f + g * nextf) 65 → sat ≡ min (g * nextg) (2 ^ 64 - 1) → g2 ≡ min sat 65 → Counting g2 f2 (paths_of (drop (i + 1) ms)) all
 block_step g f sat g2 f2 nextg nextf s ms i all l e inv eg ef ff ss gg = (
   ap (λ (k : ℕ). min (k * going (paths_of (drop (i + 1) ms))) 65) isg
-  ∙ step_product g (going (paths s.kind)) (going (paths_of (drop (i + 1) ms)))
-  ∙ ap (λ (k : ℕ). min (g * k) 65) (sym (going_followed (paths s.kind) (paths_of (drop (i + 1) ms))))
-  ∙ ap (λ (b : List Stmt). min (g * going (paths_of b)) 65) (sym (stmt_here ms i s l e)) ∙ inv.0,
+      ∙ step_product g (going (paths s.kind)) (going (paths_of (drop (i + 1) ms)))
+      ∙ ap (λ (k : ℕ). min (g * k) 65) (sym (going_followed (paths s.kind) (paths_of (drop (i + 1) ms))))
+      ∙ ap (λ (b : List Stmt). min (g * going (paths_of b)) 65) (sym (stmt_here ms i s l e)) ∙ inv.0,
   ap₂ (λ (j k : ℕ). min (j + k * failing (paths_of (drop (i + 1) ms))) 65) isf isg
-  ∙ step_failing f g (failing (paths s.kind)) (going (paths s.kind)) (failing (paths_of (drop (i + 1) ms)))
-  ∙ ap (λ (k : ℕ). min (f + g * k) 65) (sym (failing_followed (paths s.kind) (paths_of (drop (i + 1) ms))))
-  ∙ ap (λ (b : List Stmt). min (f + g * failing (paths_of b)) 65) (sym (stmt_here ms i s l e)) ∙ inv.1,
+      ∙ step_failing f g (failing (paths s.kind)) (going (paths s.kind)) (failing (paths_of (drop (i + 1) ms)))
+      ∙ ap (λ (k : ℕ). min (f + g * k) 65) (sym (failing_followed (paths s.kind) (paths_of (drop (i + 1) ms))))
+      ∙ ap (λ (b : List Stmt). min (f + g * failing (paths_of b)) 65) (sym (stmt_here ms i s l e)) ∙ inv.1,
   omega (arith, gg),
   omega (arith, ff),
 )
@@ -128,15 +128,15 @@ assume_fails k c e = ap (λ (m : ℕ). min m 65) (sym (failing_guarded (alternat
 pub assert_counts : (k : StmtKind) (c : Cond) (n : ℕ) → k ≡ Assert c → n ≡ min (length (alternatives true c)) 65 → n ≡ min (going (paths k)) 65
 assert_counts k c n e h =
     h ∙ ap (λ (m : ℕ). min m 65) (sym (going_append (map guarded_by (alternatives true c)) _
-        ∙ ap₂ (λ (x y : ℕ). x + y) (going_guarded (alternatives true c)) (going_failed (alternatives false c))
-        ∙ (let f : length (alternatives true c) + 0 ≡ length (alternatives true c) = omega arith in f)))
+    ∙ ap₂ (λ (x y : ℕ). x + y) (going_guarded (alternatives true c)) (going_failed (alternatives false c))
+    ∙ (let f : length (alternatives true c) + 0 ≡ length (alternatives true c) = omega arith in f)))
     ∙ ap (λ (j : StmtKind). min (going (paths j)) 65) (sym e)
 
 pub assert_fails : (k : StmtKind) (c : Cond) (n : ℕ) → k ≡ Assert c → n ≡ min (length (alternatives false c)) 65 → n ≡ min (failing (paths k)) 65
 assert_fails k c n e h =
     h ∙ ap (λ (m : ℕ). min m 65) (sym (failing_append (map guarded_by (alternatives true c)) _
-        ∙ ap₂ (λ (x y : ℕ). x + y) (failing_guarded (alternatives true c)) (failing_failed (alternatives false c))
-        ∙ (let f : 0 + length (alternatives false c) ≡ length (alternatives false c) = omega arith in f)))
+    ∙ ap₂ (λ (x y : ℕ). x + y) (failing_guarded (alternatives true c)) (failing_failed (alternatives false c))
+    ∙ (let f : 0 + length (alternatives false c) ≡ length (alternatives false c) = omega arith in f)))
     ∙ ap (λ (j : StmtKind). min (failing (paths j)) 65) (sym e)
 
 -- counted by a number of a list of paths

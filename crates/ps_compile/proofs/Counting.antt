@@ -1,22 +1,19 @@
 -- How many alternatives and paths there are, without making them.
-use Rattle.std.proofs.Common.{◌≡◌, Bool, true, false, not, refl, sym, ◌∙◌, ap, ap₂, ℕ, suc, ◌+◌, ◌*◌, ◌<◌, ◌≤◌, min, List, [], ◌∷◌, ◌++◌, map, length, ◌⊎◌, inl, inr, arith, if◌then◌else◌, length-append}
-use Rattle.ps_graph.specs.Alternatives.{Bound, of_relation, opposite, product, alternatives, one_of_each, one_of_any}
-use Rattle.ps_compile.specs.inner.Counts.{going, failing, paths_of, held_alternatives}
+use Rattle.std.proofs.Common.{◌≡◌, Bool, true, false, not, refl, sym, ◌∙◌, ap, ap₂, ℕ, suc, ◌+◌, ◌*◌, List, [], ◌∷◌, ◌++◌, map, length, arith, if◌then◌else◌, length-append}
+use Rattle.ps_graph.specs.Alternatives.{Bound, product, alternatives, one_of_each, one_of_any}
+use Rattle.ps_compile.specs.inner.Counts.{going, failing, paths_of}
 use Rattle.ps_compile.specs.inner.Members.{each_of, any_of}
 use Rattle.ps_graph.specs.Paths.{Act, Guards, Assigns, Havocs, Chooses, Fails, is_failing, guarded_by, ways, followed, paths, paths_all}
 use denote.Hole.Carrier.{hidden}
-use Rattle.ps_tree.specs.declared.cond.Cond.{Cond, Rel, Row_of-Cond, end_of-Cond, more_of-Cond, items-the_row-Cond}
+use Rattle.ps_tree.specs.declared.cond.Cond.{Cond, Row_of-Cond, end_of-Cond, more_of-Cond, items-the_row-Cond}
 use Rattle.ps_tree.specs.declared.cond.Cond.TheVariants.{Not, And, Or}
 use Rattle.ps_tree.specs.declared.cond.Cond.TheBlock.{hidden-the_row-Cond-0, hidden-the_row-Cond-1, items_hidden-the_row-Cond-1}
 use Rattle.ps_tree.specs.declared.cond.Test.{Test}
 use Rattle.ps_tree.specs.declared.cond.Test.TheVariants.{Star, Cond as Where}
 use Rattle.ps_tree.specs.declared.stmt.Stmt.{Stmt}
-use Rattle.ps_tree.specs.declared.stmt.StmtKind.{StmtKind, Row_of-Stmt, end_of-Stmt, more_of-Stmt, items-the_row-Stmt}
+use Rattle.ps_tree.specs.declared.stmt.StmtKind.{Row_of-Stmt, end_of-Stmt, more_of-Stmt, items-the_row-Stmt}
 use Rattle.ps_tree.specs.declared.stmt.StmtKind.TheVariants.{Atomic, If}
 use Rattle.ps_tree.specs.declared.stmt.StmtKind.TheBlock.{hidden-the_row-Stmt-0, items_hidden-the_row-Stmt-0}
-use Rattle.ps_tree.specs.declared.relation.Sign.{Sign}
-use Rattle.ps_tree.specs.declared.relation.Sign.TheVariants.{Less, LessEq, Greater, GreaterEq, Equal, NotEqual}
-use Rattle.ps_tree.specs.declared.sum.Sum.{Sum}
 
 pub length-map : {X Y : Type 0} (f : X → Y) (xs : List X) → length (map f xs) ≡ length xs
 length-map f [] = refl

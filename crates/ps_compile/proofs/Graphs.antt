@@ -1,5 +1,5 @@
 -- A plan whose commands have numbers is a compiled graph.
-use Rattle.std.proofs.Common.{◌≡◌, true, not, filter, refl, sym, ◌∙◌, ap, subst, ℕ, ◌+◌, List, [], ◌∷◌, map, length, Option, None, IsTrue}
+use Rattle.std.proofs.Common.{◌≡◌, true, not, filter, sym, ◌∙◌, subst, ℕ, List, [], ◌∷◌, map, length, Option, None, IsTrue}
 use Rattle.std.specs.List.{AllByRecursion, AllZip, list_all}
 use Rattle.ps_command.specs.Named.{is_declared_command, is_declared_op, is_declared_row, names_local}
 use Rattle.ps_command.specs.declared.command.Command.{Command}

@@ -1,8 +1,8 @@
 -- The limits inside a block, with blocks as lists.
-use Rattle.std.proofs.Common.{◌≡◌, refl, sym, ◌∙◌, ap, ap₂, subst, ℕ, suc, ◌+◌, ◌-◌, ◌^◌, ◌<◌, min, List, [], ◌∷◌, ◌++◌, length, drop, get_or, drop-cons, arith, Result, append_assoc}
+use Rattle.std.proofs.Common.{◌≡◌, refl, sym, ◌∙◌, ap, ap₂, subst, ℕ, suc, ◌+◌, ◌-◌, ◌^◌, ◌<◌, min, List, [], ◌∷◌, ◌++◌, length, drop, get_or, drop-cons, arith, append_assoc}
 use Rattle.ps_compile.specs.Checks.{Check, NoneIsExceeded, alternatives_checks, counted, inside, inside_all, inner_checks, paths_checks}
 use Rattle.ps_compile.specs.inner.Counts.{going, failing, paths_of}
-use Rattle.ps_graph.specs.Paths.{Act, paths_all}
+use Rattle.ps_graph.specs.Paths.{Act}
 use Rattle.ps_compile.proofs.Counting.{all_paths, paths_list}
 use Rattle.ps_tree.specs.declared.cond.Test.{Test}
 use Rattle.ps_tree.specs.declared.limit_name.LimitName.TheVariants as limit
@@ -13,9 +13,8 @@ use Rattle.ps_tree.specs.declared.stmt.StmtKind.TheBlock.{hidden-the_row-Stmt-0,
 use Rattle.ps_token.specs.declared.place.Place.{Place}
 use Rattle.ps_compile.specs.inner.Inside.{inside_of}
 use Rattle.ps_compile.specs.Ends.{IsEndOf}
-use Rattle.ps_compile.specs.inner.Drafts.{Tested}
 use Rattle.ps_compile.specs.declared.compile_end.CompileEnd.{CompileEnd}
-use Rattle.ps_compile.proofs.Testing.{StillTests, still_more, still_end, end_left, end_right, none_append}
+use Rattle.ps_compile.proofs.Testing.{StillTests, still_more, still_end, end_right, none_append}
 
 inside_row : {n : _} (row : Row_of-Stmt n) → inside_all row ≡ inside_of (items-the_row-Stmt n row)
 inside_row end_of-Stmt = refl

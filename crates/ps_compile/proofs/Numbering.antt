@@ -1,18 +1,17 @@
 -- Commands are numbered one edge after another.
-use Rattle.std.proofs.Common.{◌≡◌, Bool, true, false, cond, not, ◌&&◌, ◌||◌, refl, sym, ◌∙◌, ap, subst, ℕ, zero, suc, ◌+◌, ◌<◌, ◌≤◌, ◌^◌, List, [], ◌∷◌, ◌++◌, map, length, ◌⊎◌, inl, inr, arith, if◌then◌else◌, length-append}
-use Rattle.std.specs.Prelude.{Option, Some, None, option_map, slice_get, unwrap_or, AllPairs}
+use Rattle.std.proofs.Common.{◌≡◌, Bool, true, false, cond, not, ◌&&◌, ◌||◌, refl, sym, ◌∙◌, ap, subst, ℕ, zero, suc, ◌+◌, ◌<◌, ◌≤◌, List, [], ◌∷◌, ◌++◌, map, length, inl, inr, arith, if◌then◌else◌, length-append}
+use Rattle.std.specs.Prelude.{Option, Some, option_map, slice_get, unwrap_or}
 use Rattle.std.specs.Bool.{Decides}
 use Rattle.std.specs.Cmp.Lexicographic.{pointwise}
 use Rattle.std.specs.List.{AllByRecursion, AllZip, IsDistinct, list_any, position_or_len}
 use Rattle.std.proofs.lemmas.Map.Made.{AllPairs-from_IsDistinct}
 use Rattle.std.proofs.lemmas.Bool.Decides.{Decides-like}
 use Rattle.std.proofs.lemmas.Slice.Eq.{slice_eq-Decides}
-use Rattle.indexmap.specs.IndexSet.{insert_key}
 use Rattle.ps_command.specs.Commands.{ops_of}
 use Rattle.ps_command.specs.declared.command.Command.{Command}
 use Rattle.ps_command.specs.declared.op.Op.{Op}
 use Rattle.ps_compile.proofs.Facts.{in_order_below}
-use Rattle.ps_compile.specs.Compiled.{AreInOrder, AreNumbered, IsEdge, AreEdges}
+use Rattle.ps_compile.specs.Compiled.{AreInOrder, AreEdges}
 use Rattle.ps_compile.specs.Layout.{Planned}
 use Rattle.ps_compile.specs.declared.command_key.CommandKey.{CommandKey}
 use Rattle.ps_compile.specs.declared.command_key.OpKey.{OpKey}

@@ -1,17 +1,13 @@
 -- The plan of a whole body, and what its edges keep.
-use Rattle.std.proofs.Common.{◌≡◌, Bool, true, false, refl, sym, ◌∙◌, ap, ap₂, subst, ℕ, zero, suc, ◌+◌, ◌<◌, ◌^◌, List, [], ◌∷◌, ◌++◌, map, length, replicate, ◌⊎◌, inl, inr, arith, if◌then◌else◌, Option, Some, None, length-append, append_assoc, IsTrue}
-use Rattle.std.specs.List.{AllByRecursion, list_all}
+use Rattle.std.proofs.Common.{◌≡◌, Bool, true, false, refl, sym, ◌∙◌, ap, ap₂, subst, ℕ, zero, suc, ◌+◌, ◌<◌, ◌^◌, List, [], ◌∷◌, ◌++◌, map, length, replicate, arith, if◌then◌else◌, Option, Some, None}
+use Rattle.std.specs.List.{AllByRecursion}
 use Rattle.ps_command.specs.Form.{FormFits}
-use Rattle.ps_command.specs.Named.{is_declared_op}
-use Rattle.ps_command.specs.declared.command.Command.{Command}
-use Rattle.ps_command.specs.declared.op.Op.{Op}
 use Rattle.ps_compile.proofs.Facts.{Ours, body_lies}
-use Rattle.ps_compile.proofs.Spots.{AllLie}
 use Rattle.ps_compile.proofs.Testing.{replicate-add, map-append}
-use Rattle.ps_compile.specs.Checks.{Check, NoneIsExceeded, IsExceeded, alternatives_checks, paths_checks, rows_checks, numbers_checks, edges_checks, commands_of, inner_checks, site_checks, checks}
+use Rattle.ps_compile.specs.Checks.{Check, NoneIsExceeded, alternatives_checks, paths_checks, rows_checks, numbers_checks, edges_checks, commands_of, inner_checks, site_checks, checks}
 use Rattle.ps_compile.specs.Compiled.{one_owner}
 use Rattle.ps_compile.specs.Ends.{IsEndOf}
-use Rattle.ps_compile.specs.Layout.{Site, Planned, planned_from, planned_at, all_planned, start_of, opened_of, inner_of, sites_of, body_sites, body_size}
+use Rattle.ps_compile.specs.Layout.{Site, planned_from, planned_at, all_planned, start_of, opened_of, inner_of, sites_of, body_sites, body_size}
 use Rattle.ps_compile.specs.Ops.{ops_on}
 use Rattle.ps_compile.specs.declared.compile_end.CompileEnd.{CompileEnd}
 use Rattle.ps_compile.specs.declared.draft.Draft.{Draft}
@@ -20,7 +16,6 @@ use Rattle.ps_compile.specs.inner.Drafts.{Grows, draft_of}
 use Rattle.ps_compile.specs.inner.Numbered.{FitsEdge}
 use Rattle.ps_compile.specs.inner.Plans.{IsPlanOf}
 use Rattle.ps_graph.specs.Paths.{Act, is_failing}
-use Rattle.ps_token.specs.declared.place.Place.{Place}
 use Rattle.ps_tree.specs.declared.stmt.Stmt.{Stmt}
 
 -- ---- the plan

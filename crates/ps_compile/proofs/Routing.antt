@@ -1,11 +1,11 @@
 -- Paths one after another are routes one after another.
-use Rattle.std.proofs.Common.{◌≡◌, Bool, true, false, refl, sym, ◌∙◌, ap, ap₂, ℕ, suc, ◌+◌, ◌-◌, ◌<◌, List, [], ◌∷◌, ◌++◌, map, length, drop, get_or, drop-cons, arith, if◌then◌else◌}
+use Rattle.std.proofs.Common.{◌≡◌, Bool, true, false, refl, sym, ◌∙◌, ap, ap₂, ℕ, suc, ◌-◌, ◌<◌, List, [], ◌∷◌, ◌++◌, map, length, drop, get_or, drop-cons, arith, if◌then◌else◌}
 use Rattle.ps_command.specs.declared.op.Op.{Op}
 use Rattle.ps_command.specs.declared.op.Op.TheVariants as op
 use Rattle.ps_graph.specs.declared.edge.Pick.TheVariants as pick
 use Rattle.ps_compile.specs.inner.Counts.{paths_of}
-use Rattle.ps_compile.specs.Ops.{ops_on, bound_row, sum_term}
-use Rattle.ps_graph.specs.Paths.{Act, Guards, Assigns, Havocs, Chooses, Fails, is_failing, picks_of, followed, guarded_by, paths, ways}
+use Rattle.ps_compile.specs.Ops.{bound_row, sum_term}
+use Rattle.ps_graph.specs.Paths.{Act, Guards, Assigns, Havocs, Chooses, Fails, is_failing, followed, guarded_by, paths, ways}
 use Rattle.ps_graph.specs.declared.edge.Pick.{Pick}
 use Rattle.ps_compile.proofs.Counting.{if_is}
 use Rattle.ps_graph.specs.Alternatives.{Bound, alternatives}
@@ -17,8 +17,8 @@ use Rattle.ps_tree.specs.declared.stmt.StmtKind.TheVariants.{If}
 use Rattle.ps_compile.specs.inner.Drafts.{draft_from, draft_of, route_of}
 use Rattle.ps_compile.specs.declared.draft.Draft.{Draft}
 use Rattle.ps_graph.specs.Follows.{going_to}
-use Rattle.ps_compile.specs.Layout.{Planned, planned_from}
-use Rattle.ps_compile.specs.inner.Routes.{cond_paths, guarded_route, join, after_one, after_all}
+use Rattle.ps_compile.specs.Layout.{planned_from}
+use Rattle.ps_compile.specs.inner.Routes.{cond_paths, guarded_route, join, after_all}
 use Rattle.ps_compile.specs.declared.route.Route.{Route}
 
 abbrev with_op : Op → Route → Route
@@ -91,8 +91,8 @@ pub if_routes : (k : StmtKind) (t : Test) (x y bx by : List Stmt) (new all other
     new ≡ all ++ others → new ≡ map route_of (paths k)
 if_routes k t x y bx by new all others h hs f fs first firsts second seconds e ex ey eh ehs ef efs ea eg egs es ess eo en =
     en ∙ ap₂ (λ (i j : List Route). i ++ j)
-        (ea ∙ ap₂ after_all (ehs ∙ eh) (efs ∙ ef ∙ ap (λ (b : List Stmt). map route_of (paths_of b)) ex) ∙ sym (follows (ways true t) (paths_of x)))
-        (eo ∙ ap₂ after_all (egs ∙ eg) (ess ∙ es ∙ ap (λ (b : List Stmt). map route_of (paths_of b)) ey) ∙ sym (follows (ways false t) (paths_of y)))
+    (ea ∙ ap₂ after_all (ehs ∙ eh) (efs ∙ ef ∙ ap (λ (b : List Stmt). map route_of (paths_of b)) ex) ∙ sym (follows (ways true t) (paths_of x)))
+    (eo ∙ ap₂ after_all (egs ∙ eg) (ess ∙ es ∙ ap (λ (b : List Stmt). map route_of (paths_of b)) ey) ∙ sym (follows (ways false t) (paths_of y)))
     ∙ sym (map-append route_of (followed (ways true t) (paths_of x)) (followed (ways false t) (paths_of y)))
     ∙ ap (map route_of) (sym (if_is t x y) ∙ ap paths (sym e))
 

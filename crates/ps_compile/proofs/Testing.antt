@@ -1,16 +1,14 @@
 -- Tests one after another, and sites one after another.
-use Rattle.std.proofs.Common.{◌≡◌, Bool, true, false, refl, sym, ◌∙◌, ap, ap₂, subst, ℕ, zero, suc, ◌+◌, ◌<◌, ◌≤◌, List, [], ◌∷◌, ◌++◌, map, length, drop, replicate, ◌⊎◌, inl, inr, arith, Option, Some, Result, Ok, Err, MatchResult, length-append, append_assoc, append-nil, drop-cons, add-one, get_or}
-use Rattle.std.specs.List.{AllByRecursion, flat_map}
+use Rattle.std.proofs.Common.{◌≡◌, refl, sym, ◌∙◌, ap, ap₂, subst, ℕ, zero, suc, ◌+◌, List, [], ◌∷◌, ◌++◌, map, length, replicate, inl, inr, arith, Option, Some, Result, Ok, Err, length-append, append_assoc, append-nil}
 use Rattle.ps_command.specs.declared.op.Op.{Op}
-use Rattle.ps_compile.specs.Checks.{Check, Measure, Counts, Forms, IsExceeded, NoneIsExceeded, IsFirstExceeded, counted, alternatives_checks, paths_checks, rows_checks, numbers_checks, edges_checks, commands_of, site_checks, inner_checks, checks}
-use Rattle.ps_compile.specs.Layout.{Site, Planned, planned_from, planned_at, all_planned, own_site}
+use Rattle.ps_compile.specs.Checks.{Check, NoneIsExceeded, IsFirstExceeded, alternatives_checks, paths_checks, edges_checks, commands_of, site_checks, inner_checks, checks}
+use Rattle.ps_compile.specs.Layout.{Site, Planned, planned_from, planned_at, all_planned}
 use Rattle.ps_compile.specs.Ops.{ops_on}
 use Rattle.ps_graph.specs.Paths.{Act}
 use Rattle.ps_tree.specs.declared.limit_name.LimitName.{LimitName}
-use Rattle.ps_tree.specs.declared.stmt.StmtKind.{StmtKind}
 use Rattle.ps_token.specs.declared.place.Place.{Place}
 use Rattle.ps_compile.specs.Ends.{IsEndOf}
-use Rattle.ps_compile.specs.inner.Drafts.{route_of, draft_of, commands_on, Tested, Grows, Lays}
+use Rattle.ps_compile.specs.inner.Drafts.{draft_of, commands_on, Grows, Lays}
 use Rattle.ps_compile.specs.declared.draft.Draft.{Draft}
 use Rattle.ps_compile.specs.declared.plan.Plan.{Plan}
 use Rattle.ps_compile.specs.declared.compile_end.CompileEnd.{CompileEnd}
@@ -81,8 +79,8 @@ pub checks_append : (n : ℕ) (ss ts : List Site) → checks n (ss ++ ts) ≡ ch
 checks_append n [] ts = ap (λ (m : ℕ). checks m ts) (let e : n ≡ n + 0 = omega arith in e)
 checks_append n (s ∷ ss) ts =
     ap (λ (l : List Check). site_checks n s ++ l)
-        (checks_append (n + length s.paths) ss ts
-        ∙ ap (λ (m : ℕ). checks (n + length s.paths) ss ++ checks m ts) (more (edges_in ss) (edges_in (s ∷ ss)) (edges_cons s ss)))
+    (checks_append (n + length s.paths) ss ts
+    ∙ ap (λ (m : ℕ). checks (n + length s.paths) ss ++ checks m ts) (more (edges_in ss) (edges_in (s ∷ ss)) (edges_cons s ss)))
     ∙ sym (append_assoc (site_checks n s) (checks (n + length s.paths) ss) (checks (n + edges_in (s ∷ ss)) ts))
   where
     more : (m k : ℕ) → k ≡ length s.paths + m → (n + length s.paths) + m ≡ n + k
@@ -205,7 +203,6 @@ site_grows body old mid new s size due first drafts owners locations is second a
     all = subst NoneIsExceeded (sym (site_is (length old.drafts.items) s))
         (none_append (alternatives_checks s.place s.kind ++ paths_checks s.place s.kind) _ first
         (subst NoneIsExceeded (same_edges old mid s due drafts locations is) second))
-
 
 -- ---- sites after sites, where the second part answers
 

@@ -51,7 +51,9 @@ fn count_each(members: &[Cond], holds: bool) -> usize
 {
     let mut all: usize = 1;
     for member in members {
-        all = all.saturating_mul(count_alternatives(member, holds)).min(65);
+        all = all
+            .saturating_mul(count_alternatives(member, holds))
+            .min(65);
     }
     all
 }
@@ -62,7 +64,9 @@ fn count_any(members: &[Cond], holds: bool) -> usize
 {
     let mut all: usize = 0;
     for member in members {
-        all = all.saturating_add(count_alternatives(member, holds)).min(65);
+        all = all
+            .saturating_add(count_alternatives(member, holds))
+            .min(65);
     }
     all
 }
@@ -77,7 +81,9 @@ pub(crate) struct Count {
 fn sum_of_products(a: usize, b: usize, c: usize, d: usize) -> usize
     ensures { result ≡ min (a * b + c * d) 65 }
 {
-    a.saturating_mul(b).saturating_add(c.saturating_mul(d)).min(65)
+    a.saturating_mul(b)
+        .saturating_add(c.saturating_mul(d))
+        .min(65)
 }
 
 fn count_ways(test: &Test, holds: bool) -> usize
@@ -95,14 +101,26 @@ pub(crate) fn count_paths(kind: &StmtKind) -> Count
     ensures failing { result.failing ≡ min (failing (paths kind.now)) 65 }
 {
     match kind {
-        StmtKind::Assign(_variable, _sum) => Count { going: 1, failing: 0 },
-        StmtKind::Havoc(_variable) => Count { going: 1, failing: 0 },
-        StmtKind::Assume(cond) => Count { going: count_alternatives(cond, true), failing: 0 },
+        StmtKind::Assign(_variable, _sum) => Count {
+            going: 1,
+            failing: 0,
+        },
+        StmtKind::Havoc(_variable) => Count {
+            going: 1,
+            failing: 0,
+        },
+        StmtKind::Assume(cond) => Count {
+            going: count_alternatives(cond, true),
+            failing: 0,
+        },
         StmtKind::Assert(cond) => Count {
             going: count_alternatives(cond, true),
             failing: count_alternatives(cond, false),
         },
-        StmtKind::Skip => Count { going: 1, failing: 0 },
+        StmtKind::Skip => Count {
+            going: 1,
+            failing: 0,
+        },
         StmtKind::Atomic(block) => count_block(block.as_slice()),
         StmtKind::If(test, held, failed) => {
             let holds = count_ways(test, true);
@@ -114,7 +132,10 @@ pub(crate) fn count_paths(kind: &StmtKind) -> Count
                 failing: sum_of_products(holds, first.failing, fails, second.failing),
             }
         }
-        StmtKind::While(_test, _block) => Count { going: 0, failing: 0 },
+        StmtKind::While(_test, _block) => Count {
+            going: 0,
+            failing: 0,
+        },
     }
 }
 

@@ -61,15 +61,7 @@ fn lay_stmt(
             let held = held.as_slice();
             let failed = failed.as_slice();
             let (first, second) = match open_if(
-                alloc,
-                place,
-                &stmt.kind,
-                test,
-                held,
-                failed,
-                a,
-                b,
-                plan,
+                alloc, place, &stmt.kind, test, held, failed, a, b, plan,
             ) {
                 Ok(starts) => starts,
                 Err(end) => return Err(end),

@@ -33,7 +33,10 @@ impl Route {
     // That of one choice of a `*`.
     pub(crate) fn choosing(alloc: Global, holds: bool) -> Result<Route, AllocError>
         ensures { IfOk result (λ r. r ≡ record {
-            command = record { ops = [] }; picks = pick.Star holds ∷ []; fails = false }) }
+          command = record { ops = [] };
+          picks = pick.Star holds ∷ [];
+          fails = false;
+        }) }
     {
         Ok(Route {
             command: no_ops(alloc),
@@ -45,7 +48,10 @@ impl Route {
     // That of one havoc.
     pub(crate) fn havoc(alloc: Global, variable: Var) -> Result<Route, AllocError>
         ensures { IfOk result (λ r. r ≡ record {
-            command = record { ops = op.Havoc variable ∷ [] }; picks = pick.Value ∷ []; fails = false }) }
+          command = record { ops = op.Havoc variable ∷ [] };
+          picks = pick.Value ∷ [];
+          fails = false;
+        }) }
     {
         Ok(Route {
             command: one_op(alloc, Op::Havoc(variable))?,

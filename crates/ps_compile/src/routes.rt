@@ -5,8 +5,8 @@ ghost use Rattle.ps_compile.specs.inner.Drafts.{route_of};
 ghost use Rattle.ps_compile.specs.inner.Routes.{after_all, after_one, assigned_route, cond_paths, guarded_route};
 ghost use Rattle.ps_graph.specs.Paths.{Assigns, paths, ways};
 
-use crate::route::{Route, one_op};
 use crate::alternatives::alternatives_of;
+use crate::route::{Route, one_op};
 use crate::sums::sum_term;
 use ps_command::{Command, Op};
 use ps_list::Sequence;
@@ -107,7 +107,9 @@ fn guarded_routes(
 {
     let mut routes = Vec::with_capacity(alloc, alternatives.len())?;
     for rows in alternatives {
-        routes.push(guarded(alloc, rows, fails)?).map_err(|_| AllocError)?;
+        routes
+            .push(guarded(alloc, rows, fails)?)
+            .map_err(|_| AllocError)?;
     }
     Ok(routes)
 }

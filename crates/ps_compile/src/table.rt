@@ -39,11 +39,7 @@ pub(crate) fn number(alloc: Global, drafts: Vec<Draft>) -> Result<Numbered, Allo
 }
 
 // The edge with the number that its command has in the table, where it is entered if it is new.
-fn enter(
-    alloc: Global,
-    table: &mut IndexSet<CommandKey>,
-    draft: Draft,
-) -> Result<Edge, AllocError>
+fn enter(alloc: Global, table: &mut IndexSet<CommandKey>, draft: Draft) -> Result<Edge, AllocError>
     requires fits { FitsEdge draft }
     requires room { length table.old.keys + 1 < 2 ^ 32 }
     ensures { IfOk result (IsNumbered table.old.keys table.new.keys draft) }

@@ -1,5 +1,5 @@
 -- Numbers of alternatives and of paths.
-use Rattle.std.specs.Prelude.{ℕ, ◌+◌, Bool, true, false, List, [], ◌∷◌, ◌++◌, if◌then◌else◌}
+use Rattle.std.specs.Prelude.{ℕ, ◌+◌, Bool, true, false, List, [], ◌∷◌, if◌then◌else◌}
 use Rattle.ps_graph.specs.Alternatives.{Bound, of_relation, opposite}
 use Rattle.ps_graph.specs.Paths.{Act, is_failing, followed, paths}
 use Rattle.ps_tree.specs.declared.relation.Sign.{Sign}

@@ -1,5 +1,5 @@
 -- Edges before their commands have numbers, and what came of the tests of a body.
-use Rattle.std.specs.Prelude.{◌≡◌, true, false, ℕ, ◌+◌, ◌*◌, List, [], ◌∷◌, ◌++◌, map, length, replicate, Option, Some, Result, MatchResult, if◌then◌else◌}
+use Rattle.std.specs.Prelude.{◌≡◌, true, false, ℕ, ◌+◌, List, [], ◌∷◌, ◌++◌, map, length, replicate, Some, Result, MatchResult, if◌then◌else◌}
 use Rattle.ps_command.specs.declared.op.Op.{Op}
 use Rattle.ps_compile.specs.Checks.{Check, NoneIsExceeded, checks}
 use Rattle.ps_graph.specs.Follows.{going_to}

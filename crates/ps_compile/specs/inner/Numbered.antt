@@ -1,10 +1,10 @@
 -- Edges whose commands have got their numbers.
-use Rattle.std.specs.Prelude.{◌≡◌, ◌≢◌, ℕ, ◌<◌, ◌^◌, true, List, [], ◌∷◌, ◌⊎◌, map, length, Some, slice_get, AllPairs}
+use Rattle.std.specs.Prelude.{◌≡◌, ◌<◌, ◌^◌, true, List, [], ◌∷◌, ◌⊎◌, Some, slice_get}
 use Rattle.std.specs.List.{AllByRecursion, AllZip, position_or_len}
 use Rattle.indexmap.specs.IndexSet.{insert_key}
 use Rattle.ps_command.specs.Commands.{ops_of}
 use Rattle.ps_command.specs.declared.command.Command.{Command}
-use Rattle.ps_compile.specs.Compiled.{AreInOrder, AreNumbered}
+use Rattle.ps_compile.specs.Compiled.{AreNumbered}
 use Rattle.ps_compile.specs.declared.command_key.CommandKey.{CommandKey}
 use Rattle.ps_compile.specs.declared.draft.Draft.{Draft}
 use Rattle.ps_compile.specs.inner.Keys.{key_eq, key_of}

@@ -1,4 +1,4 @@
-use Rattle.std.proofs.Common.{rules, ◌≡◌, ◌<◌, ◌≤◌, length}
+use Rattle.std.proofs.Common.{rules, ◌<◌, ◌≤◌, length}
 use Rattle.ps_compile.specs.inner.Counts.{going, failing, paths_of}
 use Rattle.ps_compile.proofs.Counted.{block_step, block_end, assume_counts, assume_fails, assert_counts, assert_fails, atomic_counts, if_counts, if_fails}
 use Rattle.ps_compile.proofs.counts.+paths.Goals as goal

@@ -1,5 +1,5 @@
-use Rattle.std.proofs.Common.{rules, ◌≡◌, ◌<◌, ◌+◌, ◌++◌, length, drop, replicate, List, Option, Some, ℕ, ap, ap₂, sym, subst, ◌∙◌}
-use Rattle.ps_compile.specs.Layout.{inner_of, sites_of, opened_of, start_of}
+use Rattle.std.proofs.Common.{rules, ◌<◌, length, List, ap, ap₂, sym, ◌∙◌}
+use Rattle.ps_compile.specs.Layout.{inner_of, sites_of}
 use Rattle.ps_tree.specs.declared.stmt.Stmt.{Stmt}
 use Rattle.ps_tree.specs.declared.stmt.StmtKind.TheVariants.{If, While}
 use Rattle.ps_compile.proofs.Blocks.{block_fails, block_steps, if_err, if_err_held, if_lays, while_err, while_lays}

@@ -1,4 +1,4 @@
-use Rattle.std.proofs.Common.{◌≡◌, length, refl, sym, append-nil}
+use Rattle.std.proofs.Common.{length, refl, sym, append-nil}
 use Rattle.ps_graph.specs.Follows.{going_to}
 use Rattle.ps_compile.specs.Layout.{own_site}
 use Rattle.ps_graph.specs.Paths.{paths}

@@ -1,4 +1,4 @@
-use Rattle.std.proofs.Common.{◌≡◌, ℕ, ◌+◌, ◌≤◌, drop}
+use Rattle.std.proofs.Common.{◌≡◌, ◌+◌, ◌≤◌, drop}
 use Rattle.ps_compile.specs.Ops.{rows_in}
 use Rattle.ps_compile.proofs.limits_edges.count_rows.Given as goal
 

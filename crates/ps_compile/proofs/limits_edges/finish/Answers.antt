@@ -1,4 +1,4 @@
-use Rattle.std.proofs.Common.{◌≡◌, length, subst, List}
+use Rattle.std.proofs.Common.{length, subst, List}
 use Rattle.ps_compile.specs.Checks.{NoneIsExceeded, edges_checks, inner_checks}
 use Rattle.ps_compile.specs.Ends.{IsEndOf}
 use Rattle.ps_compile.specs.inner.Drafts.{commands_on}

@@ -1,8 +1,8 @@
-use Rattle.std.proofs.Common.{rules, ◌≡◌, ◌<◌, ◌+◌, length, refl, inl, inr, map, arith}
+use Rattle.std.proofs.Common.{rules, ◌<◌, ◌+◌, length, refl, inl, inr, arith}
 use Rattle.ps_compile.specs.Checks.{rows_checks, numbers_checks}
 use Rattle.ps_tree.specs.declared.limit_name.LimitName.TheVariants.{Locations, Edges}
 use Rattle.ps_compile.specs.inner.Drafts.{commands_on}
-use Rattle.ps_compile.proofs.Testing.{end_left, end_right, first_right, none_append, commands_count}
+use Rattle.ps_compile.proofs.Testing.{end_left, end_right, first_right, commands_count}
 use Rattle.ps_compile.proofs.limits_edges.test_edges.Goals as goal
 
 pub returns-in-Err : goal.returns-in-Err

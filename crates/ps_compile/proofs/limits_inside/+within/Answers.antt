@@ -1,4 +1,4 @@
-use Rattle.std.proofs.Common.{rules, ◌≡◌, ◌<◌, length, refl, subst, List}
+use Rattle.std.proofs.Common.{rules, ◌<◌, length, refl, subst, List}
 use Rattle.ps_compile.specs.Checks.{Check, NoneIsExceeded}
 use Rattle.ps_compile.specs.inner.Inside.{inside_of}
 use Rattle.ps_compile.specs.Ends.{IsEndOf}

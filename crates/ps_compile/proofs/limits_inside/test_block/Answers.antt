@@ -1,4 +1,4 @@
-use Rattle.std.proofs.Common.{rules, ◌≡◌, ◌<◌, refl, inl}
+use Rattle.std.proofs.Common.{rules, ◌<◌, refl, inl}
 use Rattle.ps_compile.specs.inner.Counts.{paths_of}
 use Rattle.ps_compile.proofs.Inside.{many, few}
 use Rattle.ps_compile.proofs.limits_inside.test_block.Goals as goal

@@ -1,6 +1,5 @@
-use Rattle.std.proofs.Common.{rules, ◌≡◌, ◌∙◌, ap, sym, length, List}
+use Rattle.std.proofs.Common.{rules, ◌≡◌, ◌∙◌, ap, sym, length}
 use Rattle.ps_command.specs.Commands.{forms_of}
-use Rattle.ps_command.specs.declared.command.Command.{Command}
 use Rattle.ps_compile.proofs.Graphs.{commands_declared, each_fits, each_names, once_fits}
 use Rattle.ps_compile.proofs.setting.setting_of.Goals as goal
 

@@ -1,4 +1,4 @@
-use Rattle.std.proofs.Common.{rules, ◌≡◌, ◌∷◌, ◌++◌, [], List, length, ap, sym, ◌∙◌, subst}
+use Rattle.std.proofs.Common.{rules, ◌≡◌, ◌∷◌, ◌++◌, [], List, length, sym, ◌∙◌, subst}
 use Rattle.ps_compile.proofs.Numbering.{Numbering, nothing_left, numbering_done, numbering_step}
 use Rattle.ps_compile.proofs.table.number.Goals as goal
 use Rattle.ps_compile.specs.declared.draft.Draft.{Draft}
