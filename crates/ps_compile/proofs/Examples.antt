@@ -1,5 +1,5 @@
 -- What the worked examples rest on: commands that differ, and numbers within a limit.
-use Rattle.std.proofs.Common.{◌≡◌, ◌≢◌, Bool, true, false, not, ◌&&◌, nat_lt, refl, ap, ℕ, zero, suc, ◌+◌, ◌<◌, ℤ, pos, ◌+ℤ◌, ◌*ℤ◌, List, [], ◌∷◌, length, arith}
+use Rattle.std.proofs.Common.{◌≡◌, ◌≢◌, Bool, true, false, not, ◌&&◌, nat_lt, ap, ℕ, zero, suc, ◌+◌, ◌<◌, ℤ, pos, ◌+ℤ◌, ◌*ℤ◌, List, [], ◌∷◌, length, arith}
 use Rattle.std.specs.Prelude.{AllPairs, slice_index_or}
 use Rattle.std.specs.List.{list_all}
 use Rattle.std.specs.Ordering.{int_eq}
@@ -8,6 +8,7 @@ use Rattle.std.proofs.lemmas.Int.{ints}
 use Rattle.ps_command.specs.declared.command.Command.{Command}
 use Rattle.ps_command.specs.declared.op.Op.{Op}
 use Rattle.ps_command.specs.declared.op.Op.TheVariants.{Assume, Assign, Havoc}
+use Rattle.ps_compile.proofs.Declaring.{left_of, right_of}
 use Rattle.ps_term.specs.declared.term.Term.{Term}
 use Rattle.ps_term.specs.declared.var.Var.{Var}
 use Rattle.ps_term.specs.declared.var.Var.TheVariants.{Global, Local, Havoc as HavocVar}
@@ -41,26 +42,18 @@ all_other (c ∷ cs) = list_all (is_other c) cs && all_other cs
 differ : (m n : ℤ) → not (int_eq m n) ≡ true → ¬ (m ≡ n)
 differ m n h e = grind (arith, ints)
 
-left : (a b : Bool) → (a && b) ≡ true → a ≡ true
-left true b e = refl
-left false b e = e
-
-right : (a b : Bool) → (a && b) ≡ true → b ≡ true
-right true b e = e
-right false b e = let no_such : false ≡ true = e in cc
-
 pub are_different : (cs : List Command) → all_other cs ≡ true → AllPairs (λ (c d : Command). c ≢ d) cs
 are_different [] h i j d l m = let none : ⊥ = omega (arith, m) in absurd none
 are_different (c ∷ cs) h zero zero d l m = let none : ⊥ = omega (arith, l) in absurd none
-are_different (c ∷ cs) h zero (suc j) d l m = at cs j (left (list_all (is_other c) cs) (all_other cs) h) (omega (arith, m))
+are_different (c ∷ cs) h zero (suc j) d l m = at cs j (left_of (list_all (is_other c) cs) (all_other cs) h) (omega (arith, m))
   where
     at : (es : List Command) (j : ℕ) → list_all (is_other c) es ≡ true → j < length es → c ≢ slice_index_or es j d
     at [] j f k = let none : ⊥ = omega (arith, k) in absurd none
-    at (e ∷ es) zero f k = λ same. differ (marks c.ops) (marks e.ops) (left (is_other c e) (list_all (is_other c) es) f) (ap (λ (b : Command). marks b.ops) same)
-    at (e ∷ es) (suc j) f k = at es j (right (is_other c e) (list_all (is_other c) es) f) (omega (arith, k))
+    at (e ∷ es) zero f k = λ same. differ (marks c.ops) (marks e.ops) (left_of (is_other c e) (list_all (is_other c) es) f) (ap (λ (b : Command). marks b.ops) same)
+    at (e ∷ es) (suc j) f k = at es j (right_of (is_other c e) (list_all (is_other c) es) f) (omega (arith, k))
 are_different (c ∷ cs) h (suc i) zero d l m = let none : ⊥ = omega (arith, l) in absurd none
 are_different (c ∷ cs) h (suc i) (suc j) d l m =
-    are_different cs (right (list_all (is_other c) cs) (all_other cs) h) i j d (omega (arith, l)) (omega (arith, m))
+    are_different cs (right_of (list_all (is_other c) cs) (all_other cs) h) i j d (omega (arith, l)) (omega (arith, m))
 
 -- a number above the most, and one within it
 pub above : (n most : ℕ) → nat_lt most n ≡ true → most < n

@@ -3,6 +3,7 @@ use Rattle.std.proofs.Common.{◌≡◌, refl, sym, ap, subst, ℕ, ◌+◌, ◌
 use Rattle.std.specs.Prelude.{Option, Some, None}
 use Rattle.std.specs.Int.{w128}
 use Rattle.std.proofs.lemmas.Int.{ints}
+use Rattle.ps_compile.proofs.Members.{all_at}
 use Rattle.ps_compile.proofs.Worth.{product_value, product_canonical}
 use Rattle.ps_compile.specs.Ops.{with_product, with_products}
 use Rattle.ps_term.specs.Exact.{number_term, with_pair}
@@ -111,11 +112,6 @@ small_rest by zero ps s = s
 small_rest by (suc i) [] s = tt
 small_rest by (suc i) (p ∷ ps) s = small_rest by i ps s.1
 
-small_at : (by : ℤ) (i : ℕ) (d : ℤ × Option Var) (ps : List (ℤ × Option Var)) → i < length ps → AreSmall by ps → IsNear number_bound (by *ℤ (get_or ps i d).0)
-small_at by i d [] l s = let none : ⊥ = omega (arith, l) in absurd none
-small_at by zero d (p ∷ ps) l s = s.0
-small_at by (suc i) d (p ∷ ps) l s = small_at by i d ps (omega (arith, l)) s.1
-
 left_over : (n : ℕ) (ps : List (ℤ × Option Var)) → n < length ps → length (drop (suc n) ps) + 1 ≤ length ps
 left_over n [] l = let none : ⊥ = omega (arith, l) in absurd none
 left_over zero (p ∷ ps) l = omega arith
@@ -143,5 +139,5 @@ products_refused by ps t sum i n d one l e past k near small less =
     past (k + length (drop (suc n) ps) * number_bound) number_bound
     (subst (IsNearTerm (k + length (drop (suc n) ps) * number_bound)) (sym (e ∙ ap (λ (j : ℕ). with_products by (drop j ps) t) one))
     (products_near k by (drop (suc n) ps) t near (small_rest by (suc n) ps small)))
-    (small_at by n d ps l small)
+    (all_at (λ (p : ℤ × Option Var). IsNear number_bound (by *ℤ p.0)) ps n d l small)
     (let within : (k + length (drop (suc n) ps) * number_bound) + number_bound < 2 ^ 127 = omega (arith, left, less) in within)

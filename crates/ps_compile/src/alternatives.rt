@@ -15,7 +15,7 @@ use ps_term::{Row, TermEnd};
 use ps_tree::{Cond, Relation, Sign, Sum};
 use std::alloc::{AllocError, Global};
 
-// The rows of a relation's first alternative; only that of `!=` has a second. They are `Past128` only
+// The rows of a relation's first alternative; only `!=` has a second one. They are `Past128` only
 // where a number isn't small.
 pub(crate) fn first_rows(
     alloc: Global,
@@ -127,15 +127,16 @@ fn of_relation(
     }
 }
 
-// The alternatives of a condition that holds, or doesn't, each as its rows, in time of them and of those
-// of its members. They are `Past128` only where a number isn't small.
+// The alternatives of a condition that holds, or doesn't, each as its rows, in time of them and of
+// those of its members. They are `Past128` only where a number isn't small.
 #[cycle(alternatives)]
 pub(crate) fn alternatives_of(
     alloc: Global,
     holds: bool,
     cond: &Cond,
 ) -> Result<Vec<Sequence<Row>>, TermEnd>
-    ensures is { IfOk result (λ all. all.items ≡ map (map bound_row) (alternatives holds cond.now)) }
+    ensures is { IfOk result (λ all. all.items
+        ≡ map (map bound_row) (alternatives holds cond.now)) }
     ensures past { IsErrOf result TermEnd.Past128 → (globals locals : ℕ)
         → IsCompilableCond globals locals cond.now → ⊥ }
 {
@@ -162,7 +163,8 @@ pub(crate) fn alternatives_of(
 // The alternatives that take one of each member. After a member without any none is looked at.
 #[cycle(alternatives)]
 fn one_of_each(alloc: Global, holds: bool, members: &[Cond]) -> Result<Vec<Sequence<Row>>, TermEnd>
-    ensures is { IfOk result (λ all. all.items ≡ map (map bound_row) (each_of holds members.now)) }
+    ensures is { IfOk result (λ all. all.items
+        ≡ map (map bound_row) (each_of holds members.now)) }
     ensures past { IsErrOf result TermEnd.Past128 → (globals locals : ℕ)
         → AllByRecursion (IsCompilableCond globals locals) members.now → ⊥ }
 {
@@ -189,7 +191,8 @@ fn one_of_each(alloc: Global, holds: bool, members: &[Cond]) -> Result<Vec<Seque
 // The alternatives that take one of any member.
 #[cycle(alternatives)]
 fn one_of_any(alloc: Global, holds: bool, members: &[Cond]) -> Result<Vec<Sequence<Row>>, TermEnd>
-    ensures is { IfOk result (λ all. all.items ≡ map (map bound_row) (any_of holds members.now)) }
+    ensures is { IfOk result (λ all. all.items
+        ≡ map (map bound_row) (any_of holds members.now)) }
     ensures past { IsErrOf result TermEnd.Past128 → (globals locals : ℕ)
         → AllByRecursion (IsCompilableCond globals locals) members.now → ⊥ }
 {

@@ -38,8 +38,10 @@ pub fn facts_are_kept()
         → IsLaidOut body locations commands edges → IsDeterministic commands edges }
 {}
 
-/// Each program that is read can be compiled, and so can each tree of a text of the grammar that fits.
+/// Each program that is read can be compiled, and so can each tree of a text of the grammar that
+/// fits.
 pub fn programs_are_compilable()
-    ensures read { (bytes : List ℕ) (program : Program) → IsProgram bytes program → IsCompilable program }
+    ensures read { (bytes : List ℕ) (program : Program)
+        → IsProgram bytes program → IsCompilable program }
     ensures trees { (program : Program) → IsTreeOfText program → IsCompilable program }
 {}

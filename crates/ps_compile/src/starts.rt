@@ -23,8 +23,8 @@ pub(crate) struct StartRows {
     pub each: Vec<Row>,
 }
 
-// The rows of declared values and of relations, in text order, each on its side. They are `Past128` only
-// where the program isn't one that is compiled.
+// The rows of declared values and of relations, in text order, each on its side. They are `Past128`
+// only where the program can't be compiled.
 pub(crate) fn start_rows(alloc: Global, program: &Program) -> Result<StartRows, TermEnd>
     ensures once { IfOk result (λ rows. rows.once.items
         ≡ filter (λ (r : Row). not (names_local r)) (start_rows program.now)) }
@@ -56,8 +56,8 @@ fn push_declared(alloc: Global, rows: &mut Vec<Row>, globals: &[GlobalDecl]) -> 
     Ok(())
 }
 
-// Adds the rows of a value, where there is one: x - v and v - x, where x is the global of this number.
-// For a number of more than 32 bits, which no global has, there is no memory.
+// Adds the rows of a value, where there is one: x - v and v - x, where x is the global of this
+// number. For a number of more than 32 bits, which no global has, there is no memory.
 fn push_value(
     alloc: Global,
     rows: &mut Vec<Row>,

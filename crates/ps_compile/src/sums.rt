@@ -9,8 +9,8 @@ use ps_term::{Row, Term, TermEnd};
 use ps_tree::Sum;
 use std::alloc::Global;
 
-// The term of a sum, in time of its products times its variables. It is `Past128` only where a number
-// isn't small.
+// The term of a sum, in time of its products times its variables. It is `Past128` only where a
+// number isn't small.
 pub(crate) fn sum_term(alloc: Global, sum: &Sum) -> Result<Term, TermEnd>
     ensures is { IfOk result (λ term. term ≡ sum_term sum.now) }
     ensures past { IsErrOf result TermEnd.Past128 → (globals locals : ℕ)
