@@ -1,5 +1,6 @@
 -- The layout of statements with blocks, with their blocks as lists.
 use Rattle.std.proofs.Common.{◌≡◌, true, false, refl, sym, ◌∙◌, ap, ap₂, subst, ℕ, zero, suc, ◌+◌, ◌<◌, List, [], ◌∷◌, ◌++◌, map, length, replicate, Option, Some, arith, length-append, append_assoc, Result, drop, get_or, drop-cons}
+use Rattle.std.proofs.lemmas.List.{length-replicate, replicate-append-replicate}
 use Rattle.ps_compile.specs.Checks.{NoneIsExceeded, alternatives_checks, paths_checks, edges_checks, inner_checks, checks}
 use Rattle.ps_graph.specs.Follows.{going_to}
 use Rattle.ps_compile.specs.Layout.{Site, planned_from, all_planned, own_site, start, opened, inner, inner_all, sites, sites_all, start_of, opened_of, inner_of, sites_of}
@@ -15,7 +16,7 @@ use Rattle.ps_compile.specs.inner.Drafts.{if_site, while_site, draft_of, command
 use Rattle.ps_compile.specs.declared.draft.Draft.{Draft}
 use Rattle.ps_compile.specs.declared.plan.Plan.{Plan}
 use Rattle.ps_compile.specs.declared.compile_end.CompileEnd.{CompileEnd}
-use Rattle.ps_compile.proofs.Testing.{Laying, laying_more, laying_end, StillTests, replicate-add, site_grows, site_finishes, end_first, end_second, grows_both, lays_after}
+use Rattle.ps_compile.proofs.Testing.{Laying, laying_more, laying_end, StillTests, site_grows, site_finishes, end_first, end_second, grows_both, lays_after}
 
 -- ---- rows are lists
 
@@ -99,11 +100,7 @@ while_inner t block = ap₂ (λ (a b : ℕ). a + b) (opened_list block) (inner_l
 -- ---- one statement of a block
 
 owners_more : (body : ℕ) (a b : Plan) (m : ℕ) → b.owners.items ≡ a.owners.items ++ replicate m (Some body) → length b.owners.items ≡ length a.owners.items + m
-owners_more body a b m e = ap (λ (l : List (Option ℕ)). length l) e ∙ length-append a.owners.items (replicate m (Some body)) ∙ ap (λ (n : ℕ). length a.owners.items + n) (counted m)
-  where
-    counted : (m : ℕ) → length (replicate m (Some body)) ≡ m
-    counted zero = refl
-    counted (suc m) = ap suc (counted m)
+owners_more body a b m e = ap (λ (l : List (Option ℕ)). length l) e ∙ length-append a.owners.items (replicate m (Some body)) ∙ ap (λ (n : ℕ). length a.owners.items + n) (length-replicate m (Some body))
 
 -- the target of a statement was made
 pub laying_open : (body : ℕ) (first now mid : Plan) (left all : List Site) (k m n : ℕ) → Laying body first now left all (k + m) n →
@@ -113,7 +110,7 @@ laying_open body first now mid left all k m n l drafts owners = record {
   drafts = ap (λ (ls : List Draft). ls ++ map draft_of (all_planned left)) drafts ∙ l.drafts;
   owners = ap (λ (os : List (Option ℕ)). os ++ replicate m (Some body)) owners
       ∙ append_assoc now.owners.items (replicate k (Some body)) (replicate m (Some body))
-      ∙ ap (λ (os : List (Option ℕ)). now.owners.items ++ os) (sym (replicate-add (Some body) k m)) ∙ l.owners;
+      ∙ ap (λ (os : List (Option ℕ)). now.owners.items ++ os) (replicate-append-replicate k m (Some body)) ∙ l.owners;
 }
 
 pub laying_step : (body : ℕ) (first now mid next : Plan) (s : Stmt) (rest : List Stmt) (from to z : ℕ) (all : List Site) (n : ℕ) →
@@ -176,7 +173,7 @@ owners_twice : (body : ℕ) (a b c : Plan) (m n : ℕ) → b.owners.items ≡ a.
     c.owners.items ≡ a.owners.items ++ replicate (m + n) (Some body)
 owners_twice body a b c m n e f =
     f ∙ ap (λ (os : List (Option ℕ)). os ++ replicate n (Some body)) e ∙ append_assoc a.owners.items (replicate m (Some body)) (replicate n (Some body))
-    ∙ ap (λ (os : List (Option ℕ)). a.owners.items ++ os) (sym (replicate-add (Some body) m n))
+    ∙ ap (λ (os : List (Option ℕ)). a.owners.items ++ os) (replicate-append-replicate m n (Some body))
 
 if_due : (body : ℕ) (old o1 : Plan) (t : Test) (held failed : List Stmt) (a b first second : ℕ) (due : List Draft) →
     first ≡ start_of held b (length old.owners.items) → o1.owners.items ≡ old.owners.items ++ replicate (opened_of held) (Some body) →

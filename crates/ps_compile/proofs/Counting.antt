@@ -5,6 +5,7 @@ use Rattle.ps_compile.specs.inner.Counts.{going, failing, paths_of}
 use Rattle.ps_compile.specs.inner.Members.{each_of, any_of}
 use Rattle.ps_graph.specs.Paths.{Act, Guards, Assigns, Havocs, Chooses, Fails, is_failing, guarded_by, ways, followed, paths, paths_all}
 use denote.Hole.Carrier.{hidden}
+use Rattle.std.proofs.lemmas.List.{length-map}
 use Rattle.ps_tree.specs.declared.cond.Cond.{Cond, Row_of-Cond, end_of-Cond, more_of-Cond, items-the_row-Cond}
 use Rattle.ps_tree.specs.declared.cond.Cond.TheVariants.{Not, And, Or}
 use Rattle.ps_tree.specs.declared.cond.Cond.TheBlock.{hidden-the_row-Cond-0, hidden-the_row-Cond-1, items_hidden-the_row-Cond-1}
@@ -15,16 +16,12 @@ use Rattle.ps_tree.specs.declared.stmt.StmtKind.{Row_of-Stmt, end_of-Stmt, more_
 use Rattle.ps_tree.specs.declared.stmt.StmtKind.TheVariants.{Atomic, If}
 use Rattle.ps_tree.specs.declared.stmt.StmtKind.TheBlock.{hidden-the_row-Stmt-0, items_hidden-the_row-Stmt-0}
 
-pub length-map : {X Y : Type 0} (f : X → Y) (xs : List X) → length (map f xs) ≡ length xs
-length-map f [] = refl
-length-map f (x ∷ xs) = ap (λ (n : ℕ). suc n) (length-map f xs)
-
 -- every one of the first with every one of the second
 pub length-product : {X : Type 0} (xs ys : List (List X)) → length (product xs ys) ≡ length xs * length ys
 length-product [] ys = omega arith
 length-product {X} (x ∷ xs) ys =
     length-append (map (λ (y : List X). x ++ y) ys) (product xs ys)
-    ∙ ap₂ (λ (m n : ℕ). m + n) (length-map (λ (y : List X). x ++ y) ys) (length-product xs ys)
+    ∙ ap₂ (λ (m n : ℕ). m + n) (length-map ys (λ (y : List X). x ++ y)) (length-product xs ys)
     ∙ more (length xs) (length ys)
   where
     more : (m n : ℕ) → n + m * n ≡ suc m * n
@@ -112,7 +109,7 @@ going_guarded (bs ∷ alts) = ap₂ (λ (t : Bool) (n : ℕ). (if t then 0 else 
     fine (b ∷ bs) = fine bs
 
 pub failing_guarded : (alts : List (List Bound)) → failing (map guarded_by alts) ≡ 0
-failing_guarded alts = omega (arith, all_paths (map guarded_by alts), going_guarded alts, length-map guarded_by alts)
+failing_guarded alts = omega (arith, all_paths (map guarded_by alts), going_guarded alts, length-map alts guarded_by)
 
 pub failing_failed : (alts : List (List Bound)) → failing (map (λ (bs : List Bound). guarded_by bs ++ Fails ∷ []) alts) ≡ length alts
 failing_failed [] = refl
@@ -124,7 +121,7 @@ failing_failed (bs ∷ alts) = ap₂ (λ (t : Bool) (n : ℕ). (if t then 1 else
 
 pub going_failed : (alts : List (List Bound)) → going (map (λ (bs : List Bound). guarded_by bs ++ Fails ∷ []) alts) ≡ 0
 going_failed alts =
-    omega (arith, all_paths (map (λ (bs : List Bound). guarded_by bs ++ Fails ∷ []) alts), failing_failed alts, length-map (λ (bs : List Bound). guarded_by bs ++ Fails ∷ []) alts)
+    omega (arith, all_paths (map (λ (bs : List Bound). guarded_by bs ++ Fails ∷ []) alts), failing_failed alts, length-map alts (λ (bs : List Bound). guarded_by bs ++ Fails ∷ []))
 
 -- ---- rows are lists
 
@@ -169,7 +166,7 @@ if_is t a b = ap₂ (λ (x y : List (List Act)). followed (ways true t) x ++ fol
 -- the ways of a test don't fail
 pub going_ways : (h : Bool) (t : Test) → going (ways h t) ≡ length (ways h t)
 going_ways h Star = refl
-going_ways h (Where c) = going_guarded (alternatives h c) ∙ sym (length-map guarded_by (alternatives h c))
+going_ways h (Where c) = going_guarded (alternatives h c) ∙ sym (length-map (alternatives h c) guarded_by)
 
 pub failing_ways : (h : Bool) (t : Test) → failing (ways h t) ≡ 0
 failing_ways h Star = refl

@@ -1,11 +1,12 @@
 -- Commands are numbered one edge after another.
-use Rattle.std.proofs.Common.{◌≡◌, Bool, true, false, cond, not, ◌&&◌, ◌||◌, refl, sym, ◌∙◌, ap, subst, ℕ, zero, suc, ◌+◌, ◌<◌, ◌≤◌, List, [], ◌∷◌, ◌++◌, map, length, inl, inr, arith, if◌then◌else◌, length-append}
+use Rattle.std.proofs.Common.{◌≡◌, Bool, true, false, cond, not, ◌&&◌, ◌||◌, refl, sym, ◌∙◌, ap, subst, ℕ, zero, suc, ◌+◌, ◌<◌, ◌≤◌, List, [], ◌∷◌, ◌++◌, map, length, inl, inr, arith, if◌then◌else◌, append_assoc, append-nil, length-append}
 use Rattle.std.specs.Prelude.{Option, Some, option_map, slice_get, unwrap_or}
 use Rattle.std.specs.Bool.{Decides}
 use Rattle.std.specs.Cmp.Lexicographic.{pointwise}
 use Rattle.std.specs.List.{AllByRecursion, AllZip, IsDistinct, list_any, position_or_len}
 use Rattle.std.proofs.lemmas.Map.Made.{AllPairs-from_IsDistinct}
 use Rattle.std.proofs.lemmas.Bool.Decides.{Decides-like}
+use Rattle.std.proofs.lemmas.List.{length-map, map-append}
 use Rattle.std.proofs.lemmas.Slice.Eq.{slice_eq-Decides}
 use Rattle.ps_command.specs.Commands.{ops_of}
 use Rattle.ps_command.specs.declared.command.Command.{Command}
@@ -33,14 +34,6 @@ get_mapped : {X Y : Type 0} (f : X → Y) (xs : List X) (n : ℕ) → slice_get 
 get_mapped f [] n = refl
 get_mapped f (x ∷ xs) zero = refl
 get_mapped f (x ∷ xs) (suc n) = get_mapped f xs n
-
-length-mapped : {X Y : Type 0} (f : X → Y) (xs : List X) → length (map f xs) ≡ length xs
-length-mapped f [] = refl
-length-mapped f (x ∷ xs) = ap suc (length-mapped f xs)
-
-map-push : {X Y : Type 0} (f : X → Y) (xs : List X) (y : X) → map f (xs ++ y ∷ []) ≡ map f xs ++ f y ∷ []
-map-push f [] y = refl
-map-push f (x ∷ xs) y = ap (λ l. f x ∷ l) (map-push f xs y)
 
 ops_more : (cs ds : List Command) (n : ℕ) → n < length cs → ops_of (cs ++ ds) n ≡ ops_of cs n
 ops_more cs ds n h = ap (λ (o : Option Command). unwrap_or (option_map (λ (c : Command). c.ops) o) []) (get_more cs ds n h)
@@ -135,10 +128,6 @@ numbering_step all d rest old new es e s n = at (list_any (key_eq key) old) refl
     edge : IsDraftEdge (map command_of new) d e
     edge = record { source = n.source; target = n.target; ops = stored_ops new d.route.command e.command n.stored.0 n.stored.1 n.stored.2; picks = n.picks }
 
-    moved : {X : Type 0} (xs : List X) (x : X) (ys : List X) → (xs ++ x ∷ []) ++ ys ≡ xs ++ x ∷ ys
-    moved [] x ys = refl
-    moved (w ∷ xs) x ys = ap (λ l. w ∷ l) (moved xs x ys)
-
     more : length (s.done ++ d ∷ []) ≡ length s.done + 1
     more = length-append s.done (d ∷ [])
 
@@ -165,19 +154,19 @@ numbering_step all d rest old new es e s n = at (list_any (key_eq key) old) refl
     kept is = subst (λ (ks : List CommandKey). AllZip (IsDraftEdge (map command_of ks)) s.done es) (sym is) s.edges
 
     grown : new ≡ old ++ key ∷ [] → AllZip (IsDraftEdge (map command_of new)) s.done es
-    grown is = subst (λ (cs : List Command). AllZip (IsDraftEdge cs) s.done es) (sym (ap (map command_of) is ∙ map-push command_of old key))
+    grown is = subst (λ (cs : List Command). AllZip (IsDraftEdge cs) s.done es) (sym (ap (map command_of) is ∙ map-append command_of old (key ∷ [])))
         (drafts_more (map command_of old) (command_of key ∷ []) s.done es
-        (subst (λ (m : ℕ). AllByRecursion (λ (k : ℕ). k < m) (numbers es)) (sym (length-mapped command_of old)) (in_order_below 0 (numbers es) (length old) s.in_order).1) s.edges)
+        (subst (λ (m : ℕ). AllByRecursion (λ (k : ℕ). k < m) (numbers es)) (sym (length-map old command_of)) (in_order_below 0 (numbers es) (length old) s.in_order).1) s.edges)
 
     at : (b : Bool) → list_any (key_eq key) old ≡ b → Numbering all rest new (es ++ e ∷ [])
     at true f =
         let is : new ≡ old = n.keys ∙ ap (λ (b : Bool). if b then old else old ++ key ∷ []) f in
         record {
           done = s.done ++ d ∷ [];
-          is = moved s.done d rest ∙ s.is;
+          is = append_assoc s.done (d ∷ []) rest ∙ s.is;
           left = s.left.1;
           edges = drafts_push (map command_of new) s.done es d e (kept is) edge;
-          in_order = subst (λ (ns : List ℕ). AreInOrder 0 ns (length new)) (sym (map-push (λ (e : Edge). e.command) es e))
+          in_order = subst (λ (ns : List ℕ). AreInOrder 0 ns (length new)) (sym (map-append (λ (e : Edge). e.command) es (e ∷ [])))
               (subst (λ (ks : List CommandKey). AreInOrder 0 (numbers es ++ e.command ∷ []) (length ks)) (sym is)
               (in_order_old 0 (numbers es) (length old) e.command s.in_order (subst (λ (m : ℕ). m < length old) (sym n.number) (one_stands (key_eq key) old f))));
           few = (let k : length new ≡ length old = ap (λ (ks : List CommandKey). length ks) is in omega (arith, k, s.few, more));
@@ -188,10 +177,10 @@ numbering_step all d rest old new es e s n = at (list_any (key_eq key) old) refl
         let longer : length new ≡ suc (length old) = ap (λ (ks : List CommandKey). length ks) is ∙ length-append old (key ∷ []) ∙ (let g : length old + 1 ≡ suc (length old) = omega arith in g) in
         record {
           done = s.done ++ d ∷ [];
-          is = moved s.done d rest ∙ s.is;
+          is = append_assoc s.done (d ∷ []) rest ∙ s.is;
           left = s.left.1;
           edges = drafts_push (map command_of new) s.done es d e (grown is) edge;
-          in_order = subst (λ (ns : List ℕ). AreInOrder 0 ns (length new)) (sym (map-push (λ (e : Edge). e.command) es e))
+          in_order = subst (λ (ns : List ℕ). AreInOrder 0 ns (length new)) (sym (map-append (λ (e : Edge). e.command) es (e ∷ [])))
               (subst (λ (m : ℕ). AreInOrder 0 (numbers es ++ e.command ∷ []) m) (sym longer)
               (subst (λ (k : ℕ). AreInOrder 0 (numbers es ++ k ∷ []) (suc (length old))) (sym (n.number ∙ none_stands (key_eq key) old f))
               (in_order_new 0 (numbers es) (length old) s.in_order)));
@@ -227,21 +216,17 @@ distinct_commands (k ∷ keys) h = (each keys h.0, distinct_commands keys h.1)
 pub numbering_done : (all : List Draft) (keys : List CommandKey) (es : List Edge) (commands : List Command) → Numbering all [] keys es → IsDistinct key_eq keys →
     commands ≡ map command_of keys → AreNumberedDrafts commands all es
 numbering_done all keys es commands s d is = subst (λ (cs : List Command). AreNumberedDrafts cs all es) (sym is) (record {
-  edges = subst (λ (ds : List Draft). AllZip (IsDraftEdge (map command_of keys)) ds es) (ended s.done ∙ s.is) s.edges;
+  edges = subst (λ (ds : List Draft). AllZip (IsDraftEdge (map command_of keys)) ds es) (sym (append-nil s.done) ∙ s.is) s.edges;
   numbered = record {
     different = AllPairs-from_IsDistinct command_decides (map command_of keys) (distinct_commands keys d);
-    in_order = subst (λ (m : ℕ). AreInOrder 0 (numbers es) m) (sym (length-mapped command_of keys)) s.in_order;
+    in_order = subst (λ (m : ℕ). AreInOrder 0 (numbers es) m) (sym (length-map keys command_of)) s.in_order;
   };
-  used = subst (λ (ds : List Draft). AllByRecursion (ComesFrom ds) (map command_of keys)) (ended s.done ∙ s.is) (mapped keys s.used);
+  used = subst (λ (ds : List Draft). AllByRecursion (ComesFrom ds) (map command_of keys)) (sym (append-nil s.done) ∙ s.is) (mapped keys s.used);
 })
   where
     mapped : (ks : List CommandKey) → AllByRecursion (λ (k : CommandKey). ComesFrom s.done (command_of k)) ks → AllByRecursion (ComesFrom s.done) (map command_of ks)
     mapped [] h = tt
     mapped (k ∷ ks) h = (h.0, mapped ks h.1)
-
-    ended : (xs : List Draft) → xs ≡ xs ++ []
-    ended [] = refl
-    ended (x ∷ xs) = ap (λ (l : List Draft). x ∷ l) (ended xs)
 
 -- ---- the edges are those of paths
 

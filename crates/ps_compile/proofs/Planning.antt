@@ -2,8 +2,9 @@
 use Rattle.std.proofs.Common.{◌≡◌, Bool, true, false, refl, sym, ◌∙◌, ap, ap₂, subst, ℕ, zero, suc, ◌+◌, ◌<◌, ◌^◌, List, [], ◌∷◌, ◌++◌, map, length, replicate, arith, if◌then◌else◌, Option, Some, None}
 use Rattle.std.specs.List.{AllByRecursion}
 use Rattle.ps_command.specs.Form.{FormFits}
+use Rattle.std.proofs.lemmas.List.{length-replicate, map-append, replicate-append-replicate}
+use Rattle.ps_compile.proofs.Declaring.{all_joined}
 use Rattle.ps_compile.proofs.Facts.{Ours, body_lies}
-use Rattle.ps_compile.proofs.Testing.{replicate-add, map-append}
 use Rattle.ps_compile.specs.Checks.{Check, NoneIsExceeded, alternatives_checks, paths_checks, rows_checks, numbers_checks, edges_checks, commands_of, inner_checks, site_checks, checks}
 use Rattle.ps_compile.specs.Compiled.{one_owner}
 use Rattle.ps_compile.specs.Ends.{IsEndOf}
@@ -20,17 +21,13 @@ use Rattle.ps_tree.specs.declared.stmt.Stmt.{Stmt}
 
 -- ---- the plan
 
-counted : (m : ℕ) → length {A = Option ℕ} (replicate m (Some 0)) ≡ m
-counted zero = refl
-counted (suc m) = ap suc (counted m)
-
 -- where the body is laid out from
 laid_from : (body : List Stmt) (o0 o1 : Plan) (end : ℕ) → o0.owners.items ≡ Some 0 ∷ None ∷ [] → end ≡ start_of body 0 (length o0.owners.items) →
     o1.owners.items ≡ o0.owners.items ++ replicate (opened_of body) (Some 0) → sites_of body 0 end (length o1.owners.items) ≡ body_sites body 0 2
 laid_from body o0 o1 end first e owners =
     ap₂ (λ (z n : ℕ). sites_of body 0 z n) (e ∙ ap (λ (l : List (Option ℕ)). start_of body 0 (length l)) first)
     (ap (λ (l : List (Option ℕ)). length l) (owners ∙ ap (λ (l : List (Option ℕ)). l ++ replicate (opened_of body) (Some 0)) first)
-    ∙ (let f : suc (suc (length {A = Option ℕ} (replicate (opened_of body) (Some 0)))) ≡ 2 + opened_of body = omega (arith, counted (opened_of body)) in f))
+    ∙ (let f : suc (suc (length {A = Option ℕ} (replicate (opened_of body) (Some 0)))) ≡ 2 + opened_of body = omega (arith, length-replicate {A = Option ℕ} (opened_of body) (Some 0)) in f))
 
 pub plan_made : (body : List Stmt) (o0 o1 o2 : Plan) (end : ℕ) → o0.owners.items ≡ Some 0 ∷ None ∷ [] → o0.drafts.items ≡ [] →
     end ≡ start_of body 0 (length o0.owners.items) → o1.owners.items ≡ o0.owners.items ++ replicate (opened_of body) (Some 0) → o1.drafts.items ≡ o0.drafts.items →
@@ -40,7 +37,7 @@ plan_made body o0 o1 o2 end first none e owners drafts g = record {
       (subst (λ (ds : List Draft). NoneIsExceeded (checks (length ds) (sites_of body 0 end (length o1.owners.items)))) (drafts ∙ none) g.free);
   drafts = g.drafts ∙ ap₂ (λ (ds : List Draft) (ss : List Site). ds ++ map draft_of (all_planned ss)) (drafts ∙ none) (laid_from body o0 o1 end first e owners);
   owners = g.owners ∙ ap (λ (l : List (Option ℕ)). l ++ replicate (inner_of body) (Some 0)) (owners ∙ ap (λ (l : List (Option ℕ)). l ++ replicate (opened_of body) (Some 0)) first)
-      ∙ ap (λ (l : List (Option ℕ)). Some 0 ∷ None ∷ l) (sym (replicate-add (Some 0) (opened_of body) (inner_of body)));
+      ∙ ap (λ (l : List (Option ℕ)). Some 0 ∷ None ∷ l) (replicate-append-replicate (opened_of body) (inner_of body) (Some 0));
 }
 
 pub plan_fails : (body : List Stmt) (o0 o1 : Plan) (end : ℕ) (why : CompileEnd) → o0.owners.items ≡ Some 0 ∷ None ∷ [] → o0.drafts.items ≡ [] →
@@ -52,17 +49,13 @@ plan_fails body o0 o1 end why first none e owners drafts h =
 
 -- ---- what holds of each edge
 
-pub all_append : {X : Type 0} (P : X → Type 0) (xs ys : List X) → AllByRecursion P xs → AllByRecursion P ys → AllByRecursion P (xs ++ ys)
-all_append P [] ys f g = g
-all_append P (x ∷ xs) ys f g = (f.0, all_append P xs ys f.1 g)
-
 -- of the edges of each site
 pub each_site : (P : Draft → Type 0) (Q : Site → Type 0) → ((s : Site) → Q s → AllByRecursion P (map draft_of (planned_at s))) → (ss : List Site) → AllByRecursion Q ss →
     AllByRecursion P (map draft_of (all_planned ss))
 each_site P Q f [] h = tt
 each_site P Q f (s ∷ ss) h =
     subst (AllByRecursion P) (sym (map-append draft_of (planned_at s) (all_planned ss)))
-    (all_append P (map draft_of (planned_at s)) (map draft_of (all_planned ss)) (f s h.0) (each_site P Q f ss h.1))
+    (all_joined P (map draft_of (planned_at s)) (map draft_of (all_planned ss)) (f s h.0) (each_site P Q f ss h.1))
 
 -- locations fit
 places_fit : (body : List Stmt) (size : ℕ) → size < 2 ^ 32 → 2 + body_size body ≡ size → AllByRecursion FitsEdge (map draft_of (all_planned (body_sites body 0 2)))
@@ -81,7 +74,7 @@ places_fit body size l e = each_site FitsEdge (λ (s : Site). Ours (body_size bo
     of_site s h = of_paths s.at s.paths h.0 h.1
 
 owners_counted : (size : ℕ) → length (one_owner size) ≡ 2 + size
-owners_counted size = omega (arith, counted size)
+owners_counted size = omega (arith, length-replicate {A = Option ℕ} size (Some 0))
 
 pub plan_fits : (body : List Stmt) (plan : Plan) → IsPlanOf body plan → length plan.owners.items < 2 ^ 32 → AllByRecursion FitsEdge plan.drafts.items
 plan_fits body plan p l =
@@ -118,7 +111,7 @@ have_forms : (n : ℕ) (ss : List Site) → NoneIsExceeded (checks n ss) → All
 have_forms n [] h = tt
 have_forms n (s ∷ ss) h =
     subst (AllByRecursion HasForm) (sym (map-append draft_of (planned_at s) (all_planned ss)))
-    (all_append HasForm (map draft_of (planned_at s)) (map draft_of (all_planned ss)) (site_has_forms n s (none_left (site_checks n s) (checks (n + length s.paths) ss) h))
+    (all_joined HasForm (map draft_of (planned_at s)) (map draft_of (all_planned ss)) (site_has_forms n s (none_left (site_checks n s) (checks (n + length s.paths) ss) h))
     (have_forms (n + length s.paths) ss (none_right (site_checks n s) (checks (n + length s.paths) ss) h)))
 
 pub plan_has_forms : (body : List Stmt) (plan : Plan) → IsPlanOf body plan → AllByRecursion (λ (d : Draft). ¬ (¬ FormFits d.route.command.ops)) plan.drafts.items

@@ -1,5 +1,6 @@
 -- Paths one after another are routes one after another.
 use Rattle.std.proofs.Common.{◌≡◌, Bool, true, false, refl, sym, ◌∙◌, ap, ap₂, ℕ, suc, ◌-◌, ◌<◌, List, [], ◌∷◌, ◌++◌, map, length, drop, get_or, drop-cons, arith, if◌then◌else◌}
+use Rattle.std.proofs.lemmas.List.{map-append}
 use Rattle.ps_command.specs.declared.op.Op.{Op}
 use Rattle.ps_command.specs.declared.op.Op.TheVariants as op
 use Rattle.ps_graph.specs.declared.edge.Pick.TheVariants as pick
@@ -56,10 +57,6 @@ guarded_are holds false c = each (alternatives holds c)
     each : (alts : List (List Bound)) → map (guarded_route false) (map (map bound_row) alts) ≡ map route_of (map guarded_by alts)
     each [] = refl
     each (bs ∷ alts) = ap₂ (λ (r : Route) (rs : List Route). r ∷ rs) (guarded_is bs) (each alts)
-
-map-append : {X Y : Type 0} (f : X → Y) (xs ys : List X) → map f (xs ++ ys) ≡ map f xs ++ map f ys
-map-append f [] ys = refl
-map-append f (x ∷ xs) ys = ap (λ l. f x ∷ l) (map-append f xs ys)
 
 one_joins : (p : List Act) (qs : List (List Act)) → is_failing p ≡ false → map route_of (map (λ (q : List Act). p ++ q) qs) ≡ map (join (route_of p)) (map route_of qs)
 one_joins p [] e = refl

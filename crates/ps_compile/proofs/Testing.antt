@@ -54,14 +54,6 @@ still_end done left all s end h = s.end end (end_left done left end h)
 
 -- ---- sites one after another
 
-length-map : {X Y : Type 0} (f : X → Y) (xs : List X) → length (map f xs) ≡ length xs
-length-map f [] = refl
-length-map f (x ∷ xs) = ap (λ (n : ℕ). suc n) (length-map f xs)
-
-pub map-append : {X Y : Type 0} (f : X → Y) (xs ys : List X) → map f (xs ++ ys) ≡ map f xs ++ map f ys
-map-append f [] ys = refl
-map-append f (x ∷ xs) ys = ap (λ l. f x ∷ l) (map-append f xs ys)
-
 planned_append : (ss ts : List Site) → all_planned (ss ++ ts) ≡ all_planned ss ++ all_planned ts
 planned_append [] ts = refl
 planned_append (s ∷ ss) ts = ap (λ (l : List Planned). planned_at s ++ l) (planned_append ss ts) ∙ sym (append_assoc (planned_at s) (all_planned ss) (all_planned ts))
@@ -73,7 +65,7 @@ edges_cons : (s : Site) (ss : List Site) → edges_in (s ∷ ss) ≡ length s.pa
 edges_cons s ss =
     ap (λ (l : List Draft). length l) (map-append draft_of (planned_at s) (all_planned ss))
     ∙ length-append (map draft_of (planned_at s)) (map draft_of (all_planned ss))
-    ∙ ap (λ (n : ℕ). n + edges_in ss) (length-map draft_of (planned_at s) ∙ length-map (λ (p : List Act × ℕ). let w : Planned = record { source = s.at; path = p.0; goal = p.1 } in w) s.paths)
+    ∙ ap (λ (n : ℕ). n + edges_in ss) (length-map (planned_at s) draft_of ∙ length-map s.paths (λ (p : List Act × ℕ). let w : Planned = record { source = s.at; path = p.0; goal = p.1 } in w))
 
 pub checks_append : (n : ℕ) (ss ts : List Site) → checks n (ss ++ ts) ≡ checks n ss ++ checks (n + edges_in ss) ts
 checks_append n [] ts = ap (λ (m : ℕ). checks m ts) (let e : n ≡ n + 0 = omega arith in e)
@@ -90,10 +82,6 @@ checks_append n (s ∷ ss) ts =
 grown : (body : ℕ) (a b : Plan) (ss : List Site) (m : ℕ) → Grows body a b ss m → length b.drafts.items ≡ length a.drafts.items + edges_in ss
 grown body a b ss m g = ap (λ (l : List Draft). length l) g.drafts ∙ length-append a.drafts.items (map draft_of (all_planned ss))
 
-pub replicate-add : (x : Option ℕ) (m n : ℕ) → replicate (m + n) x ≡ replicate m x ++ replicate n x
-replicate-add x zero n = ap (λ (k : ℕ). replicate k x) (let e : 0 + n ≡ n = omega arith in e)
-replicate-add x (suc m) n = ap (λ (k : ℕ). replicate k x) (let e : suc m + n ≡ suc (m + n) = omega arith in e) ∙ ap (λ (l : List (Option ℕ)). x ∷ l) (replicate-add x m n)
-
 pub grows_both : (body : ℕ) (a b c : Plan) (ss ts : List Site) (m n : ℕ) → Grows body a b ss m → Grows body b c ts n → Grows body a c (ss ++ ts) (m + n)
 grows_both body a b c ss ts m n g h = record {
   free = subst NoneIsExceeded (sym (checks_append (length a.drafts.items) ss ts))
@@ -105,7 +93,7 @@ grows_both body a b c ss ts m n g h = record {
       ∙ ap (λ (l : List Planned). a.drafts.items ++ map draft_of l) (sym (planned_append ss ts));
   owners = h.owners ∙ ap (λ (l : List (Option ℕ)). l ++ replicate n (Some body)) g.owners
       ∙ append_assoc a.owners.items (replicate m (Some body)) (replicate n (Some body))
-      ∙ ap (λ (l : List (Option ℕ)). a.owners.items ++ l) (sym (replicate-add (Some body) m n));
+      ∙ ap (λ (l : List (Option ℕ)). a.owners.items ++ l) (replicate-append-replicate m n (Some body));
 }
 
 pub end_first : (n : ℕ) (ss ts : List Site) (end : CompileEnd) → IsEndOf (checks n ss) end → IsEndOf (checks n (ss ++ ts)) end
@@ -148,7 +136,7 @@ laying_more body first now next done left all k m n l g = record {
       ∙ ap (λ (i : List Planned). now.drafts.items ++ map draft_of i) (sym (planned_append done left)) ∙ l.drafts;
   owners = ap (λ (i : List (Option ℕ)). i ++ replicate m (Some body)) g.owners
       ∙ append_assoc now.owners.items (replicate k (Some body)) (replicate m (Some body))
-      ∙ ap (λ (i : List (Option ℕ)). now.owners.items ++ i) (sym (replicate-add (Some body) k m)) ∙ l.owners;
+      ∙ ap (λ (i : List (Option ℕ)). now.owners.items ++ i) (replicate-append-replicate k m (Some body)) ∙ l.owners;
 }
 
 pub laying_end : (body : ℕ) (first now : Plan) (done left all : List Site) (m n : ℕ) → Laying body first now (done ++ left) all m n →
@@ -211,4 +199,4 @@ lays_after (Ok x) body a b c ss ts m n g h = grows_both body a b c ss ts m n g h
 lays_after (Err e) body a b c ss ts m n g h = end_second body a b ss ts m e g h
 
 pub commands_count : (drafts : List Draft) → length (commands_on drafts) ≡ length drafts
-commands_count drafts = length-map (λ (l : Draft). l.route.command.ops) drafts
+commands_count drafts = length-map drafts (λ (l : Draft). l.route.command.ops)
