@@ -1,6 +1,7 @@
 //! What comes of the input of a case, by its kind.
 use crate::decimals::{integer, natural, natural32};
 use crate::forms::{cut_lines, cut_tokens, read_a_term, reprinted_rows};
+use crate::graphs::{graph, size};
 use crate::pipes::{read_whole, write_whole};
 use crate::programs::{printed, printed_again, read};
 use crate::runs::{over_sink, over_source, refuting, with_words};
@@ -34,6 +35,8 @@ fn answer_alone(alloc: Global, kind: &str, input: &[u8]) -> Result<Vec<u8>, Allo
         "prints" => printed(alloc, input),
         "again" => printed_again(alloc, input),
         "tree" => tree(alloc, input),
+        "graph" => graph(alloc, input),
+        "size" => size(alloc, input),
         "tokens" => cut_tokens(alloc, input),
         "lines" => cut_lines(alloc, input),
         "natural" => natural(alloc, input),

@@ -9,6 +9,7 @@ mod case;
 mod decimals;
 mod escapes;
 mod forms;
+mod graphs;
 mod pipes;
 mod programs;
 mod rows;

@@ -1,4 +1,7 @@
 //! Program texts: whether they are read, and what is printed of them.
+ghost use Rattle.std.specs.Prelude.{IfOk};
+ghost use Rattle.ps_grammar.specs.Programs.{IsProgram};
+
 use crate::words::word;
 use ps_syntax::{Program, print_program, read_program, refusal_line};
 use std::alloc::{AllocError, Global};
@@ -18,7 +21,9 @@ pub fn read(alloc: Global, text: &[u8]) -> Result<Vec<u8>, AllocError> {
 }
 
 /// The program that the text is.
-pub fn program_of(alloc: Global, text: &[u8]) -> Result<Program, AllocError> {
+pub fn program_of(alloc: Global, text: &[u8]) -> Result<Program, AllocError>
+    ensures { IfOk result (IsProgram text.now) }
+{
     if text.len() > MOST_BYTES {
         return Err(AllocError);
     }

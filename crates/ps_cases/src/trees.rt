@@ -18,7 +18,8 @@ pub fn tree(alloc: Global, text: &[u8]) -> Result<Vec<u8>, AllocError> {
     Ok(out)
 }
 
-fn put_var(out: &mut Vec<u8>, variable: Var) -> Result<(), AllocError> {
+/// Appends the variable: `g0` for the first global, `l0` for the first local.
+pub fn put_var(out: &mut Vec<u8>, variable: Var) -> Result<(), AllocError> {
     match variable {
         Var::Global(n) => {
             put_word(out, b"g")?;

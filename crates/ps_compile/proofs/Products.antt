@@ -3,6 +3,7 @@ use Rattle.std.proofs.Common.{◌≡◌, refl, sym, ap, subst, ℕ, ◌+◌, ◌
 use Rattle.std.specs.Prelude.{Option, Some, None}
 use Rattle.std.specs.Int.{w128}
 use Rattle.std.proofs.lemmas.Int.{ints}
+use Rattle.ps_compile.proofs.Members.{all_at}
 use Rattle.ps_compile.proofs.Worth.{product_value, product_canonical}
 use Rattle.ps_compile.specs.Ops.{with_product, with_products}
 use Rattle.ps_term.specs.Exact.{number_term, with_pair}
@@ -14,7 +15,8 @@ use Rattle.ps_term.specs.Sums.{ScaledFits, TermFits}
 use Rattle.ps_term.specs.Term.{value, variable_term}
 use Rattle.ps_term.specs.declared.term.Term.{Term}
 use Rattle.ps_term.specs.declared.var.Var.{Var}
-use Rattle.ps_compile.specs.inner.Near.{AreSmall, IsNear, IsNearTerm, MOST_NUMBER}
+use Rattle.ps_compile.specs.Conditions.{number_bound}
+use Rattle.ps_compile.specs.inner.Near.{AreSmall, IsNear, IsNearTerm}
 use Rattle.ps_term.proofs.Uniqueness.{unit_at, pairs_value-unit_at}
 use Rattle.ps_term.specs.Var.{var_eq}
 
@@ -97,23 +99,18 @@ product_near k m n (Some y) t h i = (
     at x true = near_more k m (coefficient x t.pairs) n (h.0 x) i
     at x false = near_more k m (coefficient x t.pairs) (pos 0) (h.0 x) (omega (arith, ints), omega (arith, ints))
 
-products_near : (k : ℕ) (by : ℤ) (ps : List (ℤ × Option Var)) (t : Term) → IsNearTerm k t → AreSmall by ps →
-    IsNearTerm (k + length ps * MOST_NUMBER) (with_products by ps t)
-products_near k by [] t h s = subst (λ (n : ℕ). IsNearTerm n t) (let e : k ≡ k + 0 * MOST_NUMBER = omega arith in e) h
+pub products_near : (k : ℕ) (by : ℤ) (ps : List (ℤ × Option Var)) (t : Term) → IsNearTerm k t → AreSmall by ps →
+    IsNearTerm (k + length ps * number_bound) (with_products by ps t)
+products_near k by [] t h s = subst (λ (n : ℕ). IsNearTerm n t) (let e : k ≡ k + 0 * number_bound = omega arith in e) h
 products_near k by (p ∷ ps) t h s =
     subst (λ (n : ℕ). IsNearTerm n (with_products by (p ∷ ps) t))
-    (let e : (k + length ps * MOST_NUMBER) + MOST_NUMBER ≡ k + length (p ∷ ps) * MOST_NUMBER = omega arith in e)
-    (product_near (k + length ps * MOST_NUMBER) MOST_NUMBER (by *ℤ p.0) p.1 (with_products by ps t) (products_near k by ps t h s.1) s.0)
+    (let e : (k + length ps * number_bound) + number_bound ≡ k + length (p ∷ ps) * number_bound = omega arith in e)
+    (product_near (k + length ps * number_bound) number_bound (by *ℤ p.0) p.1 (with_products by ps t) (products_near k by ps t h s.1) s.0)
 
 small_rest : (by : ℤ) (i : ℕ) (ps : List (ℤ × Option Var)) → AreSmall by ps → AreSmall by (drop i ps)
 small_rest by zero ps s = s
 small_rest by (suc i) [] s = tt
 small_rest by (suc i) (p ∷ ps) s = small_rest by i ps s.1
-
-small_at : (by : ℤ) (i : ℕ) (d : ℤ × Option Var) (ps : List (ℤ × Option Var)) → i < length ps → AreSmall by ps → IsNear MOST_NUMBER (by *ℤ (get_or ps i d).0)
-small_at by i d [] l s = let none : ⊥ = omega (arith, l) in absurd none
-small_at by zero d (p ∷ ps) l s = s.0
-small_at by (suc i) d (p ∷ ps) l s = small_at by i d ps (omega (arith, l)) s.1
 
 left_over : (n : ℕ) (ps : List (ℤ × Option Var)) → n < length ps → length (drop (suc n) ps) + 1 ≤ length ps
 left_over n [] l = let none : ⊥ = omega (arith, l) in absurd none
@@ -136,11 +133,11 @@ products_step by ps t sum new i n d one l e f =
 pub products_refused : (by : ℤ) (ps : List (ℤ × Option Var)) (t sum : Term) (i n : ℕ) (d : ℤ × Option Var) → i ≡ suc n → n < length ps →
     sum ≡ with_products by (drop i ps) t →
     ((k m : ℕ) → IsNearTerm k sum → IsNear m (by *ℤ (get_or ps n d).0) → k + m < 2 ^ 127 → ⊥) →
-    (k : ℕ) → IsNearTerm k t → AreSmall by ps → k + length ps * MOST_NUMBER < 2 ^ 127 → ⊥
+    (k : ℕ) → IsNearTerm k t → AreSmall by ps → k + length ps * number_bound < 2 ^ 127 → ⊥
 products_refused by ps t sum i n d one l e past k near small less =
     let left : length (drop (suc n) ps) + 1 ≤ length ps = left_over n ps l in
-    past (k + length (drop (suc n) ps) * MOST_NUMBER) MOST_NUMBER
-    (subst (IsNearTerm (k + length (drop (suc n) ps) * MOST_NUMBER)) (sym (e ∙ ap (λ (j : ℕ). with_products by (drop j ps) t) one))
+    past (k + length (drop (suc n) ps) * number_bound) number_bound
+    (subst (IsNearTerm (k + length (drop (suc n) ps) * number_bound)) (sym (e ∙ ap (λ (j : ℕ). with_products by (drop j ps) t) one))
     (products_near k by (drop (suc n) ps) t near (small_rest by (suc n) ps small)))
-    (small_at by n d ps l small)
-    (let within : (k + length (drop (suc n) ps) * MOST_NUMBER) + MOST_NUMBER < 2 ^ 127 = omega (arith, left, less) in within)
+    (all_at (λ (p : ℤ × Option Var). IsNear number_bound (by *ℤ p.0)) ps n d l small)
+    (let within : (k + length (drop (suc n) ps) * number_bound) + number_bound < 2 ^ 127 = omega (arith, left, less) in within)

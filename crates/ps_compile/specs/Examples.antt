@@ -1,4 +1,7 @@
--- Worked examples: how bodies are laid out, the rows of initial states, and which limit is exceeded first.
+-- Worked examples: how bodies are laid out, the rows of initial states, which limit is exceeded first, and which programs
+-- can be compiled.
 pub mod Bodies
+pub mod Conditions
 pub mod Limits
+pub mod Programs
 pub mod Starts

@@ -1,5 +1,7 @@
 pub mod Checks
 pub mod Compiled
+pub mod Conditions
+pub mod Ends
 pub mod Examples
 pub mod Kept
 pub mod Layout

@@ -2,8 +2,11 @@
 ghost use Rattle.std.specs.Prelude.{List, ℕ};
 ghost use Rattle.ps_command.specs.declared.command.Command.{Command};
 ghost use Rattle.ps_compile.specs.Compiled.{IsCompiled, IsLaidOut, NoneIsNotEqual};
+ghost use Rattle.ps_compile.specs.Conditions.{IsCompilable};
 ghost use Rattle.ps_compile.specs.Kept.{KeepsFacts};
 ghost use Rattle.ps_compile.specs.Layout.{body_size};
+ghost use Rattle.ps_grammar.specs.Programs.{IsProgram};
+ghost use Rattle.ps_grammar.specs.Texts.{IsTreeOfText};
 ghost use Rattle.ps_graph.specs.Errors.{ErrorsAreTraces, IsGraphOf, IsSafeExactly};
 ghost use Rattle.ps_graph.specs.Facts.{IsDeterministic};
 ghost use Rattle.ps_graph.specs.declared.edge.Edge.{Edge};
@@ -33,4 +36,12 @@ pub fn facts_are_kept()
     ensures deterministic { (body : List Stmt) (locations : ℕ) (commands : List Command)
         (edges : List Edge)
         → IsLaidOut body locations commands edges → IsDeterministic commands edges }
+{}
+
+/// Each program that is read can be compiled, and so can each tree of a text of the grammar that
+/// fits.
+pub fn programs_are_compilable()
+    ensures read { (bytes : List ℕ) (program : Program)
+        → IsProgram bytes program → IsCompilable program }
+    ensures trees { (program : Program) → IsTreeOfText program → IsCompilable program }
 {}

@@ -1,7 +1,8 @@
 // The terms of sums and bounds, product by product.
 ghost use Rattle.std.specs.Prelude.{◌≡◌, ◌+◌, ◌*◌, ◌<◌, ◌^◌, ◌*ℤ◌, ℕ, IfOk, IsErrOf, length};
+ghost use Rattle.ps_compile.specs.Conditions.{number_bound};
 ghost use Rattle.ps_compile.specs.Ops.{with_product, with_products};
-ghost use Rattle.ps_compile.specs.inner.Near.{AreSmall, IsNear, IsNearTerm, MOST_NUMBER};
+ghost use Rattle.ps_compile.specs.inner.Near.{AreSmall, IsNear, IsNearTerm};
 
 use ps_term::{Term, TermEnd, Var, add_scaled};
 use std::alloc::Global;
@@ -70,7 +71,7 @@ pub(crate) fn add_products(
     ensures is { IfOk result (λ sum. sum ≡ with_products by products.now term) }
     ensures past { IsErrOf result TermEnd.Past128 → (k : ℕ)
         → IsNearTerm k term → AreSmall by products.now
-        → k + length products.now * MOST_NUMBER < 2 ^ 127 → ⊥ }
+        → k + length products.now * number_bound < 2 ^ 127 → ⊥ }
 {
     let mut sum = term;
     for i in (0..products.len()).rev() {

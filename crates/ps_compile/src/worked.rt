@@ -1,6 +1,8 @@
 //! Worked examples of the definitions: each function does no work, and its clauses are the examples.
 ghost use Rattle.ps_compile.specs.Examples.Bodies.{BlocksAreLaidOut, BranchIsLaidOut, CounterIsLaidOut, EmptyBlocksAreLaidOut, LockIsLaidOut, LoopIsLaidOut, NestedIfIsLaidOut, OtherEntriesServe};
+ghost use Rattle.ps_compile.specs.Examples.Conditions.{LargerNumbersAreNot, LoopsInAtomicBlocksAreNot, OtherNamesAreNot, UnequalStartsAreNot, UpToTheBoundsIsCompiled};
 ghost use Rattle.ps_compile.specs.Examples.Limits.{AlternativesAreCounted, LocationsAndEdgesAreCounted, PathsAreCounted, PathsComeFirst, RowsAreCounted};
+ghost use Rattle.ps_compile.specs.Examples.Programs.{HalfIsLaidOut, PoolIsLaidOut, RaceIsLaidOut};
 ghost use Rattle.ps_compile.specs.Examples.Starts.{CancelledLocalsHoldOnce, StartRowsAre};
 
 /// The edges and commands of small bodies, by their numbers.
@@ -13,6 +15,13 @@ pub fn bodies()
     ensures blocks { BlocksAreLaidOut }
     ensures empty { EmptyBlocksAreLaidOut }
     ensures entries { OtherEntriesServe }
+{}
+
+/// The edges and commands of programs that stand among the repository's examples.
+pub fn programs()
+    ensures half { HalfIsLaidOut }
+    ensures race { RaceIsLaidOut }
+    ensures pool { PoolIsLaidOut }
 {}
 
 /// The rows that hold at the start of a program.
@@ -28,4 +37,13 @@ pub fn limits()
     ensures first { PathsComeFirst }
     ensures rows { RowsAreCounted }
     ensures locations { LocationsAndEdgesAreCounted }
+{}
+
+/// Programs that can be compiled, and programs that can't.
+pub fn conditions()
+    ensures largest { UpToTheBoundsIsCompiled }
+    ensures larger { LargerNumbersAreNot }
+    ensures others { OtherNamesAreNot }
+    ensures unequal { UnequalStartsAreNot }
+    ensures loops { LoopsInAtomicBlocksAreNot }
 {}

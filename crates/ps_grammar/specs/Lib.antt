@@ -6,4 +6,5 @@ pub mod Numbers
 pub mod Declarations
 pub mod Trees
 pub mod Fits
+pub mod Texts
 pub mod Programs

@@ -17,8 +17,8 @@ use Rattle.ps_print.specs.Printed.{stmts_text, unplaced_kind, unplaced_rest}
 use Rattle.ps_grammar.specs.Spelling.{Mark, cond_pieces, rest_pieces, stmt_pieces, sum_pieces, test_pieces}
 use Rattle.ps_grammar.specs.Trees.{block_trees, cond_tree, stmt_tree, sum_tree, test_tree}
 use Rattle.ps_print.proofs.BlockPieces.{block_is}
-use Rattle.ps_print.specs.ReadBack.{ArePieces}
-use Rattle.ps_print.proofs.Spelled.{joined, left, right}
+use Rattle.ps_grammar.specs.Texts.{ArePieces}
+use Rattle.ps_grammar.proofs.Texts.{joined, left, right}
 use Rattle.ps_print.proofs.SumsBack.{known_again, name_again, sum_good, variable_again}
 use Rattle.ps_print.proofs.CondsBack.{GoodTest, cond_good, test_good}
 

@@ -13,8 +13,8 @@ use Rattle.ps_grammar.specs.Fits.{CondFits, ConjFits, TestFits, UnaryFits}
 use Rattle.ps_grammar.specs.Grammar.{CondText, last_conj, or_else, ConjText, last_unary, and_also, UnaryText, negation, in_parens, relation, TestText, either, condition}
 use Rattle.ps_grammar.specs.Spelling.{Mark, cond_pieces, conj_pieces, test_pieces, unary_pieces}
 use Rattle.ps_grammar.specs.Trees.{cond_members, cond_tree, conj_members, gathered, test_tree, unary_tree}
-use Rattle.ps_print.specs.ReadBack.{ArePieces}
-use Rattle.ps_print.proofs.Spelled.{joined, left, right}
+use Rattle.ps_grammar.specs.Texts.{ArePieces}
+use Rattle.ps_grammar.proofs.Texts.{joined, left, right}
 use Rattle.ps_print.proofs.SumsBack.{relation_good}
 
 -- ---- more levels fit as well

@@ -11,7 +11,8 @@ use Rattle.ps_token.specs.declared.token_kind.TokenKind.TheVariants as kind
 use Rattle.ps_token.proofs.WrittenWords.{words_are_tokens}
 use Rattle.ps_tree.specs.declared.program.Program.{Program}
 use Rattle.ps_print.specs.Printed.{byte_after, piece_text, printed, printed_program, program_text}
-use Rattle.ps_print.specs.ReadBack.{ArePieces, IsMark, IsPiece, IsTreeOfText, ReadsBack, token_piece}
+use Rattle.ps_grammar.specs.Texts.{ArePieces, IsMark, IsPiece, IsTreeOfText}
+use Rattle.ps_print.specs.ReadBack.{ReadsBack, token_piece}
 use Rattle.ps_grammar.specs.Spelling.{Piece, NamePiece, NumberPiece, Mark, piece_of_kind, program_pieces}
 use Rattle.ps_grammar.specs.Trees.{program_tree}
 use Rattle.ps_print.proofs.ProgramBack.{PrintedBack, program_back}

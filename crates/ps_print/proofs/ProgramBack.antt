@@ -23,8 +23,9 @@ use Rattle.ps_print.specs.Printed.{global_item, init_item, program_text, unplace
 use Rattle.ps_grammar.specs.Spelling.{NumberPiece, Mark, item_pieces, minus_pieces, more_relations, program_pieces, relation_pieces, rest_pieces, value_pieces}
 use Rattle.ps_grammar.specs.Numbers.{signed}
 use Rattle.ps_grammar.specs.Trees.{block_trees, program_tree, relation_tree, rows_of_relations, value_of, with_item, with_items}
-use Rattle.ps_print.specs.ReadBack.{ArePieces}
-use Rattle.ps_print.proofs.Spelled.{abs_signed, decimal_spelled, decimal_value, joined, left, right, signed_abs, value_below}
+use Rattle.ps_grammar.specs.Texts.{ArePieces}
+use Rattle.ps_grammar.proofs.Texts.{joined, left, right, value_below}
+use Rattle.ps_print.proofs.Spelled.{abs_signed, decimal_spelled, decimal_value, signed_abs}
 use Rattle.ps_print.proofs.SumsBack.{GoodRelation, minus_spelled, relation_good}
 use Rattle.ps_print.proofs.BlocksBack.{block_good, without_place}
 use Rattle.ps_print.proofs.NamesApart.{Apart, apart_before, apart_insert, apart_left, Extends, global_extends, local_extends, new_from, new_to, not_in_both, not_in_left, not_in_right, relation_more}

@@ -1,46 +1,23 @@
--- Pieces whose names and numbers are spelled as such, and what is printed of numbers and names.
-use Rattle.std.proofs.Common.{◌≡◌, ◌≢◌, ℕ, zero, suc, ◌+◌, ◌^◌, ◌<◌, ◌≤◌, ℤ, pos, negsuc, Bool, true, false, List, [], ◌∷◌, ◌++◌, length, get_or, Option, Some, None, refl, sym, ◌∙◌, ap, arith}
+-- What is printed of numbers and names.
+use Rattle.std.proofs.Common.{◌≡◌, ◌≢◌, ℕ, zero, suc, ◌+◌, ◌^◌, ◌<◌, ℤ, pos, negsuc, Bool, true, false, List, [], ◌∷◌, get_or, Option, Some, None, refl, sym, ◌∙◌, ap, arith}
 use Rattle.std.specs.Prelude.{decimal, unsigned_abs, option_map, if◌then◌else◌}
 use Rattle.std.specs.Str.{bytes_eq}
-use Rattle.std.specs.Str.Parse.{digits_value}
-use Rattle.std.proofs.Math.Nat.{pow-le-pow_right}
 use Rattle.std.proofs.lemmas.Bool.{le-ltb}
 use Rattle.std.proofs.lemmas.Fmt.{decimal_is_IsNumeral_wide, length-decimal-le_wide}
-use Rattle.std.proofs.lemmas.Int.Digits.{digits_value-lt}
 use Rattle.std.proofs.lemmas.Slice.Eq.{bytes_eq-Decides}
 use Rattle.ps_term.specs.declared.var.Var.{Var}
 use Rattle.ps_term.specs.declared.var.Var.TheVariants.{Global, Local}
 use Rattle.ps_token.specs.Lexing.{IsNumber}
 use Rattle.ps_lines.proofs.Decimals.{decimal-is}
-use Rattle.ps_lines.proofs.Digits.{AllDigits-from, are_digits-from}
+use Rattle.ps_lines.proofs.Digits.{are_digits-from}
 use Rattle.ps_token.proofs.Front.{digits_are}
 use Rattle.ps_grammar.specs.Names.{Names, first_of, position_from}
 use Rattle.ps_print.specs.Canonical.{is_negative, name_of}
 use Rattle.ps_grammar.specs.Fits.{IsKnown}
-use Rattle.ps_grammar.specs.Spelling.{Piece}
-use Rattle.ps_print.specs.ReadBack.{ArePieces}
 use Rattle.ps_grammar.specs.Numbers.{number_value, signed}
 use Rattle.ps_grammar.specs.Trees.{variable_named, variable_or_first}
 
-pub joined : (ps qs : List Piece) → ArePieces ps → ArePieces qs → ArePieces (ps ++ qs)
-joined [] qs h k = k
-joined (p ∷ ps) qs h k = (h.0, joined ps qs h.1 k)
-
-pub left : (ps qs : List Piece) → ArePieces (ps ++ qs) → ArePieces ps
-left [] qs h = tt
-left (p ∷ ps) qs h = (h.0, left ps qs h.1)
-
-pub right : (ps qs : List Piece) → ArePieces (ps ++ qs) → ArePieces qs
-right [] qs h = h
-right (p ∷ ps) qs h = right ps qs h.1
-
 -- ---- numbers
-
-pub value_below : (digits : List ℕ) → IsNumber digits → digits_value 10 digits < 10 ^ 18
-value_below digits h =
-    let positive : 0 < 10 = omega arith in
-    let short : 10 ^ length digits ≤ 10 ^ 18 = pow-le-pow_right positive h.few in
-    omega (arith, digits_value-lt 10 digits (AllDigits-from digits h.digits))
 
 pub decimal_spelled : (n : ℕ) → n < 10 ^ 18 → IsNumber (decimal n)
 decimal_spelled n small =

@@ -16,8 +16,9 @@ use Rattle.ps_grammar.specs.Grammar.{ProductText, name, name_number, number, num
 use Rattle.ps_grammar.specs.Spelling.{further_pieces, minus_pieces, plus_or_minus, product_pieces, relation_pieces, sign_kind, sum_pieces}
 use Rattle.ps_grammar.specs.Numbers.{number_value, signed}
 use Rattle.ps_grammar.specs.Trees.{product_tree, relation_tree, sum_tree, variable_named}
-use Rattle.ps_print.specs.ReadBack.{ArePieces, IsMark}
-use Rattle.ps_print.proofs.Spelled.{abs_signed, decimal_spelled, decimal_value, joined, left, named, right, signed_abs, value_below}
+use Rattle.ps_grammar.specs.Texts.{ArePieces, IsMark}
+use Rattle.ps_grammar.proofs.Texts.{joined, left, right, value_below}
+use Rattle.ps_print.proofs.Spelled.{abs_signed, decimal_spelled, decimal_value, named, signed_abs}
 
 -- ---- products
 

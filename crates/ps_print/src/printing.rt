@@ -4,7 +4,8 @@ ghost use Rattle.std.specs.Prelude.{◌≡◌, ◌++◌, [], ◌∷◌, ℕ, Lis
 ghost use Rattle.std.specs.List.{flat_map};
 ghost use Rattle.ps_grammar.specs.Grammar.{local};
 ghost use Rattle.ps_print.specs.Printed.{global_item, init_item, Puts, printed_program, value_text};
-ghost use Rattle.ps_print.specs.ReadBack.{IsTreeOfText, ReadsBack};
+ghost use Rattle.ps_grammar.specs.Texts.{IsTreeOfText};
+ghost use Rattle.ps_print.specs.ReadBack.{ReadsBack};
 ghost use Rattle.ps_grammar.specs.Spelling.{item_pieces, value_pieces};
 ghost use Rattle.ps_grammar.specs.Programs.{IsProgram};
 ghost use Rattle.ps_print.specs.ReadBack.{IsSameProgram};

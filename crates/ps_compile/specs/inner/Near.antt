@@ -1,6 +1,7 @@
 -- Numbers, and terms, within a distance of 0.
 use Rattle.std.specs.Prelude.{ℕ, ℤ, pos, neg_ℤ, ◌*ℤ◌, ◌≤ℤ◌, List, Option}
 use Rattle.std.specs.List.{AllByRecursion}
+use Rattle.ps_compile.specs.Conditions.{number_bound}
 use Rattle.ps_term.specs.Pairs.{coefficient}
 use Rattle.ps_term.specs.declared.term.Term.{Term}
 use Rattle.ps_term.specs.declared.var.Var.{Var}
@@ -13,10 +14,6 @@ IsNear k n = (neg_ℤ (pos k) ≤ℤ n) × (n ≤ℤ pos k)
 abbrev pub IsNearTerm : ℕ → Term → Type 0
 IsNearTerm k t = ((x : Var) → IsNear k (coefficient x t.pairs)) × IsNear k t.constant
 
--- no number of a program text is farther from 0
-abbrev pub MOST_NUMBER : ℕ
-MOST_NUMBER = 1000000000000000000
-
 -- no product, so many times, is farther from 0
 abbrev pub AreSmall : ℤ → List (ℤ × Option Var) → Type 0
-AreSmall by products = AllByRecursion (λ (p : ℤ × Option Var). IsNear MOST_NUMBER (by *ℤ p.0)) products
+AreSmall by products = AllByRecursion (λ (p : ℤ × Option Var). IsNear number_bound (by *ℤ p.0)) products

@@ -6,7 +6,8 @@ use Rattle.ps_tree.specs.declared.stmt.Stmt.{Stmt}
 use Rattle.ps_grammar.specs.Grammar.{local}
 use Rattle.ps_grammar.specs.Names.{Names}
 use Rattle.ps_print.specs.Printed.{global_item, init_item, printed_program, program_names, Puts, stmts_text}
-use Rattle.ps_print.specs.ReadBack.{IsTreeOfText, ReadsBack}
+use Rattle.ps_grammar.specs.Texts.{IsTreeOfText}
+use Rattle.ps_print.specs.ReadBack.{ReadsBack}
 use Rattle.ps_grammar.specs.Spelling.{block_pieces, item_pieces}
 use Rattle.ps_print.proofs.BlockPieces.{whole}
 use Rattle.ps_print.proofs.PrintedTokens.{reads_back}

@@ -1,0 +1,8 @@
+use Rattle.std.proofs.Common.{drop}
+use Rattle.ps_compile.specs.Checks.{numbers_checks}
+use Rattle.ps_compile.specs.inner.Drafts.{commands_on}
+use Rattle.ps_compile.proofs.Testing.{StillTests}
+use Rattle.ps_compile.proofs.limits_edges.test_numbers.Given as goal
+
+abbrev pub invariant-loop-draft : goal.invariant-loop-draft
+invariant-loop-draft l = StillTests (numbers_checks l.place (commands_on (drop l.draft-index l.due))) (numbers_checks l.place (commands_on l.due))
