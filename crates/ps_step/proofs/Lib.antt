@@ -1,0 +1,12 @@
+pub mod Moved
+pub mod Counter
+pub mod CounterSteps
+pub mod Picked
+pub mod Sent
+pub mod Demanding
+pub mod Pulled
+pub mod Least
+pub mod Numbered
+pub mod Smallest
+pub mod Expanding
+pub mod Fewer

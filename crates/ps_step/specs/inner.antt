@@ -1,0 +1,4 @@
+pub mod Back
+pub mod Demands
+pub mod Numbered
+pub mod Parts
