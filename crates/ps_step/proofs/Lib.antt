@@ -10,3 +10,8 @@ pub mod Numbered
 pub mod Smallest
 pub mod Expanding
 pub mod Fewer
+pub mod Pooling
+pub mod Scanning
+pub mod LeastSets
+pub mod Seen
+pub mod Accepts

@@ -63,10 +63,18 @@ pub record IsSmallest (graph : Graph) (entries : List Entry) (from : Configurati
   pub least : (atoms : List Atom) → IsPart atoms to.atoms →
       Stands graph entries from number thread (record { at = to.at; atoms = atoms }) → IsPart to.atoms atoms
 
+-- every located thread is at one of these locations
+abbrev pub AreEntered : List ℕ → List (ℕ × ℕ) → Type 0
+AreEntered locations at = (thread location : ℕ) → Contains at (thread, location) → Contains locations location
+
+-- no atom has an initial entry
+abbrev pub AreUninitial : List Entry → List Atom → Type 0
+AreUninitial entries atoms = (q : Atom) → Contains atoms q → ¬ HasInitial entries q.predicate
+
 -- every located thread is at the entry of a body, and no atom has an initial entry
 pub record IsAccepting (graph : Graph) (entries : List Entry) (c : Configuration) : Type 0 where
-  pub entered : (thread location : ℕ) → IsAt c thread location → Contains graph.entries location
-  pub without : (q : Atom) → Contains c.atoms q → ¬ HasInitial entries q.predicate
+  pub entered : AreEntered graph.entries c.at
+  pub without : AreUninitial entries c.atoms
 
 -- no triple has a free thread
 abbrev pub AreTied : List Entry → Type 0

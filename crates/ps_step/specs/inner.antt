@@ -2,3 +2,5 @@ pub mod Back
 pub mod Demands
 pub mod Numbered
 pub mod Parts
+pub mod Pools
+pub mod Found

@@ -1,10 +1,17 @@
 //! Steps back from configurations: the smallest configurations before one, and which are accepting.
 #![tactic(auto)]
 
+mod accepted;
+mod demands;
 mod expand_end;
 mod expansion;
+mod found;
 pub mod laws;
+mod numbering;
+mod ranked;
+mod renaming;
 pub mod worked;
 
+pub use accepted::accepting;
 pub use expand_end::{ExpandEnd, MOST_SETS};
 pub use expansion::{Expansion, Successor};
