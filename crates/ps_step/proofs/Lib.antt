@@ -15,3 +15,4 @@ pub mod Scanning
 pub mod LeastSets
 pub mod Seen
 pub mod Accepts
+pub mod Going

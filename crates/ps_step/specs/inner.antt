@@ -4,3 +4,4 @@ pub mod Numbered
 pub mod Parts
 pub mod Pools
 pub mod Found
+pub mod Going

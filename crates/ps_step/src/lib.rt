@@ -2,6 +2,7 @@
 #![tactic(auto)]
 
 mod accepted;
+mod back;
 mod demands;
 mod expand_end;
 mod expansion;
