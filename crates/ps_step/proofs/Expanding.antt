@@ -33,19 +33,17 @@ sorted_append {K} c (x ∷ xs) ys hx hy h =
 below_then : (o p : Ordering) → o ≡ Less → ordering_then o p ≡ Less
 below_then o p h = ap (λ (q : Ordering). ordering_then q p) h
 
--- the steps done and one more
-abbrev pub WithStep : (ℕ → ℕ → Type 0) → ℕ → ℕ → ℕ → ℕ → Type 0
-WithStep Done e k number thread = Done number thread ⊎ ((number ≡ e) × (thread ≡ k))
+-- some steps and others after them
+abbrev pub Both : (ℕ → ℕ → Type 0) → (ℕ → ℕ → Type 0) → ℕ → ℕ → Type 0
+Both One Other number thread = One number thread ⊎ Other number thread
 
-pub one_step_more : (graph : Graph) (entries : List Entry) (from : Configuration) (fresh : ℕ) (Done : ℕ → ℕ → Type 0) (e k : ℕ) (list more : List Successor)
-    → ((number thread : ℕ) → Done number thread → step_cmp fresh number thread e k ≡ Less)
-    → AreSmallestOf graph entries from fresh Done list → AreSmallestOf graph entries from fresh (λ number thread. (number ≡ e) × (thread ≡ k)) more
-    → AreSmallestOf graph entries from fresh (WithStep Done e k) (list ++ more)
-one_step_more graph entries from fresh Done e k list more below a b = record {
+pub parts_more : (graph : Graph) (entries : List Entry) (from : Configuration) (fresh : ℕ) (One Other : ℕ → ℕ → Type 0) (list more : List Successor)
+    → ((n k m l : ℕ) → One n k → Other m l → step_cmp fresh n k m l ≡ Less)
+    → AreSmallestOf graph entries from fresh One list → AreSmallestOf graph entries from fresh Other more
+    → AreSmallestOf graph entries from fresh (Both One Other) (list ++ more)
+parts_more graph entries from fresh One Other list more below a b = record {
   ordered = sorted_append (successor_cmp fresh) list more a.ordered b.ordered (λ x y hx hy.
-      let here_is = (b.are y hy).0 in
-      below_then (step_cmp fresh x.edge x.thread y.edge y.thread) _ (subst (λ (n : ℕ). step_cmp fresh x.edge x.thread n y.thread ≡ Less) (sym here_is.0)
-      (subst (λ (n : ℕ). step_cmp fresh x.edge x.thread e n ≡ Less) (sym here_is.1) (below x.edge x.thread (a.are x hx).0))));
+      below_then (step_cmp fresh x.edge x.thread y.edge y.thread) _ (below x.edge x.thread y.edge y.thread (a.are x hx).0 (b.are y hy).0));
   are = λ s h. elim (Contains-append_cases list more s h) [
     | inl old ↦ (inl (a.are s old).0, (a.are s old).1)
     | inr new ↦ (inr (b.are s new).0, (b.are s new).1)
@@ -68,10 +66,9 @@ same_steps graph entries from fresh One Other list to back a = record {
 }
 
 -- every configuration that stands is covered by a successor
-pub successors_cover : (graph : Graph) (entries : List Entry) (from to : Configuration) (number thread fresh : ℕ) (list : List Successor) → AreTied entries
-    → (¬ Contains (threads_at from) fresh) → AreSuccessors graph entries from fresh list → Stands graph entries from number thread to
-    → (s : Successor) × Contains list s × Covers s.config to
-successors_cover graph entries from to number thread fresh list tied free are stands =
+pub successors_cover : (graph : Graph) (entries : List Entry) (from : Configuration) (fresh : ℕ) (list : List Successor) → AreTied entries
+    → (¬ Contains (threads_at from) fresh) → AreSuccessors graph entries from fresh list → CoverAll graph entries from list
+successors_cover graph entries from fresh list tied free are number thread to stands =
     let w = covered_by_smallest graph entries from to number thread fresh tied free stands in
     let v = are.every number w.0 w.1 w.2 w.3 in
     (v.0, v.1, covers_twice v.0.config w.1 to (covers_more v.0.config w.1 (λ t l h. (v.4.at t l).0 h) (λ q h. (v.4.atoms q).0 h)) w.4)

@@ -16,3 +16,7 @@ pub mod LeastSets
 pub mod Seen
 pub mod Accepts
 pub mod Going
+pub mod Over
+pub mod Same
+pub mod StepSets
+pub mod Turns

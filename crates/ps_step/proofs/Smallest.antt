@@ -34,7 +34,7 @@ hits_stands : (graph : Graph) (entries : List Entry) (from to : Configuration) (
 hits_stands graph entries from to edge thread tied g h = record { goes = g; meets = hits_meets entries from to thread edge.command tied h }
 
 -- the step of this number is along this edge
-at_edge : (graph : Graph) (entries : List Entry) (from to : Configuration) (edge : Edge) (number thread : ℕ) → slice_get graph.edges number ≡ Some edge → Stands graph entries from number thread to → StandsBy graph entries from edge thread to
+pub at_edge : (graph : Graph) (entries : List Entry) (from to : Configuration) (edge : Edge) (number thread : ℕ) → slice_get graph.edges number ≡ Some edge → Stands graph entries from number thread to → StandsBy graph entries from edge thread to
 at_edge graph entries from to edge number thread is s = subst (λ (e : Edge). StandsBy graph entries from e thread to) (same_Some s.edge edge (sym s.is_edge ∙ is)) s.stands
 
 -- a least hitting set makes a smallest configuration

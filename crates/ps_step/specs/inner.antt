@@ -3,5 +3,6 @@ pub mod Demands
 pub mod Numbered
 pub mod Parts
 pub mod Pools
+pub mod Sets
 pub mod Found
 pub mod Going

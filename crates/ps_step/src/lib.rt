@@ -11,6 +11,8 @@ pub mod laws;
 mod numbering;
 mod ranked;
 mod renaming;
+mod sizes;
+mod step;
 pub mod worked;
 
 pub use accepted::accepting;
