@@ -1,0 +1,6 @@
+pub mod Steps
+pub mod Closed
+pub mod Successors
+pub mod Wide
+pub mod Examples
+pub mod inner

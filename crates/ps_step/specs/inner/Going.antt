@@ -1,0 +1,43 @@
+-- Tests of whether a step goes back, and what they tell.
+use Rattle.std.specs.Prelude.{◌≡◌, ℕ, Bool, false, not, ◌&&◌, ◌||◌, ◌==◌, List, [], map, Option, Some, None}
+use Rattle.std.specs.List.{list_all, list_any}
+use Rattle.std.specs.List.Sorted.{IsStrictlyIncreasing}
+use Rattle.std.specs.declared.vec.Vec.{Vec}
+use Rattle.ps_config.specs.Configurations.{Configuration}
+use Rattle.ps_graph.specs.Facts.{owner_of}
+use Rattle.ps_graph.specs.declared.edge.Edge.{Edge}
+use Rattle.ps_graph.specs.declared.graph.Graph.{Graph}
+use Rattle.ps_step.specs.Steps.{GoesBack}
+
+-- the body is this one
+abbrev pub is_body : ℕ → Option ℕ → Bool
+is_body body None = false
+is_body body (Some number) = number == body
+
+-- the owner of a location is the body that at most one thread runs
+abbrev pub of_once : Option ℕ → Option ℕ → Bool
+of_once None owner = false
+of_once (Some body) owner = is_body body owner
+
+-- each thread at a location of that body is this one
+abbrev pub is_alone : Graph → List (ℕ × ℕ) → ℕ → Bool
+is_alone graph at thread = list_all (λ (p : ℕ × ℕ). not (of_once graph.once (owner_of graph.owner p.1)) || p.0 == thread) at
+
+-- each thread at a location of that body is the only one
+abbrev pub are_alone : Graph → List (ℕ × ℕ) → Bool
+are_alone graph at = list_all (λ (p : ℕ × ℕ). not (of_once graph.once (owner_of graph.owner p.1)) || is_alone graph at p.0) at
+
+-- the thread is at the target, or at no location
+abbrev pub may_move : List (ℕ × ℕ) → ℕ → ℕ → Bool
+may_move at thread target =
+    list_any (λ (p : ℕ × ℕ). p.0 == thread && p.1 == target) at || not (list_any (λ (p : ℕ × ℕ). p.0 == thread) at)
+
+-- located threads without atoms
+abbrev pub located : List (ℕ × ℕ) → Configuration
+located at = record { at = at; atoms = [] }
+
+-- the locations after a step back, in ascending order of threads; none where the step doesn't go back
+abbrev pub IsStepTo : Graph → Configuration → Edge → ℕ → Option (List (ℕ × ℕ)) → Type 0
+IsStepTo graph from edge thread None = (to : Configuration) → ¬ GoesBack graph from edge thread to
+IsStepTo graph from edge thread (Some at) =
+    IsStrictlyIncreasing (map (λ (p : ℕ × ℕ). p.0) at) × GoesBack graph from edge thread (located at)

@@ -1,0 +1,20 @@
+//! Steps back from configurations: the smallest configurations before one, and which are accepting.
+#![tactic(auto)]
+
+mod accepted;
+mod back;
+mod demands;
+mod expand_end;
+mod expansion;
+mod found;
+pub mod laws;
+mod numbering;
+mod ranked;
+mod renaming;
+mod sizes;
+mod step;
+pub mod worked;
+
+pub use accepted::accepting;
+pub use expand_end::{ExpandEnd, MOST_SETS};
+pub use expansion::{Expansion, Successor};

@@ -1,0 +1,152 @@
+//! The smallest configurations of one step.
+ghost use Rattle.std.specs.Prelude.{◌≡◌, ◌<◌, ◌++◌, IfErr, IfOk, List, OnOk, Contains, length, map};
+ghost use Rattle.std.specs.List.Sorted.{IsStrictlyIncreasing, IsStrictlySortedBy};
+ghost use Rattle.ps_atom.specs.Atoms.{atom_cmp};
+ghost use Rattle.ps_atom.specs.declared.atom.Atom.{Atom as AnAtom};
+ghost use Rattle.ps_config.specs.Forms.{IsConfig};
+ghost use Rattle.ps_step.specs.Steps.{AreTied};
+ghost use Rattle.ps_step.specs.Wide.{EndsBy};
+ghost use Rattle.ps_step.specs.inner.Demands.{demands};
+ghost use Rattle.ps_step.specs.inner.Parts.{AddsStep, IsWideAt};
+ghost use Rattle.ps_step.specs.inner.Pools.{lists_of};
+ghost use Rattle.ps_step.specs.inner.Sets.{AddsSets, IsNamed, IsPastBy, IsWideOf, IsWithin, successor_of};
+
+use crate::back::step_to;
+use crate::expand_end::{ExpandEnd, MOST_SETS};
+use crate::expansion::Successor;
+use crate::found::{Found, least_sets};
+use crate::sizes::{first_atoms_over, first_threads_over};
+use ps_atom::Atom;
+use ps_basis::Shown;
+use ps_config::{Config, WideName, WideStep};
+use ps_graph::Graph;
+use std::alloc::{AllocError, Global};
+
+/// Adds the smallest configurations that are steps back along the edge of this number by the thread.
+pub(crate) fn add_step<B: Shown>(
+    alloc: Global,
+    graph: &Graph,
+    basis: &B,
+    config: &Config,
+    number: u32,
+    thread: u32,
+    successors: &mut Vec<Successor>,
+) -> Result<(), ExpandEnd>
+    requires tied { AreTied (B.entries basis.now) }
+    requires exists { number < length graph.now.edges }
+    ensures adds { OnOk result (AddsStep graph.now (B.entries basis.now) config.now number thread
+        successors.old.items successors.new.items) }
+    ensures wide { IfErr result
+        (EndsBy (IsWideAt graph.now (B.entries basis.now) config.now number thread)) }
+{
+    let edge = &graph.edges.as_slice()[number as usize];
+    match step_to(alloc, graph, config, edge, thread) {
+        Ok(None) => Ok(()),
+        Ok(Some(at)) => add_least(
+            alloc,
+            basis,
+            config.atoms(),
+            edge.command,
+            number,
+            thread,
+            at.as_slice(),
+            successors,
+        ),
+        Err(end) => Err(ExpandEnd::Memory(end)),
+    }
+}
+
+/// Adds the least sets that meet the demands of a step, at these locations.
+fn add_least<B: Shown>(
+    alloc: Global,
+    basis: &B,
+    atoms: &[Atom],
+    command: u32,
+    number: u32,
+    thread: u32,
+    at: &[(u32, u32)],
+    successors: &mut Vec<Successor>,
+) -> Result<(), ExpandEnd>
+    requires { IsStrictlyIncreasing (map (λ p. p.0) at.now) }
+    ensures adds { OnOk result (AddsSets (demands (B.entries basis.now) atoms.now thread command)
+        at.now number thread successors.old.items successors.new.items) }
+    ensures wide { IfErr result (EndsBy (IsNamed number thread
+        (IsWideOf (demands (B.entries basis.now) atoms.now thread command) at.now))) }
+{
+    match least_sets(alloc, basis, atoms, thread, command, MOST_SETS).map_err(ExpandEnd::Memory)? {
+        Found::TooMany => Err(ExpandEnd::Wide(WideStep {
+            edge: number,
+            thread,
+            what: WideName::Sets,
+            count: MOST_SETS + 1,
+        })),
+        Found::All(sets) => add_sets(alloc, at, number, thread, sets, successors),
+    }
+}
+
+/// Adds the sets at these locations, if they pass no limit of configurations.
+fn add_sets(
+    alloc: Global,
+    at: &[(u32, u32)],
+    number: u32,
+    thread: u32,
+    sets: Vec<Vec<Atom>>,
+    successors: &mut Vec<Successor>,
+) -> Result<(), ExpandEnd>
+    requires located { IsStrictlyIncreasing (map (λ p. p.0) at.now) }
+    requires ascend { (set : List AnAtom) → Contains (lists_of sets.items) set
+        → IsStrictlySortedBy atom_cmp set }
+    ensures added { OnOk result (successors.new.items
+        ≡ successors.old.items ++ map (successor_of number thread at.now) (lists_of sets.items)) }
+    ensures within { OnOk result (IsWithin at.now (lists_of sets.items)) }
+    ensures past { IfErr result
+        (EndsBy (IsNamed number thread (IsPastBy at.now (lists_of sets.items)))) }
+{
+    if let Some(count) = first_atoms_over(sets.as_slice()) {
+        return Err(past(number, thread, WideName::Atoms, count));
+    }
+    if let Some(count) = first_threads_over(at, sets.as_slice()) {
+        return Err(past(number, thread, WideName::Threads, count));
+    }
+    push_sets(alloc, at, number, thread, sets, successors).map_err(ExpandEnd::Memory)
+}
+
+/// The step as too wide. A count past 32 bits is answered as want of memory, which so many are.
+fn past(number: u32, thread: u32, what: WideName, count: usize) -> ExpandEnd
+    ensures { EndsBy (λ step. (step.edge ≡ number) × (step.thread ≡ thread) × (step.what ≡ what)
+        × (step.count ≡ count)) result }
+{
+    match u32::try_from(count) {
+        Ok(count) => ExpandEnd::Wide(WideStep {
+            edge: number,
+            thread,
+            what,
+            count,
+        }),
+        Err(_) => ExpandEnd::Memory(AllocError),
+    }
+}
+
+fn push_sets(
+    alloc: Global,
+    at: &[(u32, u32)],
+    number: u32,
+    thread: u32,
+    sets: Vec<Vec<Atom>>,
+    successors: &mut Vec<Successor>,
+) -> Result<(), AllocError>
+    requires { (set : List AnAtom) → Contains (lists_of sets.items) set
+        → IsConfig (record { at = at.now; atoms = set }) }
+    ensures { OnOk result (successors.new.items
+        ≡ successors.old.items ++ map (successor_of number thread at.now) (lists_of sets.items)) }
+{
+    for atoms in sets {
+        let config = Config::new(Vec::from_slice(alloc, at)?, atoms);
+        successors.push(Successor {
+            edge: number,
+            thread,
+            config,
+        })?;
+    }
+    Ok(())
+}
