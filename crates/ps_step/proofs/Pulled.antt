@@ -147,7 +147,7 @@ goes_taken f inverse atoms q h c =
     (mapped (renamed inverse) (filter (λ (q : Atom). fixes (λ u. f (inverse u)) q.threads) atoms) (renamed f q) (kept (λ (q : Atom). fixes (λ u. f (inverse u)) q.threads) atoms (renamed f q) c stays))
 
 -- the threads of a renamed triple are the mover or those of its post
-given_threads : (entries : List Entry) (thread command : ℕ) (a : List Atom) (q : Atom) (g : Gives entries thread command a q) → IsTied g.triple
+pub given_threads : (entries : List Entry) (thread command : ℕ) (a : List Atom) (q : Atom) (g : Gives entries thread command a q) → IsTied g.triple
     → (s : ℕ) → Contains (threads_in g.triple) s → (thread ≡ g.by.new s) ⊎ Contains q.threads (g.by.new s)
 given_threads entries thread command a q g tied s h = elim (cons_cases 0 g.triple.post.threads s (tied_threads g.triple tied s h)) [
   | inl zero_is ↦ inl (sym g.by.runs ∙ ap g.by.new zero_is)

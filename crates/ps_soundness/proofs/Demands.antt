@@ -1,0 +1,67 @@
+-- What a demand of a step says of threads, and a demand renamed.
+use Rattle.std.proofs.Common.{◌≡◌, refl, sym, ap, ◌∙◌, subst, ℕ, List, ◌∷◌, map, Some, inl, inr, ◌⊎◌, Contains}
+use Rattle.std.specs.List.{filter_map, flat_map}
+use Rattle.ps_atom.specs.Atoms.{renamed, IsInjectiveOn}
+use Rattle.ps_atom.specs.declared.atom.Atom.{Atom}
+use Rattle.ps_config.proofs.Lists.{from_flat_mapped, from_mapped}
+use Rattle.ps_config.proofs.Occurring.{of_renamed, renamed_twice}
+use Rattle.ps_list.proofs.Members.{here, there}
+use Rattle.ps_step.proofs.Demanding.{demanded_given, pre_threads}
+use Rattle.ps_step.proofs.Picked.{from_picked, twice_all}
+use Rattle.ps_step.proofs.Pulled.{given_threads}
+use Rattle.ps_step.specs.Steps.{AreTied}
+use Rattle.ps_step.specs.inner.Demands.{demand, demands}
+use Rattle.ps_triple.specs.Entries.{Gives, threads_in}
+use Rattle.ps_triple.specs.declared.entry.Entry.{Entry}
+use Rattle.ps_triple.specs.declared.entry.Entry.TheVariants.{Triple as OfTriple, Initial as OfInitial}
+
+-- a renamed triple with these atoms before, and after it one of the atoms
+pub record Demand (entries : List Entry) (thread command : ℕ) (atoms before : List Atom) : Type 0 where
+  pub after : Atom
+  pub within : Contains atoms after
+  pub gives : Gives entries thread command before after
+
+of_entry : (entries : List Entry) (tied : AreTied entries) (thread command : ℕ) (q : Atom) (set : List Atom) (entry : Entry) → Contains entries entry →
+    demand thread command q entry ≡ Some set → Gives entries thread command set q
+of_entry entries tied thread command q set (OfTriple t) c e = demanded_given entries thread command q t set (tied (OfTriple t) c) c e
+of_entry entries tied thread command q set (OfInitial i) c e = absurd (let none_such : ⊥ = cc in none_such)
+
+-- each of the lists of demands is one
+pub demand_of : (entries : List Entry) → AreTied entries → (atoms : List Atom) (thread command : ℕ) (set : List Atom) →
+    Contains (demands entries atoms thread command) set → Demand entries thread command atoms set
+demand_of entries tied atoms thread command set h =
+    let w = from_flat_mapped (λ (q : Atom). filter_map (demand thread command q) entries) atoms set h in
+    let v = from_picked (demand thread command w.0) entries set w.2 in
+    record { after = w.0; within = w.1; gives = of_entry entries tied thread command w.0 set v.0 v.1 v.2 }
+
+-- the threads of a renamed triple are the mover and those of its post
+image_in : (entries : List Entry) (tied : AreTied entries) (thread command : ℕ) (before : List Atom) (after : Atom) (g : Gives entries thread command before after)
+    (s : ℕ) → Contains (threads_in g.triple) s → Contains (thread ∷ after.threads) (g.by.new s)
+image_in entries tied thread command before after g s h = elim (given_threads entries thread command before after g (tied (OfTriple g.triple) g.listed) s h) [
+  | inl is ↦ subst (λ (x : ℕ). Contains (thread ∷ after.threads) x) is (here thread after.threads)
+  | inr later ↦ there thread after.threads (g.by.new s) later
+]
+
+-- each thread of an atom before is the mover or one of the atom after
+pub before_threads : (entries : List Entry) → AreTied entries → (thread command : ℕ) (before : List Atom) (after : Atom) → Gives entries thread command before after →
+    (p : Atom) → Contains before p → (s : ℕ) → Contains p.threads s → Contains (thread ∷ after.threads) s
+before_threads entries tied thread command before after g p i s j =
+    let w = from_mapped (renamed g.by.new) g.triple.pre p (subst (λ (qs : List Atom). Contains qs p) g.by.pre i) in
+    let v = of_renamed g.by.new w.0 s (subst (λ (r : Atom). Contains r.threads s) (sym w.2) j) in
+    subst (λ (x : ℕ). Contains (thread ∷ after.threads) x) v.2 (image_in entries tied thread command before after g v.0 (pre_threads g.triple w.0 v.0 w.1 v.1))
+
+-- what a triple gives it gives of renamed threads
+pub gives_renamed : (entries : List Entry) → AreTied entries → (thread command : ℕ) (before : List Atom) (after : Atom) → Gives entries thread command before after →
+    (f : ℕ → ℕ) (k : ℕ) → f thread ≡ k → IsInjectiveOn f (thread ∷ after.threads) → Gives entries k command (map (renamed f) before) (renamed f after)
+gives_renamed entries tied thread command before after g f k goes apart = record {
+  triple = g.triple;
+  listed = g.listed;
+  same = g.same;
+  by = record {
+    new = λ s. f (g.by.new s);
+    apart = λ s u i j same. g.by.apart s u i j (apart (g.by.new s) (g.by.new u) (image_in entries tied thread command before after g s i) (image_in entries tied thread command before after g u j) same);
+    runs = ap f g.by.runs ∙ goes;
+    pre = ap (map (renamed f)) g.by.pre ∙ twice_all f g.by.new g.triple.pre;
+    post = ap (renamed f) g.by.post ∙ renamed_twice g.by.new f g.triple.post;
+  };
+}

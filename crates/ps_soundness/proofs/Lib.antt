@@ -1,0 +1,5 @@
+pub mod Choices
+pub mod Demands
+pub mod Back
+pub mod Feasible
+pub mod Safe
