@@ -1,3 +1,4 @@
 pub mod Builder
 pub mod First
+pub mod Starts
 pub mod View
