@@ -3,6 +3,9 @@ pub mod Between
 pub mod Building
 pub mod Evaluating
 pub mod Forms
+pub mod InitialStates
 pub mod OpByOp
 pub mod Places
 pub mod Sizes
+pub mod Testing
+pub mod Undoing

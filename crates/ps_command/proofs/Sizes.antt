@@ -23,7 +23,7 @@ set_sizes v (Global n) z = record { globals = length-set v.globals n z; locals =
 set_sizes v (Local t n) z = record { globals = refl; locals = length-set v.locals n z }
 set_sizes v (Havoc n) z = record { globals = refl; locals = refl }
 
-run_sizes : (ops : List Op) (v : Values) (hs : List ℤ) (w : Values) → run ops v hs ≡ Some w → SameSizes v w
+pub run_sizes : (ops : List Op) (v : Values) (hs : List ℤ) (w : Values) → run ops v hs ≡ Some w → SameSizes v w
 run_sizes [] v hs w e = let same : v ≡ w = same_Some v w e in subst (λ (x : Values). SameSizes v x) same (record { globals = refl; locals = refl })
 run_sizes (Assume r ∷ ops) v hs w e = on (holds (value_at v) r) e (λ h. run_sizes ops v hs w h)
   where

@@ -1,2 +1,3 @@
 pub mod Builder
+pub mod Starts
 pub mod View

@@ -3,6 +3,7 @@
 
 mod assignments;
 mod command;
+mod evaluation;
 mod fitting;
 mod form_builder;
 mod forming;
@@ -11,8 +12,10 @@ mod look_up;
 mod op;
 mod put;
 mod run_end;
+mod runner;
 mod running;
 mod setting;
+mod starting;
 mod state;
 mod symbolic_form;
 mod view;
@@ -24,7 +27,9 @@ pub use fitting::{can_run, is_sized};
 pub use forming::symbolic;
 pub use op::Op;
 pub use run_end::RunEnd;
+pub use runner::Runner;
 pub use running::run;
 pub use setting::Setting;
+pub use starting::is_initial_state;
 pub use state::State;
 pub use symbolic_form::SymbolicForm;

@@ -1,12 +1,12 @@
 //! Runs of commands.
-ghost use Rattle.std.specs.Prelude.{◌≡◌, ◌<◌, ◌++◌, IfOk, IsErrOf, IsTrue, OnOk, [], length, pos, slice_index_or};
+ghost use Rattle.std.specs.Prelude.{◌≡◌, ◌<◌, ◌++◌, ℤ, IfOk, IsErrOf, IsTrue, OnErr, OnOk, [], ◌∷◌, length, pos, slice_index_or};
 ghost use Rattle.std.specs.List.{list_all};
 ghost use Rattle.ps_command.specs.Fitting.{CanRun};
 ghost use Rattle.ps_command.specs.Named.{is_declared_op};
 ghost use Rattle.ps_command.specs.Run.{havocs_in, run, run_by};
 ghost use Rattle.ps_command.specs.RunFits.{RunFits};
 ghost use Rattle.ps_command.specs.Values.{values_of, with_values};
-ghost use Rattle.ps_command.specs.inner.View.{havocs_left, IsRunTo, seen};
+ghost use Rattle.ps_command.specs.inner.View.{after_op, havocs_left, IsRunTo, seen, undone};
 
 use crate::command::Command;
 use crate::op::Op;
@@ -14,6 +14,7 @@ use crate::run_end::RunEnd;
 use crate::state::State;
 use crate::view::View;
 use ps_list::{Sequence, copies};
+use ps_term::Var;
 use std::alloc::{AllocError, Global};
 
 /// The state after the thread ran the command with these havoc values, or `None` where an assume fails. It is `Past128`
@@ -36,7 +37,8 @@ pub fn run(
         → ¬ RunFits command.now.ops (values_of thread state.now) values.now }
 {
     let mut view = view_of(alloc, state, thread as usize).map_err(RunEnd::Memory)?;
-    if !run_ops(&mut view, command.ops.as_slice(), values)? {
+    let mut undo = Vec::new(alloc);
+    if !run_ops(&mut view, &mut undo, command.ops.as_slice(), values)? {
         return Ok(None);
     }
     let after = state_after(alloc, state, thread as usize, view).map_err(RunEnd::Memory)?;
@@ -54,8 +56,14 @@ fn view_of(alloc: Global, state: &State, thread: usize) -> Result<View, AllocErr
     })
 }
 
-// Runs the ops, and answers whether no assume fails.
-fn run_ops(view: &mut View, ops: &[Op], values: &[i128]) -> Result<bool, RunEnd>
+// Runs the ops, and answers whether no assume fails; what is appended to `undo` sets the values back.
+pub(crate) fn run_ops(
+    view: &mut View,
+    undo: &mut Vec<(Var, i128)>,
+    ops: &[Op],
+    values: &[i128],
+) -> Result<bool, RunEnd>
+    requires empty { undo.old.items ≡ [] }
     requires named { IsTrue
         (list_all (is_declared_op (length view.old.globals.items)
         (length view.old.locals.items)) ops.now) }
@@ -64,15 +72,43 @@ fn run_ops(view: &mut View, ops: &[Op], values: &[i128]) -> Result<bool, RunEnd>
         (λ on. IsRunTo on (run ops.now (seen view.old) values.now) (seen view.new)) }
     ensures fits { OnOk result (RunFits ops.now (seen view.old) values.now) }
     ensures past { IsErrOf result RunEnd.Past128 → ¬ RunFits ops.now (seen view.old) values.now }
+    ensures undo { undone undo.new.items (seen view.new) ≡ seen view.old }
 {
     let mut left = values;
     for op in ops {
+        note(undo, view, op)?;
         if !view.take(op, next_value(left)).ok_or(RunEnd::Past128)? {
             return Ok(false);
         }
         left = values_left(op, left);
     }
     Ok(true)
+}
+
+// Appends what the variable that the op sets is worth.
+fn note(undo: &mut Vec<(Var, i128)>, view: &View, op: &Op) -> Result<(), RunEnd>
+    requires { IsTrue (is_declared_op (length view.now.globals.items)
+        (length view.now.locals.items) op.now) }
+    ensures noted { OnOk result ((havoc : ℤ)
+        → undone undo.new.items (after_op (seen view.now) op.now havoc)
+        ≡ undone undo.old.items (seen view.now)) }
+    ensures kept { undone undo.new.items (seen view.now) ≡ undone undo.old.items (seen view.now) }
+    ensures memory { ¬ IsErrOf result RunEnd.Past128 }
+{
+    match op {
+        Op::Assume(_) => Ok(()),
+        Op::Assign(variable, _) => append(undo, *variable, view.value_of(*variable)),
+        Op::Havoc(variable) => append(undo, *variable, view.value_of(*variable)),
+    }
+}
+
+fn append(undo: &mut Vec<(Var, i128)>, variable: Var, value: i128) -> Result<(), RunEnd>
+    ensures appended { OnOk result (undo.new.items ≡ undo.old.items ++ (variable, value) ∷ []) }
+    ensures kept { OnErr result (undo.new.items ≡ undo.old.items) }
+    ensures memory { ¬ IsErrOf result RunEnd.Past128 }
+{
+    undo.push((variable, value))
+        .map_err(|_| RunEnd::Memory(AllocError))
 }
 
 // The next havoc value, or 0 where there is none.

@@ -1,13 +1,14 @@
 // What one thread sees of a state while it runs ops.
-ghost use Rattle.std.specs.Prelude.{◌≡◌, IsSome, IsTrue, SomeIff, length};
+ghost use Rattle.std.specs.Prelude.{◌≡◌, IsNone, IsSome, IsTrue, SomeIff, length, slice_set};
 ghost use Rattle.ps_command.specs.Named.{is_declared, is_declared_op, is_declared_term};
 ghost use Rattle.ps_command.specs.Values.{value_at, with_value};
 ghost use Rattle.ps_command.specs.inner.View.{after_op, is_passed, OpRunFits, seen};
 ghost use Rattle.ps_term.specs.Evaluation.{EvaluationFits};
 ghost use Rattle.ps_term.specs.Term.{value};
 
+use crate::evaluation::{evaluate, value_of};
 use crate::op::Op;
-use ps_term::{Term, Var, scaled_sum};
+use ps_term::{Term, Var};
 
 // The values of the globals, and those of the thread's locals.
 #[derive(Drop)]
@@ -22,21 +23,16 @@ impl View {
             (length self.now.locals.items) variable) }
         ensures { result ≡ value_at (seen self.now) variable }
     {
-        match variable {
-            Var::Global(n) => self.globals[n as usize],
-            Var::Local(_, n) => self.locals[n as usize],
-            Var::Havoc(_) => 0,
-        }
+        value_of(self.globals.as_slice(), self.locals.as_slice(), variable)
     }
 
+    // Sets the variable, or nothing where it isn't there.
     pub(crate) fn set(&mut self, variable: Var, value: i128)
-        requires { IsTrue (is_declared (length self.old.globals.items)
-            (length self.old.locals.items) variable) }
         ensures { seen self.new ≡ with_value (seen self.old) variable value }
     {
         match variable {
-            Var::Global(n) => self.globals[n as usize] = value,
-            Var::Local(_, n) => self.locals[n as usize] = value,
+            Var::Global(n) => set_at(&mut self.globals, n as usize, value),
+            Var::Local(_, n) => set_at(&mut self.locals, n as usize, value),
             Var::Havoc(_) => {}
         }
     }
@@ -48,11 +44,7 @@ impl View {
         ensures { SomeIff result (EvaluationFits (value_at (seen self.now)) term.now)
             (value (value_at (seen self.now)) term.now) }
     {
-        let mut sum: i128 = 0;
-        for pair in term.pairs.as_slice() {
-            sum = scaled_sum(sum, pair.1, self.value_of(pair.0))?;
-        }
-        sum.checked_add(term.constant)
+        evaluate(self.globals.as_slice(), self.locals.as_slice(), term)
     }
 
     // Takes one op with this havoc value, and answers whether it isn't an assume that fails, or `None` where a product or a
@@ -63,6 +55,7 @@ impl View {
         ensures answer { SomeIff result (OpRunFits (seen self.old) op.now)
             (is_passed (seen self.old) op.now) }
         ensures after { IsSome result → seen self.new ≡ after_op (seen self.old) op.now havoc }
+        ensures kept { IsNone result → seen self.new ≡ seen self.old }
     {
         match op {
             Op::Assume(row) => Some(self.evaluate(&row.term)? <= 0),
@@ -76,5 +69,14 @@ impl View {
                 Some(true)
             }
         }
+    }
+}
+
+// Sets the value at the place, or nothing where there is none.
+fn set_at(values: &mut Vec<i128>, place: usize, value: i128)
+    ensures { values.new.items ≡ slice_set values.old.items place value }
+{
+    if place < values.len() {
+        values[place] = value;
     }
 }

@@ -38,14 +38,14 @@ abbrev pub AreThreads : ℕ → List (ℕ × ℕ) → Type 0
 AreThreads n ls = AllByRecursion (λ (l : ℕ × ℕ). l.0 < n) ls
 
 -- the world after a thread came to values and a place
-abbrev seated : {At : Type 0} → ℕ → List (Seat At) → Values × At → World At
+abbrev pub seated : {At : Type 0} → ℕ → List (Seat At) → Values × At → World At
 seated k us q = record { globals = q.0.globals; seats = slice_set us k (record { locals = q.0.locals; at = q.1 }) }
 
 abbrev behind : {At : Type 0} → Seat At → World At → World At
 behind t w = record { globals = w.globals; seats = t ∷ w.seats }
 
 -- the step of a thread that there is
-step_at_is : {At : Type 0} → (one : Stepping At) (k : ℕ) (globals : List ℤ) (us : List (Seat At)) (cs : List ℤ) (u : Seat At) → slice_get us k ≡ Some u →
+pub step_at_is : {At : Type 0} → (one : Stepping At) (k : ℕ) (globals : List ℤ) (us : List (Seat At)) (cs : List ℤ) (u : Seat At) → slice_get us k ≡ Some u →
     step_at one k globals us cs ≡ option_map (seated k us) (one u.at (record { globals = globals; locals = u.locals }) cs)
 step_at_is one k globals [] cs u h = cc
 step_at_is {At} one zero globals (t ∷ us) cs u h =
@@ -58,7 +58,7 @@ step_at_is {At} one (suc k) globals (t ∷ us) cs u h =
     at (Some q) = refl
 
 -- a thread that there isn't has no step
-step_at_none : {At : Type 0} → (one : Stepping At) (k : ℕ) (globals : List ℤ) (us : List (Seat At)) (cs : List ℤ) → slice_get us k ≡ None →
+pub step_at_none : {At : Type 0} → (one : Stepping At) (k : ℕ) (globals : List ℤ) (us : List (Seat At)) (cs : List ℤ) → slice_get us k ≡ None →
     step_at one k globals us cs ≡ None
 step_at_none one k globals [] cs h = refl
 step_at_none one zero globals (t ∷ us) cs h = cc

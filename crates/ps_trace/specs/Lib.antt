@@ -1,3 +1,6 @@
 pub mod Examples
+pub mod inner
+pub mod Meets
 pub mod Reaches
+pub mod Rows
 pub mod Traces

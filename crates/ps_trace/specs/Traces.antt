@@ -5,9 +5,17 @@ use Rattle.ps_graph.specs.declared.graph.Graph.{Graph}
 use Rattle.ps_trace.specs.declared.trace.IndexedTrace.{IndexedTrace}
 use Rattle.ps_trace.specs.declared.trace.Letter.{Letter}
 
--- the letters, as pairs of a thread and the number of an edge
+-- a letter, as a pair of a thread and the number of an edge
+abbrev pub pair_of : Letter → ℕ × ℕ
+pair_of l = (l.thread, l.edge)
+
+-- letters, as such pairs
+abbrev pub pairs_in : List Letter → List (ℕ × ℕ)
+pairs_in letters = map pair_of letters
+
+-- the letters of a trace, as such pairs
 abbrev pub pairs_of : IndexedTrace → List (ℕ × ℕ)
-pairs_of trace = map (λ (l : Letter). let p : ℕ × ℕ = (l.thread, l.edge) in p) trace.letters
+pairs_of trace = pairs_in trace.letters
 
 -- Each thread's edges are a path from the entry of one body, at most one thread's path begins at the entry of the
 -- `once` body, the last edge enters the error, and no earlier one does.

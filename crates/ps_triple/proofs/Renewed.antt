@@ -9,7 +9,7 @@ use Rattle.std.proofs.lemmas.List.Elements.{recursion_from_All}
 use Rattle.ps_term.proofs.Adding.{put_is}
 use Rattle.ps_term.proofs.ExactTerms.{pair_value, pair_canonical}
 use Rattle.ps_term.proofs.Variables.{var_eq-true}
-use Rattle.ps_term.specs.Accumulated.{put, var_cmp}
+use Rattle.ps_term.specs.inner.Accumulated.{put, var_cmp}
 use Rattle.ps_term.specs.Exact.{kept_before, with_pair}
 use Rattle.ps_term.specs.Pairs.{IsCanonical, pairs_value}
 use Rattle.ps_term.specs.Term.{value}

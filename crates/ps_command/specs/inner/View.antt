@@ -1,5 +1,5 @@
 -- A view, op by op.
-use Rattle.std.specs.Prelude.{◌≡◌, ℤ, Bool, true, false, List, drop, Option, Some, None}
+use Rattle.std.specs.Prelude.{◌≡◌, ℤ, Bool, true, false, List, [], ◌∷◌, drop, Option, Some, None}
 use Rattle.ps_command.specs.Run.{holds}
 use Rattle.ps_command.specs.Values.{Values, value_at, with_value}
 use Rattle.ps_command.specs.declared.op.Op.{Op}
@@ -7,10 +7,15 @@ use Rattle.ps_command.specs.declared.op.Op.TheVariants.{Assume, Assign, Havoc}
 use Rattle.ps_command.specs.declared.view.View.{View}
 use Rattle.ps_term.specs.Evaluation.{EvaluationFits}
 use Rattle.ps_term.specs.Term.{value}
+use Rattle.ps_term.specs.declared.var.Var.{Var}
+
+-- the values of these lists
+abbrev pub values_from : List ℤ → List ℤ → Values
+values_from globals locals = record { globals = globals; locals = locals }
 
 -- the values that a view has
 abbrev pub seen : View → Values
-seen v = record { globals = v.globals.items; locals = v.locals.items }
+seen v = values_from v.globals.items v.locals.items
 
 -- the op's term is evaluated within 128 bits
 abbrev pub OpRunFits : Values → Op → Type 0
@@ -38,3 +43,8 @@ havocs_left _ hs = hs
 abbrev pub IsRunTo : Bool → Option Values → Values → Type 0
 IsRunTo true ran v = ran ≡ Some v
 IsRunTo false ran v = ran ≡ None
+
+-- the values after variables were set back to these, the last first
+abbrev pub undone : List (Var × ℤ) → Values → Values
+undone [] v = v
+undone (p ∷ ps) v = with_value (undone ps v) p.0 p.1
