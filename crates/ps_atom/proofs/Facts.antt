@@ -8,7 +8,7 @@ use Rattle.ps_term.specs.Pairs.{IsCanonical, pairs_value, coefficient}
 use Rattle.ps_term.specs.Row.{Holds}
 use Rattle.ps_atom.specs.Atoms.{at_threads, HoldsAt}
 use Rattle.ps_atom.specs.Canonical.{HasSlots, IsInSlots, IsCanonicalOf}
-use Rattle.ps_atom.specs.inner.Slots.{placed}
+use Rattle.ps_atom.specs.inner.Slots.{put_in_slots}
 use Rattle.ps_atom.specs.Threads.{local_pairs}
 use Rattle.ps_atom.specs.declared.predicate.Predicate.{Predicate}
 use Rattle.ps_atom.proofs.Parts.{slot_of, slotted, AreAmong, placed_worth, placed_canonical}
@@ -42,10 +42,10 @@ multiple_form k old new p ts h scaled constant a = record {
 slots_among : (row : Row) (p : Predicate) (ts : List ℕ) → IsCanonical row.term.pairs → IsInSlots row p ts → AreAmong ts row.term.pairs
 slots_among row p ts c a = among ts row.term.pairs c (λ t o. (a.in_order.occurring t).1 o)
 
-is_placed : (row : Row) (p : Predicate) (ts : List ℕ) → IsCanonical row.term.pairs → IsInSlots row p ts → p.row.term.pairs ≡ placed (map (λ t. local_pairs t row.term.pairs) ts) row.term.pairs
+is_placed : (row : Row) (p : Predicate) (ts : List ℕ) → IsCanonical row.term.pairs → IsInSlots row p ts → p.row.term.pairs ≡ put_in_slots (map (λ t. local_pairs t row.term.pairs) ts) row.term.pairs
 is_placed row p ts c a =
     let ps = row.term.pairs in
-    slots_unique ps ts p.row.term.pairs (placed (map (λ t. local_pairs t ps) ts) ps) a.coefficients (placed_slots ts ps (slots_once ps ts a.in_order) (slots_among row p ts c a)) a.canonical (placed_canonical ts ps c)
+    slots_unique ps ts p.row.term.pairs (put_in_slots (map (λ t. local_pairs t ps) ts) ps) a.coefficients (placed_slots ts ps (slots_once ps ts a.in_order) (slots_among row p ts c a)) a.canonical (placed_canonical ts ps c)
 
 slot_back : (ts : List ℕ) (t : ℕ) → Contains ts t → slice_index ts (slot_of 0 ts t) ≡ t
 slot_back ts t m =

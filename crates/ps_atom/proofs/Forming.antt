@@ -9,7 +9,7 @@ use Rattle.ps_term.specs.declared.var.Var.{Var}
 use Rattle.ps_term.specs.Pairs.{IsCanonical}
 use Rattle.ps_atom.specs.Canonical.{IsInSlots, HasSlots}
 use Rattle.ps_atom.specs.inner.Shares.{AreShares, IsShare}
-use Rattle.ps_atom.specs.inner.Slots.{placed}
+use Rattle.ps_atom.specs.inner.Slots.{put_in_slots}
 use Rattle.ps_atom.specs.Threads.{AreOccurring, AreSlots, local_pairs}
 use Rattle.ps_atom.specs.declared.share.Share.{Share}
 use Rattle.ps_atom.proofs.Chains.{rising_from_increasing}
@@ -39,19 +39,19 @@ shares_slots ps ts shares rising occurring a = record {
   ordered = shares_ordered ps shares (recursion_from_All (IsShare ps) shares a.each) a.sorted (once_permuted ts (share_threads shares) a.same (once_from_rising ts (rising_from_increasing ts rising)));
 }
 
-placed_same : (ps : List (Var × ℤ)) (shares : List Share) → AllByRecursion (IsShare ps) shares → placed (share_pairs shares) ps ≡ placed (map (λ t. local_pairs t ps) (share_threads shares)) ps
-placed_same ps shares each = ap (λ (owns : List (List (ℕ × ℤ))). placed owns ps) (shares_are ps shares each)
+placed_same : (ps : List (Var × ℤ)) (shares : List Share) → AllByRecursion (IsShare ps) shares → put_in_slots (share_pairs shares) ps ≡ put_in_slots (map (λ t. local_pairs t ps) (share_threads shares)) ps
+placed_same ps shares each = ap (λ (owns : List (List (ℕ × ℤ))). put_in_slots owns ps) (shares_are ps shares each)
 
-pub shares_canonical : (ps : List (Var × ℤ)) (ts : List ℕ) (shares : List Share) → IsCanonical ps → AreShares ps ts shares → IsCanonical (placed (share_pairs shares) ps)
+pub shares_canonical : (ps : List (Var × ℤ)) (ts : List ℕ) (shares : List Share) → IsCanonical ps → AreShares ps ts shares → IsCanonical (put_in_slots (share_pairs shares) ps)
 shares_canonical ps ts shares c a =
     subst (λ (qs : List (Var × ℤ)). IsCanonical qs) (sym (placed_same ps shares (recursion_from_All (IsShare ps) shares a.each))) (placed_canonical (share_threads shares) ps c)
 
-pub shares_placed : (ps : List (Var × ℤ)) (ts : List ℕ) (shares : List Share) → IsCanonical ps → IsStrictlyIncreasing ts → AreOccurring ps ts → AreShares ps ts shares → HasSlots ps (share_threads shares) (placed (share_pairs shares) ps)
+pub shares_placed : (ps : List (Var × ℤ)) (ts : List ℕ) (shares : List Share) → IsCanonical ps → IsStrictlyIncreasing ts → AreOccurring ps ts → AreShares ps ts shares → HasSlots ps (share_threads shares) (put_in_slots (share_pairs shares) ps)
 shares_placed ps ts shares c rising occurring a =
     let slots : AreSlots ps (share_threads shares) = shares_slots ps ts shares rising occurring a in
     subst (λ (qs : List (Var × ℤ)). HasSlots ps (share_threads shares) qs) (sym (placed_same ps shares (recursion_from_All (IsShare ps) shares a.each))) (placed_slots (share_threads shares) ps (slots_once ps (share_threads shares) slots) (among (share_threads shares) ps c (λ t o. (slots.occurring t).1 o)))
 
-pub shares_form : (row : Row) (ps : List (Var × ℤ)) (ts : List ℕ) (shares : List Share) (arity : ℕ) (list : List (Var × ℤ)) (constant : ℤ) (threads : List ℕ) → ps ≡ row.term.pairs → IsCanonical ps → IsStrictlyIncreasing ts → AreOccurring row.term.pairs ts → AreShares ps ts shares → length ts ≤ 4 → arity ≡ length shares → list ≡ placed (share_pairs shares) ps → constant ≡ row.term.constant → threads ≡ share_threads shares → IsInSlots row (record { arity = arity; row = record { term = record { pairs = list; constant = constant } } }) threads × (length threads ≤ 4)
+pub shares_form : (row : Row) (ps : List (Var × ℤ)) (ts : List ℕ) (shares : List Share) (arity : ℕ) (list : List (Var × ℤ)) (constant : ℤ) (threads : List ℕ) → ps ≡ row.term.pairs → IsCanonical ps → IsStrictlyIncreasing ts → AreOccurring row.term.pairs ts → AreShares ps ts shares → length ts ≤ 4 → arity ≡ length shares → list ≡ put_in_slots (share_pairs shares) ps → constant ≡ row.term.constant → threads ≡ share_threads shares → IsInSlots row (record { arity = arity; row = record { term = record { pairs = list; constant = constant } } }) threads × (length threads ≤ 4)
 shares_form row ps ts shares arity list constant threads pairs_are c rising occur a few arity_is list_is constant_is threads_are =
     let occurring : AreOccurring ps ts = subst (λ (qs : List (Var × ℤ)). AreOccurring qs ts) (sym pairs_are) occur in (
       record {

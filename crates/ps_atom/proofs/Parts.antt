@@ -10,7 +10,7 @@ use Rattle.ps_term.specs.declared.var.Var.TheVariants.{Global, Local, Havoc}
 use Rattle.ps_term.specs.Var.{var_lt}
 use Rattle.ps_term.specs.Pairs.{IsBelow, IsCanonical, pairs_value}
 use Rattle.ps_term.proofs.Canonical.{IsBelowAll, IsBelowAll-canonical, pairs_value-append}
-use Rattle.ps_atom.specs.inner.Slots.{is_global, is_havoc, in_slot, in_slots, placed}
+use Rattle.ps_atom.specs.inner.Slots.{is_global, is_havoc, in_slot, in_slots, put_in_slots}
 use Rattle.ps_atom.specs.Threads.{local_pairs}
 use Rattle.ps_atom.proofs.Counts.{IsOnce, once-tail, once-first}
 
@@ -138,7 +138,7 @@ global-lt (Global m) (Havoc n) g f = refl
 global-lt (Local s m) y g f = absurd (false≢true g)
 global-lt (Havoc m) y g f = absurd (false≢true g)
 
-pub placed_canonical : (ts : List ℕ) (ps : List (Var × ℤ)) → IsCanonical ps → IsCanonical (placed (map (λ t. local_pairs t ps) ts) ps)
+pub placed_canonical : (ts : List ℕ) (ps : List (Var × ℤ)) → IsCanonical ps → IsCanonical (put_in_slots (map (λ t. local_pairs t ps) ts) ps)
 placed_canonical ts ps c =
     let globals = filter (λ (p : Var × ℤ). is_global p.0) ps in
     let havocs = filter (λ (p : Var × ℤ). is_havoc p.0) ps in
@@ -221,6 +221,6 @@ parts_worth u ts ((Local t n, c) ∷ ps) o a =
 parts_worth u ts ((Havoc n, c) ∷ ps) o a =
     third (pairs_value u (filter (λ p. is_global p.0) ps)) (pairs_value u (in_slots 0 (map (λ t. local_pairs t ps) ts))) (c *ℤ u (Havoc n)) (pairs_value u (filter (λ p. is_havoc p.0) ps)) (pairs_value (λ x. u (slotted ts x)) ps) (parts_worth u ts ps o a.1)
 
-pub placed_worth : (u : Var → ℤ) (ts : List ℕ) (ps : List (Var × ℤ)) → IsOnce ts → AreAmong ts ps → pairs_value u (placed (map (λ t. local_pairs t ps) ts) ps) ≡ pairs_value (λ x. u (slotted ts x)) ps
+pub placed_worth : (u : Var → ℤ) (ts : List ℕ) (ps : List (Var × ℤ)) → IsOnce ts → AreAmong ts ps → pairs_value u (put_in_slots (map (λ t. local_pairs t ps) ts) ps) ≡ pairs_value (λ x. u (slotted ts x)) ps
 placed_worth u ts ps o a =
     parts_value u (filter (λ p. is_global p.0) ps) (in_slots 0 (map (λ t. local_pairs t ps) ts)) (filter (λ p. is_havoc p.0) ps) ∙ parts_worth u ts ps o a

@@ -11,7 +11,7 @@ use Rattle.ps_term.specs.declared.var.Var.TheVariants.{Global, Local, Havoc}
 use Rattle.ps_term.specs.Pairs.{IsCanonical, pairs_value, coefficient}
 use Rattle.ps_term.proofs.Uniqueness.{unit_at, pairs_value-unit_at, pairs_value-zero, same_coefficients}
 use Rattle.ps_atom.specs.Canonical.{HasSlots}
-use Rattle.ps_atom.specs.inner.Slots.{placed}
+use Rattle.ps_atom.specs.inner.Slots.{put_in_slots}
 use Rattle.ps_atom.specs.Threads.{local_pairs, Occurs, AreSlots, thread_cmp}
 use Rattle.ps_atom.proofs.Chains.{IsChain, chain_from_pairs, once_from_chain, same_chain}
 use Rattle.ps_atom.proofs.Counts.{IsOnce, once-tail, once-first}
@@ -69,18 +69,18 @@ from_among P ts ((Global n, c) ∷ ps) a g l h = (g n c, from_among P ts ps a.1 
 from_among P ts ((Local t n, c) ∷ ps) a g l h = (l t n c (a.0 t n refl), from_among P ts ps a.1 g l h)
 from_among P ts ((Havoc n, c) ∷ ps) a g l h = (h n c, from_among P ts ps a.1 g l h)
 
-coefficient_is : (x y : Var) (ts : List ℕ) (ps : List (Var × ℤ)) → IsOnce ts → AreAmong ts ps → AllByRecursion (λ p. unit_at x (slotted ts p.0) ≡ unit_at y p.0) ps → coefficient x (placed (map (λ t. local_pairs t ps) ts) ps) ≡ coefficient y ps
+coefficient_is : (x y : Var) (ts : List ℕ) (ps : List (Var × ℤ)) → IsOnce ts → AreAmong ts ps → AllByRecursion (λ p. unit_at x (slotted ts p.0) ≡ unit_at y p.0) ps → coefficient x (put_in_slots (map (λ t. local_pairs t ps) ts) ps) ≡ coefficient y ps
 coefficient_is x y ts ps o a h =
-    sym (pairs_value-unit_at x (placed (map (λ t. local_pairs t ps) ts) ps)) ∙ (placed_worth (unit_at x) ts ps o a ∙ (same_worth (λ z. unit_at x (slotted ts z)) (unit_at y) ps h ∙ pairs_value-unit_at y ps))
+    sym (pairs_value-unit_at x (put_in_slots (map (λ t. local_pairs t ps) ts) ps)) ∙ (placed_worth (unit_at x) ts ps o a ∙ (same_worth (λ z. unit_at x (slotted ts z)) (unit_at y) ps h ∙ pairs_value-unit_at y ps))
 
 unit_by : (slot slot' n n' : ℕ) (s s' : ℕ) → (slot == slot') ≡ (s == s') → unit_at (Local slot n) (Local slot' n') ≡ unit_at (Local s n) (Local s' n')
 unit_by slot slot' n n' s s' e = rw e refl
 
-coefficient_none : (slot n : ℕ) (ts : List ℕ) (ps : List (Var × ℤ)) → IsOnce ts → AreAmong ts ps → length ts ≤ slot → let zero_z : ℤ = pos 0 in coefficient (Local slot n) (placed (map (λ t. local_pairs t ps) ts) ps) ≡ zero_z
+coefficient_none : (slot n : ℕ) (ts : List ℕ) (ps : List (Var × ℤ)) → IsOnce ts → AreAmong ts ps → length ts ≤ slot → let zero_z : ℤ = pos 0 in coefficient (Local slot n) (put_in_slots (map (λ t. local_pairs t ps) ts) ps) ≡ zero_z
 coefficient_none slot n ts ps o a h =
-    sym (pairs_value-unit_at (Local slot n) (placed (map (λ t. local_pairs t ps) ts) ps)) ∙ (placed_worth (unit_at (Local slot n)) ts ps o a ∙ (same_worth (λ z. unit_at (Local slot n) (slotted ts z)) (λ _. pos 0) ps (from_among (λ p. unit_at (Local slot n) (slotted ts p.0) ≡ pos 0) ts ps a (λ m c. refl) (λ t m c at. (let f : (slot == slot_of 0 ts t) ≡ false = slot-within ts slot t at h in rw f refl)) (λ m c. refl)) ∙ pairs_value-zero ps))
+    sym (pairs_value-unit_at (Local slot n) (put_in_slots (map (λ t. local_pairs t ps) ts) ps)) ∙ (placed_worth (unit_at (Local slot n)) ts ps o a ∙ (same_worth (λ z. unit_at (Local slot n) (slotted ts z)) (λ _. pos 0) ps (from_among (λ p. unit_at (Local slot n) (slotted ts p.0) ≡ pos 0) ts ps a (λ m c. refl) (λ t m c at. (let f : (slot == slot_of 0 ts t) ≡ false = slot-within ts slot t at h in rw f refl)) (λ m c. refl)) ∙ pairs_value-zero ps))
 
-pub placed_slots : (ts : List ℕ) (ps : List (Var × ℤ)) → IsOnce ts → AreAmong ts ps → HasSlots ps ts (placed (map (λ t. local_pairs t ps) ts) ps)
+pub placed_slots : (ts : List ℕ) (ps : List (Var × ℤ)) → IsOnce ts → AreAmong ts ps → HasSlots ps ts (put_in_slots (map (λ t. local_pairs t ps) ts) ps)
 placed_slots ts ps o a = record {
   slots = λ slot n h. coefficient_is (Local slot n) (Local (slice_index ts slot) n) ts ps o a (from_among (λ p. unit_at (Local slot n) (slotted ts p.0) ≡ unit_at (Local (slice_index ts slot) n) p.0) ts ps a (λ m c. refl) (λ t m c at. unit_by slot (slot_of 0 ts t) n m (slice_index ts slot) t (slot-test ts slot t o at h)) (λ m c. refl));
   beyond = λ slot n h. coefficient_none slot n ts ps o a h;

@@ -1,6 +1,6 @@
 // The pairs of a row with slots put for its threads.
 ghost use Rattle.std.specs.Prelude.{◌≡◌, ◌++◌, ◌<◌, ◌^◌, IfOk, OnOk, filter, length, map};
-ghost use Rattle.ps_atom.specs.inner.Slots.{in_slot, in_slots, is_global, is_havoc, placed};
+ghost use Rattle.ps_atom.specs.inner.Slots.{in_slot, in_slots, is_global, is_havoc, put_in_slots};
 
 use crate::share::Share;
 use ps_term::Var;
@@ -14,7 +14,7 @@ pub(crate) fn placed(
 ) -> Result<Vec<(Var, i128)>, AllocError>
     requires { length shares.now < 2 ^ 32 }
     ensures { IfOk result
-        (λ list. list.items ≡ placed (map (λ share. share.pairs.items) shares.now) pairs.now) }
+        (λ list. list.items ≡ put_in_slots (map (λ share. share.pairs.items) shares.now) pairs.now) }
 {
     let mut list = Vec::with_capacity(alloc, pairs.len())?;
     push_globals(&mut list, pairs)?;

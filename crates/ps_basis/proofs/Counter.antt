@@ -3,7 +3,7 @@ use Rattle.std.proofs.Common.{◌≡◌, refl, sym, ap, ◌∙◌, subst, ℕ, �
 use Rattle.std.proofs.lemmas.List.Elements.{All-nil, All-cons, All-head, All-contains, All-from_recursion}
 use Rattle.ps_atom.specs.Atoms.{renamed}
 use Rattle.ps_atom.specs.declared.atom.Atom.{Atom}
-use Rattle.ps_triple.specs.Entries.{Gives, HasInitial, IsRenamed, false_atom}
+use Rattle.ps_triple.specs.Entries.{GivesAtom, HasInitial, IsRenamed, false_atom}
 use Rattle.ps_triple.specs.declared.entry.Entry.{Entry}
 use Rattle.ps_triple.specs.declared.entry.Entry.TheVariants.{Triple as OfTriple, Initial as OfInitial}
 use Rattle.ps_triple.specs.declared.triple.Triple.{Triple}
@@ -23,7 +23,7 @@ by_thread t before after thread pre post = record {
 }
 
 gives : (t : Triple) (before command after thread : ℕ) → Contains counter_entries (OfTriple t) → t.command ≡ command → t.pre ≡ bare before ∷ [] → t.post ≡ bare after →
-    Gives counter_entries thread command (bare before ∷ []) (bare after)
+    GivesAtom counter_entries thread command (bare before ∷ []) (bare after)
 gives t before command after thread here same pre post = record { triple = t; listed = here; same = same; by = by_thread t before after thread pre post }
 
 abbrev finds : Triple
@@ -43,13 +43,13 @@ three_letters = record {
   proof = sequence (listed first) (sequence (listed second) (listed third) (λ q i. i)) (λ q i. i);
 }
   where
-    first : Gives counter_entries 0 0 (bare 2 ∷ []) (bare 2)
+    first : GivesAtom counter_entries 0 0 (bare 2 ∷ []) (bare 2)
     first = gives keeps 2 0 2 0 (4, (let l : 4 < 6 = omega arith in l), refl) refl refl refl
 
-    second : Gives counter_entries 1 0 (bare 2 ∷ []) (bare 1)
+    second : GivesAtom counter_entries 1 0 (bare 2 ∷ []) (bare 1)
     second = gives adds 2 0 1 1 (2, (let l : 2 < 6 = omega arith in l), refl) refl refl refl
 
-    third : Gives counter_entries 1 2 (bare 1 ∷ []) (bare 0)
+    third : GivesAtom counter_entries 1 2 (bare 1 ∷ []) (bare 0)
     third = gives finds 1 2 0 1 (1, (let l : 1 < 6 = omega arith in l), refl) refl refl refl
 
 -- of the entries, only one triple has command 2, and none of predicate 1 is initial
@@ -82,7 +82,7 @@ not_one = All-from_recursion NotOne counter_entries ((λ e. let no : ⊥ = omega
 pub not_one_letter : ¬ IsProved counter_entries ((0, 2) ∷ [])
 not_one_letter proved = demanded ((rules_are_demands counter_entries ((0, 2) ∷ [])).0 proved).1
   where
-    from : (a : List Atom) → Gives counter_entries 0 2 a false_atom → All (λ (q : Atom). HasInitial counter_entries q.predicate) a → ⊥
+    from : (a : List Atom) → GivesAtom counter_entries 0 2 a false_atom → All (λ (q : Atom). HasInitial counter_entries q.predicate) a → ⊥
     from a g all = at_first (All-head (λ (q : Atom). HasInitial counter_entries q.predicate) (renamed g.by.new (bare 1)) []
         (subst (All (λ (q : Atom). HasInitial counter_entries q.predicate)) (g.by.pre ∙ ap (λ (qs : List Atom). map (renamed g.by.new) qs)
         (All-contains OnlyFinds counter_entries (OfTriple g.triple) only_finds g.listed g.same)) all))

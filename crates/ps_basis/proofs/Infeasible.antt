@@ -26,7 +26,7 @@ use Rattle.ps_triple.specs.declared.entry.Entry.{Entry}
 use Rattle.ps_triple.specs.declared.entry.Entry.TheVariants.{Triple as OfTriple, Initial as OfInitial}
 use Rattle.ps_triple.proofs.Worth.{valid, initially}
 use Rattle.ps_basis.specs.Demands.{IsGiven}
-use Rattle.ps_basis.specs.Feasible.{after_trace, HavocsFit, Runs}
+use Rattle.ps_basis.specs.Feasible.{after_trace, TraceHavocsFit, Runs}
 use Rattle.ps_basis.specs.Space.{IsProved}
 use Rattle.ps_basis.proofs.Rules.{rules_are_demands}
 
@@ -54,7 +54,7 @@ module _ (setting : Setting) (predicates : List Predicate) (entries : List Entry
           (valid setting predicates g.triple (hold (OfTriple g.triple) g.listed) l.0 a q g.by)
 
   true_all : (ls : List (ℕ × ℕ)) (hss : List (List ℤ)) (done : List (ℕ × ℕ)) (s r : State) → AreTrueAfter predicates entries guest done s →
-      IsSized setting s → All (λ (l : ℕ × ℕ). l.0 < length s.locals) ls → HavocsFit setting.commands ls hss → after_trace setting.commands ls hss s ≡ Some r →
+      IsSized setting s → All (λ (l : ℕ × ℕ). l.0 < length s.locals) ls → TraceHavocsFit setting.commands ls hss → after_trace setting.commands ls hss s ≡ Some r →
       AreTrueAfter predicates entries guest (reverse_aux ls done) r
   true_all [] hss done s r before sized within fit runs = subst (λ (x : State). AreTrueAfter predicates entries guest done x) (same_Some s r runs) before
   true_all (l ∷ ls) [] done s r before sized within fit runs = absurd fit

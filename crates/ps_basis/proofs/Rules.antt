@@ -5,7 +5,7 @@ use Rattle.std.proofs.lemmas.List.Elements.{All-nil, All-cons, All-weaker, All-c
 use Rattle.ps_list.proofs.Members.{nothing, cons_cases, here, there}
 use Rattle.ps_atom.specs.declared.atom.Atom.{Atom}
 use Rattle.ps_triple.specs.declared.entry.Entry.{Entry}
-use Rattle.ps_triple.specs.Entries.{Gives, HasInitial, false_atom}
+use Rattle.ps_triple.specs.Entries.{GivesAtom, HasInitial, false_atom}
 use Rattle.ps_basis.specs.Space.{InSpace, listed, idle, union, sequence, IsUnion, IsProved}
 use Rattle.ps_basis.specs.Demands.{IsGivenFrom, IsGiven}
 use Rattle.ps_triple.proofs.Membership.{all_of}
@@ -42,11 +42,11 @@ ByRules entries P trace b = (a : List Atom) × All P a × InSpace entries trace 
 
 -- the triples of one letter, together
 one_letter : (entries : List Entry) (l : ℕ × ℕ) (P : Atom → Type 0) (b : List Atom) →
-    ((q : Atom) → Contains b q → (a : List Atom) × Gives entries l.0 l.1 a q × All P a) → ByRules entries P (l ∷ []) b
+    ((q : Atom) → Contains b q → (a : List Atom) × GivesAtom entries l.0 l.1 a q × All P a) → ByRules entries P (l ∷ []) b
 one_letter entries l P [] h = ([], All-nil P, idle)
 one_letter entries l P (q ∷ b) h = put (h q (here q b)) (one_letter entries l P b (λ r i. h r (there q b r i)))
   where
-    put : (a : List Atom) × Gives entries l.0 l.1 a q × All P a → ByRules entries P (l ∷ []) b → ByRules entries P (l ∷ []) (q ∷ b)
+    put : (a : List Atom) × GivesAtom entries l.0 l.1 a q × All P a → ByRules entries P (l ∷ []) b → ByRules entries P (l ∷ []) (q ∷ b)
     put (a, g, all) (others, rest, s) = (a ++ others, All-append P a others all rest, union (listed g) s (appended a others) (appended (q ∷ []) b))
 
 -- what is given, the rules give

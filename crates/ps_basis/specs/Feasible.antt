@@ -16,11 +16,11 @@ after_trace commands (l ∷ trace) (hs ∷ hss) s =
     option_and_then (after_trace commands trace hss) (run_by l.0 (ops_of commands l.1) s hs)
 
 -- each command has as many havoc values as it takes
-abbrev pub HavocsFit : List Command → List (ℕ × ℕ) → List (List ℤ) → Type 0
-HavocsFit commands [] hss = Unit {0}
-HavocsFit commands (l ∷ trace) [] = ⊥
-HavocsFit commands (l ∷ trace) (hs ∷ hss) =
-    (length hs ≡ havocs_in (ops_of commands l.1)) × HavocsFit commands trace hss
+abbrev pub TraceHavocsFit : List Command → List (ℕ × ℕ) → List (List ℤ) → Type 0
+TraceHavocsFit commands [] hss = Unit {0}
+TraceHavocsFit commands (l ∷ trace) [] = ⊥
+TraceHavocsFit commands (l ∷ trace) (hs ∷ hss) =
+    (length hs ≡ havocs_in (ops_of commands l.1)) × TraceHavocsFit commands trace hss
 
 -- from an initial state with at least the threads that occur, and with some havoc values, the trace runs
 pub record Runs (setting : Setting) (trace : List (ℕ × ℕ)) : Type 0 where
@@ -28,6 +28,6 @@ pub record Runs (setting : Setting) (trace : List (ℕ × ℕ)) : Type 0 where
   pub initial : IsInitial setting state
   pub threads : All (λ (l : ℕ × ℕ). l.0 < length state.locals) trace
   pub havocs : List (List ℤ)
-  pub fit : HavocsFit setting.commands trace havocs
+  pub fit : TraceHavocsFit setting.commands trace havocs
   pub after : State
   pub runs : after_trace setting.commands trace havocs state ≡ Some after

@@ -2,7 +2,7 @@
 use Rattle.std.specs.Prelude.{ℕ, ◌⊎◌, ◌↔◌, List, [], ◌∷◌, ◌++◌, All, Contains}
 use Rattle.ps_atom.specs.declared.atom.Atom.{Atom}
 use Rattle.ps_triple.specs.declared.entry.Entry.{Entry}
-use Rattle.ps_triple.specs.Entries.{Gives, HasInitial, false_atom}
+use Rattle.ps_triple.specs.Entries.{GivesAtom, HasInitial, false_atom}
 
 -- each atom of the first is one of the second
 abbrev pub IsPart : List Atom → List Atom → Type 0
@@ -15,7 +15,7 @@ IsUnion a b c = (q : Atom) → Contains c q ↔ (Contains a q ⊎ Contains b q)
 -- the triples of the space: the listed ones under every renaming, and the empty one, of one letter; the unions of two of
 -- one trace; and two one after another, where what the second needs is part of what the first leaves
 pub data InSpace (entries : List Entry) : List (ℕ × ℕ) → List Atom → List Atom → Type 0 where
-  listed : {thread command : ℕ} {a : List Atom} {q : Atom} → Gives entries thread command a q →
+  listed : {thread command : ℕ} {a : List Atom} {q : Atom} → GivesAtom entries thread command a q →
       InSpace entries ((thread, command) ∷ []) a (q ∷ [])
   idle : {thread command : ℕ} → InSpace entries ((thread, command) ∷ []) [] []
   union : {trace : List (ℕ × ℕ)} {a b c d e f : List Atom} → InSpace entries trace a b → InSpace entries trace c d →

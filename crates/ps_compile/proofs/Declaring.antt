@@ -7,7 +7,7 @@ use Rattle.std.proofs.lemmas.Bool.Decides.{nat_tests}
 use Rattle.ps_command.specs.Named.{is_declared, is_declared_op, is_declared_row, is_local, names_local}
 use Rattle.ps_compile.specs.Compiled.{declared_rows, first_alternative, relation_rows, start_rows, value_rows}
 use Rattle.ps_compile.specs.Conditions.{IsCompilable, IsCompilableProduct, IsCompilableSum, IsCompilableRelation, IsCompilableCond, AreCompilableConds, IsCompilableTest, IsCompilableStmt, IsCompilableBlock}
-use Rattle.ps_compile.specs.Layout.{Site, Planned, planned_at, planned_from, all_planned, body_sites, end_of_body, opened, opened_of, inner, inner_all, sites, sites_all, sites_of, start, start_of}
+use Rattle.ps_compile.specs.Layout.{Site, Planned, planned_at, planned_from, all_planned, body_sites, end_of_body, opened, opened_of, inner, inner_all, sites, sites_all, sites_of, start_location, block_start}
 use Rattle.ps_compile.specs.Ops.{bound_row, ops_on, sum_term, with_products}
 use Rattle.ps_graph.specs.Alternatives.{Bound, opposite, of_relation, product, alternatives, one_of_each, one_of_any}
 use Rattle.ps_graph.specs.Follows.{going_to}
@@ -214,20 +214,20 @@ module _ (g l : ℕ) where
   mutual
     sites_named : (inside : Bool) (place : Place) (k : StmtKind) (a z next : ℕ) → IsCompilableStmt g l inside k → AllByRecursion NamesSite (sites place k a z next)
     sites_named inside place (If' t i held j failed) a z next h = (
-      all_joined (λ (p : List Act × ℕ). NamesPath p.0) (going_to (start held z next) (ways true t)) (going_to (start failed z (next + opened held)) (ways false t))
-          (going_named (start held z next) (ways true t) (ways_named true t h.0))
-          (going_named (start failed z (next + opened held)) (ways false t) (ways_named false t h.0)),
+      all_joined (λ (p : List Act × ℕ). NamesPath p.0) (going_to (start_location held z next) (ways true t)) (going_to (start_location failed z (next + opened held)) (ways false t))
+          (going_named (start_location held z next) (ways true t) (ways_named true t h.0))
+          (going_named (start_location failed z (next + opened held)) (ways false t) (ways_named false t h.0)),
       all_joined NamesSite
-          (sites_all held (start held z next) z (next + (opened held + opened failed)))
-          (sites_all failed (start failed z (next + opened held)) z ((next + (opened held + opened failed)) + inner_all held))
-          (all_sites_named inside held (start held z next) z (next + (opened held + opened failed)) h.1)
-          (all_sites_named inside failed (start failed z (next + opened held)) z ((next + (opened held + opened failed)) + inner_all held) h.2),
+          (sites_all held (start_location held z next) z (next + (opened held + opened failed)))
+          (sites_all failed (start_location failed z (next + opened held)) z ((next + (opened held + opened failed)) + inner_all held))
+          (all_sites_named inside held (start_location held z next) z (next + (opened held + opened failed)) h.1)
+          (all_sites_named inside failed (start_location failed z (next + opened held)) z ((next + (opened held + opened failed)) + inner_all held) h.2),
     )
     sites_named inside place (While' t i block) a z next h = (
-      all_joined (λ (p : List Act × ℕ). NamesPath p.0) (going_to (start block a next) (ways true t)) (going_to z (ways false t))
-          (going_named (start block a next) (ways true t) (ways_named true t h.1))
+      all_joined (λ (p : List Act × ℕ). NamesPath p.0) (going_to (start_location block a next) (ways true t)) (going_to z (ways false t))
+          (going_named (start_location block a next) (ways true t) (ways_named true t h.1))
           (going_named z (ways false t) (ways_named false t h.1)),
-      all_sites_named inside block (start block a next) a (next + opened block) h.2,
+      all_sites_named inside block (start_location block a next) a (next + opened block) h.2,
     )
     sites_named inside place (Atomic' n block) a z next h = (going_named z (paths_all block) (block_named true block h), tt)
     sites_named inside place (Assign x s) a z next h = (going_named z (paths (Assign x s)) (paths_named inside (Assign x s) h), tt)
@@ -239,16 +239,16 @@ module _ (g l : ℕ) where
     all_sites_named : (inside : Bool) {n : _} (row : Row_of-Stmt n) (a z next : ℕ) → IsCompilableBlock g l inside row → AllByRecursion NamesSite (sites_all row a z next)
     all_sites_named inside end_of-Stmt a z next h = tt
     all_sites_named inside (more_of-Stmt place k rest) a z next h =
-        all_joined NamesSite (sites place k a (start rest z next) (next + opened rest)) (sites_all rest (start rest z next) z ((next + opened rest) + inner k))
-        (sites_named inside place k a (start rest z next) (next + opened rest) h.0)
-        (all_sites_named inside rest (start rest z next) z ((next + opened rest) + inner k) h.1)
+        all_joined NamesSite (sites place k a (start_location rest z next) (next + opened rest)) (sites_all rest (start_location rest z next) z ((next + opened rest) + inner k))
+        (sites_named inside place k a (start_location rest z next) (next + opened rest) h.0)
+        (all_sites_named inside rest (start_location rest z next) z ((next + opened rest) + inner k) h.1)
 
   list_named : (inside : Bool) (block : List Stmt) (a z next : ℕ) → AllByRecursion (λ (s : Stmt). IsCompilableStmt g l inside s.kind) block → AllByRecursion NamesSite (sites_of block a z next)
   list_named inside [] a z next h = tt
   list_named inside (s ∷ rest) a z next h =
-      all_joined NamesSite (sites s.place s.kind a (start_of rest z next) (next + opened_of rest)) (sites_of rest (start_of rest z next) z ((next + opened_of rest) + inner s.kind))
-      (sites_named inside s.place s.kind a (start_of rest z next) (next + opened_of rest) h.0)
-      (list_named inside rest (start_of rest z next) z ((next + opened_of rest) + inner s.kind) h.1)
+      all_joined NamesSite (sites s.place s.kind a (block_start rest z next) (next + opened_of rest)) (sites_of rest (block_start rest z next) z ((next + opened_of rest) + inner s.kind))
+      (sites_named inside s.place s.kind a (block_start rest z next) (next + opened_of rest) h.0)
+      (list_named inside rest (block_start rest z next) z ((next + opened_of rest) + inner s.kind) h.1)
 
   -- the edge that is planned names declared variables alone
   abbrev pub IsNamedPlan : Planned → Type 0

@@ -1,6 +1,6 @@
 -- The limits inside a block, with blocks as lists.
 use Rattle.std.proofs.Common.{◌≡◌, refl, sym, ◌∙◌, ap, ap₂, subst, ℕ, suc, ◌+◌, ◌-◌, ◌^◌, ◌<◌, min, List, [], ◌∷◌, ◌++◌, length, drop, get_or, drop-cons, arith, append_assoc}
-use Rattle.ps_compile.specs.Checks.{Check, NoneIsExceeded, alternatives_checks, counted, inside, inside_all, inner_checks, paths_checks}
+use Rattle.ps_compile.specs.Checks.{Check, NoneIsExceeded, alternatives_checks, count_check, inside, inside_all, inner_checks, paths_checks}
 use Rattle.ps_compile.specs.inner.Counts.{going, failing, paths_of}
 use Rattle.ps_graph.specs.Paths.{Act}
 use Rattle.ps_compile.proofs.Counting.{all_paths, paths_list}
@@ -29,9 +29,9 @@ inside_atomic k b slice e s = ap inside_of s ∙ sym (inside_list b) ∙ ap insi
 pub inner_atomic : (k : StmtKind) (b slice : List Stmt) → k ≡ Atomic b → slice ≡ b → inside_of slice ≡ inner_checks k
 inner_atomic k b slice e s = ap inside_of s ∙ sym (inside_list b) ∙ ap inner_checks (sym e)
 
-pub paths_atomic : (place : Place) (k : StmtKind) (b slice : List Stmt) → k ≡ Atomic b → slice ≡ b → counted place limit.Paths (length (paths_of slice)) 64 ∷ [] ≡ paths_checks place k
+pub paths_atomic : (place : Place) (k : StmtKind) (b slice : List Stmt) → k ≡ Atomic b → slice ≡ b → count_check place limit.Paths (length (paths_of slice)) 64 ∷ [] ≡ paths_checks place k
 paths_atomic place k b slice e s =
-    ap (λ (ps : List (List Act)). counted place limit.Paths (length ps) 64 ∷ []) (ap paths_of s ∙ sym (paths_list b)) ∙ ap (paths_checks place) (sym e)
+    ap (λ (ps : List (List Act)). count_check place limit.Paths (length ps) 64 ∷ []) (ap paths_of s ∙ sym (paths_list b)) ∙ ap (paths_checks place) (sym e)
 
 pub inside_if : (k : StmtKind) (t : Test) (a b sa sb : List Stmt) → k ≡ If t a b → sa ≡ a → sb ≡ b → inside_of sa ++ inside_of sb ≡ inside k
 inside_if k t a b sa sb e f g = ap₂ (λ (x y : List Check). x ++ y) (ap inside_of f ∙ sym (inside_list a)) (ap inside_of g ∙ sym (inside_list b)) ∙ ap inside (sym e)

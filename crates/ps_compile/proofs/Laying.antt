@@ -8,8 +8,8 @@ use Rattle.ps_compile.proofs.Spots.{NoneAt, AreApart}
 use Rattle.ps_compile.proofs.Worth.{says_ops}
 use Rattle.ps_compile.specs.Compiled.{IsEdge, AreEdges}
 use Rattle.ps_graph.proofs.Members.{IsIn}
-use Rattle.ps_graph.specs.Follows.{Says, AreRealised, leaving, StmtConnects, BlockConnects, RestBeginsAt}
-use Rattle.ps_compile.specs.Layout.{Site, Planned, planned_at, all_planned, start, opened, inner, inner_all, sites, sites_all, start_of, opened_of, sites_of, end_of_body, body_sites}
+use Rattle.ps_graph.specs.Follows.{SaysOps, AreRealised, leaving, StmtConnects, BlockConnects, RestBeginsAt}
+use Rattle.ps_compile.specs.Layout.{Site, Planned, planned_at, all_planned, start_location, opened, inner, inner_all, sites, sites_all, block_start, opened_of, sites_of, end_of_body, body_sites}
 use Rattle.ps_graph.specs.Paths.{Act}
 use Rattle.ps_graph.specs.declared.edge.Edge.{Edge}
 use Rattle.ps_tree.specs.declared.stmt.Stmt.{Stmt}
@@ -70,7 +70,7 @@ one_site commands a (p ∷ ps) (e ∷ es) h = at h.0 (one_site commands a ps es 
         (leaving a (e ∷ es) ≡ e ∷ es) × AreRealised commands a (p ∷ ps) (e ∷ es)
     at d rest = (
       leaves a e es d.source ∙ ap (λ (l : List Edge). e ∷ l) rest.0,
-      (record { source = d.source; target = d.target; ops = subst (λ l. Says p.0 l) (sym d.ops) (says_ops p.0); picks = d.picks }, rest.1),
+      (record { source = d.source; target = d.target; ops = subst (λ l. SaysOps p.0 l) (sym d.ops) (says_ops p.0); picks = d.picks }, rest.1),
     )
 
 other_site : (commands : List Command) (a b : ℕ) (ps : List (List Act × ℕ)) (es : List Edge) → ¬ (b ≡ a) →
@@ -163,42 +163,42 @@ module _ (commands : List Command) (edges : List Edge) (all : List Site) (realis
     connects place Skip a z next l h = realise _ h.0
     connects place (Atomic' n b) a z next l h = realise _ h.0
     connects place (If' t i held j failed) a z next l h = (
-      start held z next,
-      start failed z (next + opened held),
+      start_location held z next,
+      start_location failed z (next + opened held),
       realise _ h.0,
       all_connect held z next (next + (opened held + opened failed)) (omega (arith, l)) (omega (arith, l))
-          (in_first (sites_all held (start held z next) z (next + (opened held + opened failed)))
-          (sites_all failed (start failed z (next + opened held)) z ((next + (opened held + opened failed)) + inner_all held)) all h.1),
+          (in_first (sites_all held (start_location held z next) z (next + (opened held + opened failed)))
+          (sites_all failed (start_location failed z (next + opened held)) z ((next + (opened held + opened failed)) + inner_all held)) all h.1),
       all_connect failed z (next + opened held) ((next + (opened held + opened failed)) + inner_all held) (omega (arith, l)) (omega (arith, l))
-          (in_second (sites_all held (start held z next) z (next + (opened held + opened failed)))
-          (sites_all failed (start failed z (next + opened held)) z ((next + (opened held + opened failed)) + inner_all held)) all h.1),
+          (in_second (sites_all held (start_location held z next) z (next + (opened held + opened failed)))
+          (sites_all failed (start_location failed z (next + opened held)) z ((next + (opened held + opened failed)) + inner_all held)) all h.1),
     )
     connects place (While' t i block) a z next l h =
-        (start block a next, realise _ h.0, all_connect block a next (next + opened block) (omega (arith, l)) (omega (arith, l)) h.1)
+        (start_location block a next, realise _ h.0, all_connect block a next (next + opened block) (omega (arith, l)) (omega (arith, l)) h.1)
 
     pub all_connect : {n : _} (row : Row_of-Stmt n) (z first next : ℕ) → ¬ (first ≡ 1) → 1 < next →
-        AllIn (sites_all row (start row z first) z next) all → BlockConnects commands edges row (start row z first) z
+        AllIn (sites_all row (start_location row z first) z next) all → BlockConnects commands edges row (start_location row z first) z
     all_connect end_of-Stmt z first next n l h = refl
     all_connect (more_of-Stmt place k rest) z first next n l h = (
-      start rest z next,
+      start_location rest z next,
       n,
-      connects place k first (start rest z next) (next + opened rest) (omega (arith, l))
-          (in_first (sites place k first (start rest z next) (next + opened rest)) (sites_all rest (start rest z next) z ((next + opened rest) + inner k)) all h),
+      connects place k first (start_location rest z next) (next + opened rest) (omega (arith, l))
+          (in_first (sites place k first (start_location rest z next) (next + opened rest)) (sites_all rest (start_location rest z next) z ((next + opened rest) + inner k)) all h),
       all_connect rest z next ((next + opened rest) + inner k) (omega (arith, l)) (omega (arith, l))
-          (in_second (sites place k first (start rest z next) (next + opened rest)) (sites_all rest (start rest z next) z ((next + opened rest) + inner k)) all h),
+          (in_second (sites place k first (start_location rest z next) (next + opened rest)) (sites_all rest (start_location rest z next) z ((next + opened rest) + inner k)) all h),
     )
 
   -- a rest of statements begins where it starts, where no edge leaves its end
   pub list_begins : (rest : List Stmt) (z first next : ℕ) → ¬ (first ≡ 1) → 1 < next → ¬ (z ≡ 1) → leaving z edges ≡ [] →
-      AllIn (sites_of rest (start_of rest z first) z next) all → RestBeginsAt commands edges rest (start_of rest z first)
+      AllIn (sites_of rest (block_start rest z first) z next) all → RestBeginsAt commands edges rest (block_start rest z first)
   list_begins [] z first next n l nz none h = (nz, none)
   list_begins (s ∷ rest) z first next n l nz none h = (
-    start_of rest z next,
+    block_start rest z next,
     n,
-    connects s.place s.kind first (start_of rest z next) (next + opened_of rest) (omega (arith, l))
-        (in_first (sites s.place s.kind first (start_of rest z next) (next + opened_of rest)) (sites_of rest (start_of rest z next) z ((next + opened_of rest) + inner s.kind)) all h),
+    connects s.place s.kind first (block_start rest z next) (next + opened_of rest) (omega (arith, l))
+        (in_first (sites s.place s.kind first (block_start rest z next) (next + opened_of rest)) (sites_of rest (block_start rest z next) z ((next + opened_of rest) + inner s.kind)) all h),
     list_begins rest z next ((next + opened_of rest) + inner s.kind) (omega (arith, l)) (omega (arith, l)) nz none
-        (in_second (sites s.place s.kind first (start_of rest z next) (next + opened_of rest)) (sites_of rest (start_of rest z next) z ((next + opened_of rest) + inner s.kind)) all h),
+        (in_second (sites s.place s.kind first (block_start rest z next) (next + opened_of rest)) (sites_of rest (block_start rest z next) z ((next + opened_of rest) + inner s.kind)) all h),
   )
 
 -- a body begins at its entry, where no edge leaves its end

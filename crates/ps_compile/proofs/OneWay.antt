@@ -13,9 +13,9 @@ use Rattle.ps_compile.proofs.Spots.{AreApart}
 use Rattle.ps_compile.specs.Compiled.{AreEdges}
 use Rattle.ps_graph.specs.Facts.{after_edge, IsDeterministic}
 use Rattle.ps_graph.specs.Follows.{Realises, going_to, leaving}
-use Rattle.ps_compile.specs.Layout.{Site, planned_at, all_planned, start, opened, inner, inner_all, sites, sites_all, start_of, opened_of, sites_of}
+use Rattle.ps_compile.specs.Layout.{Site, planned_at, all_planned, start_location, opened, inner, inner_all, sites, sites_all, block_start, opened_of, sites_of}
 use Rattle.ps_graph.specs.Paths.{Act, is_failing, paths, ways}
-use Rattle.ps_graph.specs.Step.{Completion, Normal, Failing, Blocked, decided, within}
+use Rattle.ps_graph.specs.Step.{Completion, Normal, Failing, Blocked, decided, step_within}
 use Rattle.ps_graph.specs.declared.edge.Edge.{Edge}
 use Rattle.ps_tree.specs.declared.cond.Test.{Test}
 use Rattle.ps_tree.specs.declared.stmt.Stmt.{Stmt}
@@ -108,7 +108,7 @@ one_way_append [] ys a b = b
 one_way_append (x ∷ xs) ys a b = (a.0, one_way_append xs ys a.1 b)
 
 simple_way : (k : StmtKind) (z : ℕ) → IsOneWay (going_to z (paths k))
-simple_way k z = agreed_way z (paths k) (within k) (λ v cs. agrees k v cs)
+simple_way k z = agreed_way z (paths k) (step_within k) (λ v cs. agrees k v cs)
 
 mutual
   pub one_way : (place : Place) (k : StmtKind) (a z next : ℕ) → AllOneWay (sites place k a z next)
@@ -119,29 +119,29 @@ mutual
   one_way place Skip a z next = (simple_way Skip z, tt)
   one_way place (Atomic' n b) a z next = (simple_way (Atomic' n b) z, tt)
   one_way place (If' t i held j failed) a z next = (
-    test_way (start held z next) (start failed z (next + opened held)) t,
+    test_way (start_location held z next) (start_location failed z (next + opened held)) t,
     one_way_append
-        (sites_all held (start held z next) z (next + (opened held + opened failed)))
-        (sites_all failed (start failed z (next + opened held)) z ((next + (opened held + opened failed)) + inner_all held))
-        (all_one_way held (start held z next) z (next + (opened held + opened failed)))
-        (all_one_way failed (start failed z (next + opened held)) z ((next + (opened held + opened failed)) + inner_all held)),
+        (sites_all held (start_location held z next) z (next + (opened held + opened failed)))
+        (sites_all failed (start_location failed z (next + opened held)) z ((next + (opened held + opened failed)) + inner_all held))
+        (all_one_way held (start_location held z next) z (next + (opened held + opened failed)))
+        (all_one_way failed (start_location failed z (next + opened held)) z ((next + (opened held + opened failed)) + inner_all held)),
   )
   one_way place (While' t i block) a z next =
-      (test_way (start block a next) z t, all_one_way block (start block a next) a (next + opened block))
+      (test_way (start_location block a next) z t, all_one_way block (start_location block a next) a (next + opened block))
 
   pub all_one_way : {n : _} (row : Row_of-Stmt n) (a z next : ℕ) → AllOneWay (sites_all row a z next)
   all_one_way end_of-Stmt a z next = tt
   all_one_way (more_of-Stmt place k rest) a z next =
-      one_way_append (sites place k a (start rest z next) (next + opened rest)) (sites_all rest (start rest z next) z ((next + opened rest) + inner k))
-      (one_way place k a (start rest z next) (next + opened rest))
-      (all_one_way rest (start rest z next) z ((next + opened rest) + inner k))
+      one_way_append (sites place k a (start_location rest z next) (next + opened rest)) (sites_all rest (start_location rest z next) z ((next + opened rest) + inner k))
+      (one_way place k a (start_location rest z next) (next + opened rest))
+      (all_one_way rest (start_location rest z next) z ((next + opened rest) + inner k))
 
 pub list_one_way : (rest : List Stmt) (a z next : ℕ) → AllOneWay (sites_of rest a z next)
 list_one_way [] a z next = tt
 list_one_way (s ∷ rest) a z next =
-    one_way_append (sites s.place s.kind a (start_of rest z next) (next + opened_of rest)) (sites_of rest (start_of rest z next) z ((next + opened_of rest) + inner s.kind))
-    (one_way s.place s.kind a (start_of rest z next) (next + opened_of rest))
-    (list_one_way rest (start_of rest z next) z ((next + opened_of rest) + inner s.kind))
+    one_way_append (sites s.place s.kind a (block_start rest z next) (next + opened_of rest)) (sites_of rest (block_start rest z next) z ((next + opened_of rest) + inner s.kind))
+    (one_way s.place s.kind a (block_start rest z next) (next + opened_of rest))
+    (list_one_way rest (block_start rest z next) z ((next + opened_of rest) + inner s.kind))
 
 -- ---- the graph is deterministic
 

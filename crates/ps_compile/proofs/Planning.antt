@@ -8,7 +8,7 @@ use Rattle.ps_compile.proofs.Facts.{Ours, body_lies}
 use Rattle.ps_compile.specs.Checks.{Check, NoneIsExceeded, alternatives_checks, paths_checks, rows_checks, numbers_checks, edges_checks, commands_of, inner_checks, site_checks, checks}
 use Rattle.ps_compile.specs.Compiled.{one_owner}
 use Rattle.ps_compile.specs.Ends.{IsEndOf}
-use Rattle.ps_compile.specs.Layout.{Site, planned_from, planned_at, all_planned, start_of, opened_of, inner_of, sites_of, body_sites, body_size}
+use Rattle.ps_compile.specs.Layout.{Site, planned_from, planned_at, all_planned, block_start, opened_of, inner_of, sites_of, body_sites, body_size}
 use Rattle.ps_compile.specs.Ops.{ops_on}
 use Rattle.ps_compile.specs.declared.compile_end.CompileEnd.{CompileEnd}
 use Rattle.ps_compile.specs.declared.draft.Draft.{Draft}
@@ -22,15 +22,15 @@ use Rattle.ps_tree.specs.declared.stmt.Stmt.{Stmt}
 -- ---- the plan
 
 -- where the body is laid out from
-laid_from : (body : List Stmt) (o0 o1 : Plan) (end : ℕ) → o0.owners.items ≡ Some 0 ∷ None ∷ [] → end ≡ start_of body 0 (length o0.owners.items) →
+laid_from : (body : List Stmt) (o0 o1 : Plan) (end : ℕ) → o0.owners.items ≡ Some 0 ∷ None ∷ [] → end ≡ block_start body 0 (length o0.owners.items) →
     o1.owners.items ≡ o0.owners.items ++ replicate (opened_of body) (Some 0) → sites_of body 0 end (length o1.owners.items) ≡ body_sites body 0 2
 laid_from body o0 o1 end first e owners =
-    ap₂ (λ (z n : ℕ). sites_of body 0 z n) (e ∙ ap (λ (l : List (Option ℕ)). start_of body 0 (length l)) first)
+    ap₂ (λ (z n : ℕ). sites_of body 0 z n) (e ∙ ap (λ (l : List (Option ℕ)). block_start body 0 (length l)) first)
     (ap (λ (l : List (Option ℕ)). length l) (owners ∙ ap (λ (l : List (Option ℕ)). l ++ replicate (opened_of body) (Some 0)) first)
     ∙ (let f : suc (suc (length {A = Option ℕ} (replicate (opened_of body) (Some 0)))) ≡ 2 + opened_of body = omega (arith, length-replicate {A = Option ℕ} (opened_of body) (Some 0)) in f))
 
 pub plan_made : (body : List Stmt) (o0 o1 o2 : Plan) (end : ℕ) → o0.owners.items ≡ Some 0 ∷ None ∷ [] → o0.drafts.items ≡ [] →
-    end ≡ start_of body 0 (length o0.owners.items) → o1.owners.items ≡ o0.owners.items ++ replicate (opened_of body) (Some 0) → o1.drafts.items ≡ o0.drafts.items →
+    end ≡ block_start body 0 (length o0.owners.items) → o1.owners.items ≡ o0.owners.items ++ replicate (opened_of body) (Some 0) → o1.drafts.items ≡ o0.drafts.items →
     Grows 0 o1 o2 (sites_of body 0 end (length o1.owners.items)) (inner_of body) → IsPlanOf body o2
 plan_made body o0 o1 o2 end first none e owners drafts g = record {
   free = subst (λ (ss : List Site). NoneIsExceeded (checks 0 ss)) (laid_from body o0 o1 end first e owners)
@@ -41,7 +41,7 @@ plan_made body o0 o1 o2 end first none e owners drafts g = record {
 }
 
 pub plan_fails : (body : List Stmt) (o0 o1 : Plan) (end : ℕ) (why : CompileEnd) → o0.owners.items ≡ Some 0 ∷ None ∷ [] → o0.drafts.items ≡ [] →
-    end ≡ start_of body 0 (length o0.owners.items) → o1.owners.items ≡ o0.owners.items ++ replicate (opened_of body) (Some 0) → o1.drafts.items ≡ o0.drafts.items →
+    end ≡ block_start body 0 (length o0.owners.items) → o1.owners.items ≡ o0.owners.items ++ replicate (opened_of body) (Some 0) → o1.drafts.items ≡ o0.drafts.items →
     IsEndOf (checks (length o1.drafts.items) (sites_of body 0 end (length o1.owners.items))) why → IsEndOf (checks 0 (body_sites body 0 2)) why
 plan_fails body o0 o1 end why first none e owners drafts h =
     subst (λ (ss : List Site). IsEndOf (checks 0 ss) why) (laid_from body o0 o1 end first e owners)

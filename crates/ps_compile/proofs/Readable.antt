@@ -14,14 +14,14 @@ use Rattle.ps_compile.proofs.Small.{small_turned}
 use Rattle.ps_compile.specs.Conditions.{IsCompilable, IsCompilableProduct, IsCompilableSum, IsCompilableRelation, IsCompilableCond, IsCompilableTest, IsCompilableStmt, IsCompilableBlock, IsSmall, IsSmallValue}
 use Rattle.ps_grammar.proofs.Texts.{left, right, tree_of_text, value_below}
 use Rattle.ps_grammar.specs.Declarations.{Declared, most_levels, names_of, nothing_declared}
-use Rattle.ps_grammar.specs.Fits.{IsKnown, ProductFits, SumFits, RelationFits, CondFits, ConjFits, UnaryFits, TestFits, StmtFits, RestFits, ItemFits, ItemsFit, ProgramFits}
+use Rattle.ps_grammar.specs.Fits.{IsKnownName, ProductFits, SumTextFits, RelationFits, CondFits, ConjFits, UnaryFits, TestFits, StmtFits, RestFits, ItemFits, ItemsFit, ProgramFits}
 use Rattle.ps_grammar.specs.Grammar.{ProductText, number, name, number_name, name_number, SumText, RelationText, CondText, last_conj, or_else, ConjText, last_unary, and_also, UnaryText, negation, in_parens, relation, TestText, either, condition, StmtText, assign, havoc, assume, assert, skip, atomic, if_then, if_else, while_do, BlockText, block_end, block_more, ValueText, ItemText, global, local, init, ProgramText}
 use Rattle.ps_grammar.specs.Names.{Names, first_of, position_from}
 use Rattle.ps_grammar.specs.Numbers.{number_value, signed}
 use Rattle.ps_grammar.specs.Programs.{IsProgram}
 use Rattle.ps_grammar.specs.Spelling.{Piece, NumberPiece, Mark, block_pieces, cond_pieces, conj_pieces, further_pieces, item_pieces, minus_pieces, more_relations, product_pieces, program_pieces, relation_pieces, rest_pieces, sign_kind, stmt_pieces, sum_pieces, test_pieces, unary_pieces, value_pieces}
 use Rattle.ps_grammar.specs.Texts.{ArePieces, IsTreeOfText}
-use Rattle.ps_grammar.specs.Trees.{block_trees, cond_members, cond_tree, conj_members, gathered, product_tree, program_tree, relation_tree, stmt_tree, sum_tree, test_tree, unary_tree, value_of, variable_named, variable_or_first, with_item, with_items}
+use Rattle.ps_grammar.specs.Trees.{block_trees, cond_members, cond_tree, conj_members, gathered, product_tree, program_tree, relation_tree, stmt_tree, sum_tree, test_tree, unary_tree, declared_value, variable_named, variable_or_first, with_item, with_items}
 use Rattle.ps_term.specs.declared.var.Var.{Var}
 use Rattle.ps_term.specs.declared.var.Var.TheVariants.{Global, Local, Havoc as HavocVar}
 use Rattle.ps_token.specs.declared.place.Place.{Place}
@@ -53,7 +53,7 @@ known_at names x (Some k) l e f some = let less : k < 0 + length names.globals =
 known_at names x None (Some k) e f some = let less : k < 0 + length names.locals = position_below 0 k x names.locals f in grind (arith, nat_tests)
 known_at names x None None e f some = absurd (some refl)
 
-known : (names : Names) (x : List ℕ) → IsKnown names x → is_declared (length names.globals) (length names.locals) (variable_named names x) ≡ true
+known : (names : Names) (x : List ℕ) → IsKnownName names x → is_declared (length names.globals) (length names.locals) (variable_named names x) ≡ true
 known names x k = known_at names x (position_from 0 x names.globals) (position_from 0 x names.locals) refl refl k
 
 -- ---- more may be declared
@@ -116,7 +116,7 @@ module _ (names : Names) where
     further_asked ps f.1 (right (product_pieces p.1) (further_pieces ps) h.1),
   )
 
-  sum_asked : (s : SumText) → SumFits names s → ArePieces (sum_pieces s) → IsCompilableSum g l (sum_tree names s)
+  sum_asked : (s : SumText) → SumTextFits names s → ArePieces (sum_pieces s) → IsCompilableSum g l (sum_tree names s)
   sum_asked s f h =
       let rest : ArePieces (product_pieces s.first ++ further_pieces s.further) = right (minus_pieces s.negative) (product_pieces s.first ++ further_pieces s.further) h in (
         signed_asked g l s.negative (product_tree names s.first) (product_asked s.first f.0 (left (product_pieces s.first) (further_pieces s.further) rest)),
@@ -208,7 +208,7 @@ record Asked (d : Declared) : Type 0 where
   inits : AllByRecursion (IsCompilableRelation (length d.globals) (length d.locals)) d.inits
   signs : AllByRecursion (λ (r : Relation). r.sign ≢ NotEqual) d.inits
 
-value_asked : (v : Option ValueText) → ArePieces (value_pieces v) → IsSmallValue (value_of v)
+value_asked : (v : Option ValueText) → ArePieces (value_pieces v) → IsSmallValue (declared_value v)
 value_asked None h = tt
 value_asked (Some v) h = at v.negative (right (minus_pieces v.negative) (NumberPiece v.digits ∷ []) h.1)
   where
@@ -244,7 +244,7 @@ signs_asked d (r ∷ rs) f = (f.0.1, signs_asked d rs f.1)
 
 item_asked : (d : Declared) (i : ItemText) → ItemFits d i → ArePieces (item_pieces i) → Asked d → Asked (with_item d i)
 item_asked d (global x v) f h a =
-    let new : GlobalDecl = record { name = x; value = value_of v } in record {
+    let new : GlobalDecl = record { name = x; value = declared_value v } in record {
       values = all_joined (λ (e : GlobalDecl). IsSmallValue e.value) d.globals (new ∷ []) a.values (value_asked v (left (value_pieces v) (Mark kind.Semicolon ∷ []) h.1.1), tt);
       inits = wider_inits d (length (d.globals ++ new ∷ [])) (length d.locals) (longer d.globals new) (omega arith) a;
       signs = a.signs;

@@ -2,7 +2,7 @@
 use Rattle.std.proofs.Common.{◌≡◌, refl, ℕ, ◌+◌, ◌<◌, ◌≤◌, List, [], ◌∷◌, ◌++◌, ◌⊎◌, inl, inr, arith, true, false}
 use Rattle.std.specs.List.{AllByRecursion}
 use Rattle.ps_graph.specs.Follows.{going_to}
-use Rattle.ps_compile.specs.Layout.{Site, start, opened, inner, inner_all, sites, sites_all, start_of, opened_of, inner_of, sites_of, end_of_body, body_sites}
+use Rattle.ps_compile.specs.Layout.{Site, start_location, opened, inner, inner_all, sites, sites_all, block_start, opened_of, inner_of, sites_of, end_of_body, body_sites}
 use Rattle.ps_graph.specs.Paths.{Act, paths, ways}
 use Rattle.ps_tree.specs.declared.stmt.Stmt.{Stmt}
 use Rattle.ps_tree.specs.declared.stmt.StmtKind.{StmtKind, Assign, Havoc, Assume, Assert, Skip, Atomic', If', While', Row_of-Stmt, end_of-Stmt, more_of-Stmt}
@@ -32,7 +32,7 @@ going_lie Q z (p ∷ ps) h = (h, going_lie Q z ps h)
 abbrev pub Between : (ℕ → Type 0) → ℕ → ℕ → Type 0
 Between P n m = (y : ℕ) → n ≤ y → y < m → P y
 
-start_lies : (P : ℕ → Type 0) {n : _} (row : Row_of-Stmt n) (z next : ℕ) → P z → Between P next (next + opened row) → P (start row z next)
+start_lies : (P : ℕ → Type 0) {n : _} (row : Row_of-Stmt n) (z next : ℕ) → P z → Between P next (next + opened row) → P (start_location row z next)
 start_lies P end_of-Stmt z next h b = h
 start_lies P (more_of-Stmt _ _ _) z next h b = b next (omega arith) (omega arith)
 
@@ -52,16 +52,16 @@ mutual
   sites_lie P Q place (If' t i held j failed) a z next pa qa qz bp bq = (
     (
       pa,
-      goals_append Q (going_to (start held z next) (ways true t)) (going_to (start failed z (next + opened held)) (ways false t))
-          (going_lie Q (start held z next) (ways true t)
+      goals_append Q (going_to (start_location held z next) (ways true t)) (going_to (start_location failed z (next + opened held)) (ways false t))
+          (going_lie Q (start_location held z next) (ways true t)
           (start_lies Q held z next qz (narrow Q next (next + inner (If' t i held j failed)) next (next + opened held) bq (omega arith) (omega arith))))
-          (going_lie Q (start failed z (next + opened held)) (ways false t)
+          (going_lie Q (start_location failed z (next + opened held)) (ways false t)
           (start_lies Q failed z (next + opened held) qz
           (narrow Q next (next + inner (If' t i held j failed)) (next + opened held) ((next + opened held) + opened failed) bq (omega arith) (omega arith)))),
     ),
     lie_append P Q
-        (sites_all held (start held z next) z (next + (opened held + opened failed)))
-        (sites_all failed (start failed z (next + opened held)) z ((next + (opened held + opened failed)) + inner_all held))
+        (sites_all held (start_location held z next) z (next + (opened held + opened failed)))
+        (sites_all failed (start_location failed z (next + opened held)) z ((next + (opened held + opened failed)) + inner_all held))
         (all_lie P Q held z next (next + (opened held + opened failed)) qz
         (narrow P next (next + inner (If' t i held j failed)) next (next + opened held) bp (omega arith) (omega arith))
         (narrow Q next (next + inner (If' t i held j failed)) next (next + opened held) bq (omega arith) (omega arith))
@@ -76,8 +76,8 @@ mutual
   sites_lie P Q place (While' t i block) a z next pa qa qz bp bq = (
     (
       pa,
-      goals_append Q (going_to (start block a next) (ways true t)) (going_to z (ways false t))
-          (going_lie Q (start block a next) (ways true t)
+      goals_append Q (going_to (start_location block a next) (ways true t)) (going_to z (ways false t))
+          (going_lie Q (start_location block a next) (ways true t)
           (start_lies Q block a next qa (narrow Q next (next + inner (While' t i block)) next (next + opened block) bq (omega arith) (omega arith))))
           (going_lie Q z (ways false t) qz),
     ),
@@ -91,12 +91,12 @@ mutual
   -- a block that begins where it starts: at its end, or at the location `first`
   pub all_lie : (P Q : ℕ → Type 0) {n : _} (row : Row_of-Stmt n) (z first next : ℕ) → Q z →
       Between P first (first + opened row) → Between Q first (first + opened row) →
-      Between P next (next + inner_all row) → Between Q next (next + inner_all row) → AllLie P Q (sites_all row (start row z first) z next)
+      Between P next (next + inner_all row) → Between Q next (next + inner_all row) → AllLie P Q (sites_all row (start_location row z first) z next)
   all_lie P Q end_of-Stmt z first next qz fp fq bp bq = tt
   all_lie P Q (more_of-Stmt place k rest) z first next qz fp fq bp bq =
-      lie_append P Q (sites place k first (start rest z next) (next + opened rest))
-      (sites_all rest (start rest z next) z ((next + opened rest) + inner k))
-      (sites_lie P Q place k first (start rest z next) (next + opened rest) (fp first (omega arith) (omega arith)) (fq first (omega arith) (omega arith))
+      lie_append P Q (sites place k first (start_location rest z next) (next + opened rest))
+      (sites_all rest (start_location rest z next) z ((next + opened rest) + inner k))
+      (sites_lie P Q place k first (start_location rest z next) (next + opened rest) (fp first (omega arith) (omega arith)) (fq first (omega arith) (omega arith))
       (start_lies Q rest z next qz (narrow Q next (next + (opened rest + (inner k + inner_all rest))) next (next + opened rest) bq (omega arith) (omega arith)))
       (narrow P next (next + (opened rest + (inner k + inner_all rest))) (next + opened rest) ((next + opened rest) + inner k) bp (omega arith) (omega arith))
       (narrow Q next (next + (opened rest + (inner k + inner_all rest))) (next + opened rest) ((next + opened rest) + inner k) bq (omega arith) (omega arith)))
@@ -154,7 +154,7 @@ abbrev BlockSpot : ℕ → ℕ → ℕ → ℕ → ℕ → Type 0
 BlockSpot first n i m y = ((first ≤ y) × (y < n)) ⊎ ((i ≤ y) × (y < m))
 
 block_spots : {n : _} (row : Row_of-Stmt n) (z first next : ℕ) →
-    AllLie (BlockSpot first (first + opened row) next (next + inner_all row)) Any (sites_all row (start row z first) z next)
+    AllLie (BlockSpot first (first + opened row) next (next + inner_all row)) Any (sites_all row (start_location row z first) z next)
 block_spots row z first next =
     all_lie (BlockSpot first (first + opened row) next (next + inner_all row)) Any row z first next tt (λ y l r. inl (l, r)) (λ y l r. tt) (λ y l r. inr (l, r)) (λ y l r. tt)
 
@@ -168,13 +168,13 @@ mutual
   apart place (Atomic' n b) a z next h = (tt, tt)
   apart place (If' t i held j failed) a z next h = (
     none_append a
-        (sites_all held (start held z next) z (next + (opened held + opened failed)))
-        (sites_all failed (start failed z (next + opened held)) z ((next + (opened held + opened failed)) + inner_all held))
+        (sites_all held (start_location held z next) z (next + (opened held + opened failed)))
+        (sites_all failed (start_location failed z (next + opened held)) z ((next + (opened held + opened failed)) + inner_all held))
         (none_lies _ a _ (block_spots held z next (next + (opened held + opened failed))) (λ y s e. grind arith))
         (none_lies _ a _ (block_spots failed z (next + opened held) ((next + (opened held + opened failed)) + inner_all held)) (λ y s e. grind arith)),
     apart_append
-        (sites_all held (start held z next) z (next + (opened held + opened failed)))
-        (sites_all failed (start failed z (next + opened held)) z ((next + (opened held + opened failed)) + inner_all held))
+        (sites_all held (start_location held z next) z (next + (opened held + opened failed)))
+        (sites_all failed (start_location failed z (next + opened held)) z ((next + (opened held + opened failed)) + inner_all held))
         (apart_all held z next (next + (opened held + opened failed)) (omega arith))
         (apart_all failed z (next + opened held) ((next + (opened held + opened failed)) + inner_all held) (omega arith))
         (clear_lies _ _ _ _ (block_spots held z next (next + (opened held + opened failed)))
@@ -186,14 +186,14 @@ mutual
     apart_all block a next (next + opened block) (omega arith),
   )
 
-  pub apart_all : {n : _} (row : Row_of-Stmt n) (z first next : ℕ) → first + opened row ≤ next → AreApart (sites_all row (start row z first) z next)
+  pub apart_all : {n : _} (row : Row_of-Stmt n) (z first next : ℕ) → first + opened row ≤ next → AreApart (sites_all row (start_location row z first) z next)
   apart_all end_of-Stmt z first next h = tt
   apart_all (more_of-Stmt place k rest) z first next h =
-      apart_append (sites place k first (start rest z next) (next + opened rest))
-      (sites_all rest (start rest z next) z ((next + opened rest) + inner k))
-      (apart place k first (start rest z next) (next + opened rest) (omega (arith, h)))
+      apart_append (sites place k first (start_location rest z next) (next + opened rest))
+      (sites_all rest (start_location rest z next) z ((next + opened rest) + inner k))
+      (apart place k first (start_location rest z next) (next + opened rest) (omega (arith, h)))
       (apart_all rest z next ((next + opened rest) + inner k) (omega arith))
-      (clear_lies _ _ _ _ (site_spots place k first (start rest z next) (next + opened rest))
+      (clear_lies _ _ _ _ (site_spots place k first (start_location rest z next) (next + opened rest))
       (block_spots rest z next ((next + opened rest) + inner k))
       (λ x y s r e. grind arith))
 
@@ -201,12 +201,12 @@ mutual
 
 pub list_lie : (P Q : ℕ → Type 0) (rest : List Stmt) (z first next : ℕ) → Q z →
     Between P first (first + opened_of rest) → Between Q first (first + opened_of rest) →
-    Between P next (next + inner_of rest) → Between Q next (next + inner_of rest) → AllLie P Q (sites_of rest (start_of rest z first) z next)
+    Between P next (next + inner_of rest) → Between Q next (next + inner_of rest) → AllLie P Q (sites_of rest (block_start rest z first) z next)
 list_lie P Q [] z first next qz fp fq bp bq = tt
 list_lie P Q (s ∷ rest) z first next qz fp fq bp bq =
-    lie_append P Q (sites s.place s.kind first (start_of rest z next) (next + opened_of rest))
-    (sites_of rest (start_of rest z next) z ((next + opened_of rest) + inner s.kind))
-    (sites_lie P Q s.place s.kind first (start_of rest z next) (next + opened_of rest) (fp first (omega arith) (omega arith)) (fq first (omega arith) (omega arith))
+    lie_append P Q (sites s.place s.kind first (block_start rest z next) (next + opened_of rest))
+    (sites_of rest (block_start rest z next) z ((next + opened_of rest) + inner s.kind))
+    (sites_lie P Q s.place s.kind first (block_start rest z next) (next + opened_of rest) (fp first (omega arith) (omega arith)) (fq first (omega arith) (omega arith))
     (start_lies rest (λ y l r. bq y l (omega (arith, r))))
     (λ y l r. bp y (omega (arith, l)) (omega (arith, r)))
     (λ y l r. bq y (omega (arith, l)) (omega (arith, r))))
@@ -216,23 +216,23 @@ list_lie P Q (s ∷ rest) z first next qz fp fq bp bq =
     (λ y l r. bp y (omega (arith, l)) (omega (arith, r)))
     (λ y l r. bq y (omega (arith, l)) (omega (arith, r))))
   where
-    start_lies : (rs : List Stmt) → Between Q next (next + opened_of rs) → Q (start_of rs z next)
+    start_lies : (rs : List Stmt) → Between Q next (next + opened_of rs) → Q (block_start rs z next)
     start_lies [] b = qz
     start_lies (_ ∷ _) b = b next (omega arith) (omega arith)
 
 list_spots : (rest : List Stmt) (z first next : ℕ) →
-    AllLie (BlockSpot first (first + opened_of rest) next (next + inner_of rest)) Any (sites_of rest (start_of rest z first) z next)
+    AllLie (BlockSpot first (first + opened_of rest) next (next + inner_of rest)) Any (sites_of rest (block_start rest z first) z next)
 list_spots rest z first next =
     list_lie (BlockSpot first (first + opened_of rest) next (next + inner_of rest)) Any rest z first next tt (λ y l r. inl (l, r)) (λ y l r. tt) (λ y l r. inr (l, r)) (λ y l r. tt)
 
-pub list_apart : (rest : List Stmt) (z first next : ℕ) → first + opened_of rest ≤ next → AreApart (sites_of rest (start_of rest z first) z next)
+pub list_apart : (rest : List Stmt) (z first next : ℕ) → first + opened_of rest ≤ next → AreApart (sites_of rest (block_start rest z first) z next)
 list_apart [] z first next h = tt
 list_apart (s ∷ rest) z first next h =
-    apart_append (sites s.place s.kind first (start_of rest z next) (next + opened_of rest))
-    (sites_of rest (start_of rest z next) z ((next + opened_of rest) + inner s.kind))
-    (apart s.place s.kind first (start_of rest z next) (next + opened_of rest) (omega (arith, h)))
+    apart_append (sites s.place s.kind first (block_start rest z next) (next + opened_of rest))
+    (sites_of rest (block_start rest z next) z ((next + opened_of rest) + inner s.kind))
+    (apart s.place s.kind first (block_start rest z next) (next + opened_of rest) (omega (arith, h)))
     (list_apart rest z next ((next + opened_of rest) + inner s.kind) (omega arith))
-    (clear_lies _ _ _ _ (site_spots s.place s.kind first (start_of rest z next) (next + opened_of rest))
+    (clear_lies _ _ _ _ (site_spots s.place s.kind first (block_start rest z next) (next + opened_of rest))
     (list_spots rest z next ((next + opened_of rest) + inner s.kind))
     (λ x y f g e. grind arith))
 

@@ -3,7 +3,7 @@ use Rattle.std.proofs.Common.{◌≡◌, refl, ℤ, pos, negsuc, ◌+ℤ◌, ◌
 use Rattle.std.specs.Prelude.{Option, Some, None}
 use Rattle.std.proofs.lemmas.Int.{ints}
 use Rattle.ps_graph.specs.Alternatives.{Bound, bound_value}
-use Rattle.ps_graph.specs.Follows.{Says}
+use Rattle.ps_graph.specs.Follows.{SaysOps}
 use Rattle.ps_term.specs.Exact.{number_term}
 use Rattle.ps_compile.specs.Ops.{with_product, with_products, sum_term, bound_row, ops_on}
 use Rattle.ps_graph.specs.Paths.{Act, Guards, Assigns, Havocs, Chooses, Fails}
@@ -49,7 +49,7 @@ bound_worth v b =
     )
 
 -- the ops of a path say what it says
-pub says_ops : (p : List Act) → Says p (ops_on p)
+pub says_ops : (p : List Act) → SaysOps p (ops_on p)
 says_ops [] = refl
 says_ops (Guards b ∷ p) = (λ v. bound_worth v b, says_ops p)
 says_ops (Assigns x s ∷ p) = (refl, λ v. sum_worth v s, says_ops p)

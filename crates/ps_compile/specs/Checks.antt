@@ -4,7 +4,7 @@ use Rattle.std.specs.List.{AllByRecursion}
 use Rattle.ps_command.specs.Form.{FormFits}
 use Rattle.ps_command.specs.declared.op.Op.{Op}
 use Rattle.ps_compile.specs.Layout.{Site}
-use Rattle.ps_compile.specs.Ops.{ops_on, rows_in}
+use Rattle.ps_compile.specs.Ops.{ops_on, assumed_rows}
 use Rattle.ps_compile.specs.declared.limits.TheConstants.{MOST_LOCATIONS, MOST_EDGES, MOST_ALTERNATIVES, MOST_PATHS, MOST_ROWS}
 use Rattle.ps_graph.specs.Alternatives.{Bound, alternatives}
 use Rattle.ps_graph.specs.Paths.{Act, paths_all}
@@ -42,8 +42,8 @@ IsFirstExceeded place name (c ∷ checks) =
     ⊎ ((¬ IsExceeded c.measure) × IsFirstExceeded place name checks)
 
 -- a number against the most
-abbrev pub counted : Place → LimitName → ℕ → ℕ → Check
-counted place name n most = record { place = place; limit = name; measure = Counts n most }
+abbrev pub count_check : Place → LimitName → ℕ → ℕ → Check
+count_check place name n most = record { place = place; limit = name; measure = Counts n most }
 
 -- the alternatives that a statement needs: those of its condition, and of its negation
 abbrev pub conditions : StmtKind → List (List (List Bound))
@@ -55,7 +55,7 @@ conditions _ = []
 
 abbrev pub alternatives_checks : Place → StmtKind → List Check
 alternatives_checks place k =
-    map (λ (alts : List (List Bound)). counted place limit.Alternatives (length alts) MOST_ALTERNATIVES) (conditions k)
+    map (λ (alts : List (List Bound)). count_check place limit.Alternatives (length alts) MOST_ALTERNATIVES) (conditions k)
 
 -- of a statement in an atomic block only the alternatives are checked
 abbrev mutual
@@ -70,7 +70,7 @@ abbrev mutual
 
 -- only an atomic block has paths to count
 abbrev pub paths_checks : Place → StmtKind → List Check
-paths_checks place (Atomic' _ block) = counted place limit.Paths (length (paths_all block)) MOST_PATHS ∷ []
+paths_checks place (Atomic' _ block) = count_check place limit.Paths (length (paths_all block)) MOST_PATHS ∷ []
 paths_checks place _ = []
 
 -- and only it has statements inside; those of `if` and `while` are laid out on their own
@@ -79,7 +79,7 @@ inner_checks (Atomic' _ block) = inside_all block
 inner_checks _ = []
 
 abbrev pub rows_checks : Place → List (List Op) → List Check
-rows_checks place commands = map (λ (ops : List Op). counted place limit.Rows (rows_in ops) MOST_ROWS) commands
+rows_checks place commands = map (λ (ops : List Op). count_check place limit.Rows (assumed_rows ops) MOST_ROWS) commands
 
 abbrev pub numbers_checks : Place → List (List Op) → List Check
 numbers_checks place commands =
@@ -94,8 +94,8 @@ abbrev pub edges_checks : Place → ℕ → ℕ → List (List Op) → List Chec
 edges_checks place edges locations commands =
     rows_checks place commands
     ++ (numbers_checks place commands
-    ++ (counted place limit.Locations locations MOST_LOCATIONS
-    ∷ counted place limit.Edges (edges + length commands) MOST_EDGES ∷ []))
+    ++ (count_check place limit.Locations locations MOST_LOCATIONS
+    ∷ count_check place limit.Edges (edges + length commands) MOST_EDGES ∷ []))
 
 -- The limits of one statement: alternatives, paths, rows, numbers, locations and edges. What stands in an atomic block
 -- comes after all of the block's own, since the block's place is before it in the text.

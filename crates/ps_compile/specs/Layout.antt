@@ -20,9 +20,9 @@ abbrev pub own_site : Place → StmtKind → ℕ → ℕ → List (List Act × �
 own_site place k a locations paths = record { place = place; kind = k; at = a; paths = paths; locations = locations }
 
 -- where a block begins that ends at a location: there if it is empty, else at the next new one
-abbrev pub start : {n : _} → Row_of-Stmt n → ℕ → ℕ → ℕ
-start end_of-Stmt z next = z
-start (more_of-Stmt _ _ _) z next = next
+abbrev pub start_location : {n : _} → Row_of-Stmt n → ℕ → ℕ → ℕ
+start_location end_of-Stmt z next = z
+start_location (more_of-Stmt _ _ _) z next = next
 
 -- how many new locations that takes
 abbrev pub opened : {n : _} → Row_of-Stmt n → ℕ
@@ -49,26 +49,26 @@ abbrev mutual
   pub sites : Place → StmtKind → ℕ → ℕ → ℕ → List Site
   sites place (If' t i held j failed) a z next =
       own_site place (If' t i held j failed) a (next + (opened held + opened failed))
-      (going_to (start held z next) (ways true t) ++ going_to (start failed z (next + opened held)) (ways false t))
-      ∷ (sites_all held (start held z next) z (next + (opened held + opened failed))
-      ++ sites_all failed (start failed z (next + opened held)) z ((next + (opened held + opened failed)) + inner_all held))
+      (going_to (start_location held z next) (ways true t) ++ going_to (start_location failed z (next + opened held)) (ways false t))
+      ∷ (sites_all held (start_location held z next) z (next + (opened held + opened failed))
+      ++ sites_all failed (start_location failed z (next + opened held)) z ((next + (opened held + opened failed)) + inner_all held))
   sites place (While' t i block) a z next =
       own_site place (While' t i block) a (next + opened block)
-      (going_to (start block a next) (ways true t) ++ going_to z (ways false t))
-      ∷ sites_all block (start block a next) a (next + opened block)
+      (going_to (start_location block a next) (ways true t) ++ going_to z (ways false t))
+      ∷ sites_all block (start_location block a next) a (next + opened block)
   sites place (Atomic' n block) a z next = own_site place (Atomic' n block) a next (going_to z (paths_all block)) ∷ []
   sites place k a z next = own_site place k a next (going_to z (paths k)) ∷ []
 
   pub sites_all : {n : _} → Row_of-Stmt n → ℕ → ℕ → ℕ → List Site
   sites_all end_of-Stmt a z next = []
   sites_all (more_of-Stmt place k rest) a z next =
-      sites place k a (start rest z next) (next + opened rest)
-      ++ sites_all rest (start rest z next) z ((next + opened rest) + inner k)
+      sites place k a (start_location rest z next) (next + opened rest)
+      ++ sites_all rest (start_location rest z next) z ((next + opened rest) + inner k)
 
 -- the same of lists of statements
-abbrev pub start_of : List Stmt → ℕ → ℕ → ℕ
-start_of [] z next = z
-start_of (_ ∷ _) z next = next
+abbrev pub block_start : List Stmt → ℕ → ℕ → ℕ
+block_start [] z next = z
+block_start (_ ∷ _) z next = next
 
 abbrev pub opened_of : List Stmt → ℕ
 opened_of [] = 0
@@ -81,8 +81,8 @@ inner_of (s ∷ rest) = opened_of rest + (inner s.kind + inner_of rest)
 abbrev pub sites_of : List Stmt → ℕ → ℕ → ℕ → List Site
 sites_of [] a z next = []
 sites_of (s ∷ rest) a z next =
-    sites s.place s.kind a (start_of rest z next) (next + opened_of rest)
-    ++ sites_of rest (start_of rest z next) z ((next + opened_of rest) + inner s.kind)
+    sites s.place s.kind a (block_start rest z next) (next + opened_of rest)
+    ++ sites_of rest (block_start rest z next) z ((next + opened_of rest) + inner s.kind)
 
 -- an edge that is planned: where it leaves, its path, and where that goes on to
 pub record Planned : Type 0 where
@@ -103,7 +103,7 @@ all_planned sites = flat_map planned_at sites
 
 -- A body with an entry, where this number is the next new location: that is its end, unless the body is empty.
 abbrev pub end_of_body : List Stmt → ℕ → ℕ → ℕ
-end_of_body body entry next = start_of body entry next
+end_of_body body entry next = block_start body entry next
 
 abbrev pub body_sites : List Stmt → ℕ → ℕ → List Site
 body_sites body entry next = sites_of body entry (end_of_body body entry next) (next + opened_of body)

@@ -38,7 +38,7 @@ ops_on (Chooses _ ∷ p) = ops_on p
 ops_on (Fails ∷ p) = []
 
 -- how many rows ops assume
-abbrev pub rows_in : List Op → ℕ
-rows_in [] = 0
-rows_in (Assume _ ∷ ops) = 1 + rows_in ops
-rows_in (_ ∷ ops) = rows_in ops
+abbrev pub assumed_rows : List Op → ℕ
+assumed_rows [] = 0
+assumed_rows (Assume _ ∷ ops) = 1 + assumed_rows ops
+assumed_rows (_ ∷ ops) = assumed_rows ops

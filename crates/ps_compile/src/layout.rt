@@ -1,7 +1,7 @@
 // The layout of the body.
 ghost use Rattle.std.specs.Prelude.{◌≡◌, ◌∷◌, [], ◌++◌, ◌+◌, length, true, false, MatchResult};
 ghost use Rattle.ps_compile.specs.Checks.{checks};
-ghost use Rattle.ps_compile.specs.Layout.{inner, inner_of, opened_of, own_site, sites, sites_of, start_of};
+ghost use Rattle.ps_compile.specs.Layout.{inner, inner_of, opened_of, own_site, sites, sites_of, block_start};
 ghost use Rattle.ps_compile.specs.Ends.{IsEndOf};
 ghost use Rattle.ps_compile.specs.inner.Drafts.{Lays, OpensIf, OpensWhile, if_site, while_site};
 ghost use Rattle.ps_graph.specs.Follows.{going_to};

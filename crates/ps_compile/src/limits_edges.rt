@@ -2,7 +2,7 @@
 ghost use Rattle.std.specs.Prelude.{◌≡◌, ◌<◌, ◌^◌, ◌++◌, OnOk, IsErrOf, map, length};
 ghost use Rattle.ps_command.specs.Form.{FormFits};
 ghost use Rattle.ps_compile.specs.Checks.{edges_checks, inner_checks, numbers_checks, rows_checks};
-ghost use Rattle.ps_compile.specs.Ops.{rows_in};
+ghost use Rattle.ps_compile.specs.Ops.{assumed_rows};
 ghost use Rattle.ps_compile.specs.inner.Drafts.{commands_on, Tested};
 
 use crate::compile_end::CompileEnd;
@@ -79,7 +79,7 @@ fn test_rows(place: Place, due: &[Draft]) -> Result<(), CompileEnd>
 }
 
 fn count_rows(ops: &[Op]) -> usize
-    ensures { result ≡ rows_in ops.now }
+    ensures { result ≡ assumed_rows ops.now }
 {
     let mut rows = 0;
     for op in ops {

@@ -1,6 +1,6 @@
 // The limits of alternatives and of paths, which are counted before any is made.
 ghost use Rattle.std.specs.Prelude.{◌≡◌, ◌++◌, ◌∷◌, [], length, true, false};
-ghost use Rattle.ps_compile.specs.Checks.{alternatives_checks, counted, inner_checks, inside, paths_checks};
+ghost use Rattle.ps_compile.specs.Checks.{alternatives_checks, count_check, inner_checks, inside, paths_checks};
 ghost use Rattle.ps_compile.specs.declared.limits.TheConstants as most;
 ghost use Rattle.ps_compile.specs.inner.Counts.{paths_of};
 ghost use Rattle.ps_compile.specs.inner.Drafts.{Tested};
@@ -52,8 +52,8 @@ fn test_alternatives(place: Place, kind: &StmtKind) -> Result<(), CompileEnd>
 // A condition and its negation.
 fn test_both(place: Place, cond: &Cond) -> Result<(), CompileEnd>
     ensures { Tested result
-        (counted place limit.Alternatives (length (alternatives true cond.now)) most.MOST_ALTERNATIVES
-        ∷ counted place limit.Alternatives (length (alternatives false cond.now)) most.MOST_ALTERNATIVES
+        (count_check place limit.Alternatives (length (alternatives true cond.now)) most.MOST_ALTERNATIVES
+        ∷ count_check place limit.Alternatives (length (alternatives false cond.now)) most.MOST_ALTERNATIVES
         ∷ []) }
 {
     match test_one(place, cond, true) {
@@ -68,7 +68,7 @@ fn test_both(place: Place, cond: &Cond) -> Result<(), CompileEnd>
 
 fn test_one(place: Place, cond: &Cond, holds: bool) -> Result<(), CompileEnd>
     ensures { Tested result
-        (counted place limit.Alternatives (length (alternatives holds cond.now)) most.MOST_ALTERNATIVES
+        (count_check place limit.Alternatives (length (alternatives holds cond.now)) most.MOST_ALTERNATIVES
         ∷ []) }
 {
     if count_alternatives(cond, holds) > MOST_ALTERNATIVES {
@@ -94,7 +94,7 @@ fn test_paths(place: Place, kind: &StmtKind) -> Result<(), CompileEnd>
 
 fn test_block(place: Place, block: &[Stmt]) -> Result<(), CompileEnd>
     ensures { Tested result
-        (counted place limit.Paths (length (paths_of block.now)) most.MOST_PATHS ∷ []) }
+        (count_check place limit.Paths (length (paths_of block.now)) most.MOST_PATHS ∷ []) }
 {
     let count = count_block(block);
     if count.going.saturating_add(count.failing) > MOST_PATHS {

@@ -1,6 +1,6 @@
 // What has been laid out so far.
 ghost use Rattle.std.specs.Prelude.{◌≡◌, ◌≤◌, ◌++◌, drop, length, IfOk, OnOk, replicate, Some};
-ghost use Rattle.ps_compile.specs.Layout.{opened_of, start_of};
+ghost use Rattle.ps_compile.specs.Layout.{opened_of, block_start};
 
 use crate::draft::Draft;
 use ps_tree::Stmt;
@@ -15,7 +15,7 @@ pub(crate) struct Plan {
 
 // Where a block begins that ends at a location: there if it is empty, else at a new one.
 pub(crate) fn start(block: &[Stmt], end: usize, plan: &mut Plan) -> Result<usize, AllocError>
-    ensures at { IfOk result (λ n. n ≡ start_of block.now end (length plan.old.owners.items)) }
+    ensures at { IfOk result (λ n. n ≡ block_start block.now end (length plan.old.owners.items)) }
     ensures owners { OnOk result
         (plan.new.owners.items ≡ plan.old.owners.items ++ replicate (opened_of block.now) (Some 0)) }
     ensures drafts { OnOk result (plan.new.drafts.items ≡ plan.old.drafts.items) }

@@ -10,11 +10,11 @@ use Rattle.std.proofs.lemmas.Map.Keys.{sorted_from_strictly_increasing}
 use Rattle.ps_atom.specs.Atoms.{atom_cmp}
 use Rattle.ps_atom.specs.declared.atom.Atom.{Atom}
 use Rattle.ps_config.specs.Configurations.{Configuration, threads_at}
-use Rattle.ps_config.specs.Forms.{IsConfig, start}
+use Rattle.ps_config.specs.Forms.{IsConfig, start_configuration}
 use Rattle.ps_config.specs.declared.config.TheConstants.{MOST_THREADS}
 use Rattle.ps_config.proofs.Comparing.{atom_not_less, number_not_less}
 use Rattle.ps_config.proofs.Nexts.{Listed, listed_more}
-use Rattle.ps_config.specs.Next.{IsNext}
+use Rattle.ps_config.specs.Next.{IsNextThread}
 use Rattle.ps_config.proofs.Once.{IsOnce, no_longer, once_sorted, once_from_mapped}
 
 pub once_ascending : (xs : List ℕ) → IsStrictlyIncreasing xs → IsOnce xs
@@ -60,11 +60,11 @@ below_more c n below more t h = elim (cases_lt t n) [
 
 -- ---- the start
 
-start_ordered : IsStrictlySortedBy atom_cmp start.atoms
+start_ordered : IsStrictlySortedBy atom_cmp start_configuration.atoms
 unfolding IsStrictlySortedBy
 start_ordered = (tt, tt)
 
-pub start_is : IsConfig start
+pub start_is : IsConfig start_configuration
 start_is = record {
   located = λ k h. (let f : ⊥ = omega (arith, h) in absurd f);
   ordered = start_ordered;
@@ -72,20 +72,20 @@ start_is = record {
   few_atoms = omega arith;
 }
 
-pub start_from : (c : Configuration) → c ≡ start → IsConfig c
+pub start_from : (c : Configuration) → c ≡ start_configuration → IsConfig c
 start_from c e = subst (λ (d : Configuration). IsConfig d) (sym e) start_is
 
 pub start_lists : (at : List (ℕ × ℕ)) (none atoms : List Atom) (threads nobody : List ℕ) → at ≡ (0, 1) ∷ [] → atoms ≡ none ++ record { predicate = 0; threads = threads } ∷ [] → none ≡ [] → threads ≡ nobody → nobody ≡ []
     → IsConfig (record { at = at; atoms = atoms })
 start_lists at none atoms threads nobody places is first is_nobody is_none =
     let atom : List ℕ → Atom = λ ts. record { predicate = 0; threads = ts } in
-    let only : atoms ≡ start.atoms = is ∙ (ap (λ (qs : List Atom). qs ++ atom threads ∷ []) first ∙ ap (λ (ts : List ℕ). atom ts ∷ []) (is_nobody ∙ is_none)) in
+    let only : atoms ≡ start_configuration.atoms = is ∙ (ap (λ (qs : List Atom). qs ++ atom threads ∷ []) first ∙ ap (λ (ts : List ℕ). atom ts ∷ []) (is_nobody ∙ is_none)) in
     start_from (record { at = at; atoms = atoms }) (ap₂ (λ (ps : List (ℕ × ℕ)) (qs : List Atom). let c : Configuration = record { at = ps; atoms = qs } in c) places only)
 
 -- ---- threads listed one after another
 
 -- there is room for one more thread
-pub listed_few : (c : Configuration) → IsConfig c → (from m : ℕ) (list : List ℕ) → Listed (threads_at c) from list → IsNext (threads_at c) from (Some m) → length list < MOST_THREADS
+pub listed_few : (c : Configuration) → IsConfig c → (from m : ℕ) (list : List ℕ) → Listed (threads_at c) from list → IsNextThread (threads_at c) from (Some m) → length list < MOST_THREADS
 listed_few c is from m list l next =
     let more = listed_more (threads_at c) from m list (list ++ m ∷ []) l next refl in
     let long : length (list ++ m ∷ []) ≡ length list + 1 = length_push list m in

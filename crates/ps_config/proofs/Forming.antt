@@ -11,7 +11,7 @@ use Rattle.std.proofs.lemmas.Map.Keys.{sorted_from_all_adjacent, Less-from_sorte
 use Rattle.ps_atom.specs.Atoms.{atom_cmp}
 use Rattle.ps_atom.specs.declared.atom.Atom.{Atom}
 use Rattle.ps_config.specs.Configurations.{Configuration, threads_at}
-use Rattle.ps_config.specs.Forms.{HasThreads, IsConfig}
+use Rattle.ps_config.specs.Forms.{HasThreadCount, IsConfig}
 use Rattle.ps_config.specs.declared.config.TheConstants.{MOST_ATOMS, MOST_THREADS}
 use Rattle.ps_config.proofs.Few.{once_ascending}
 use Rattle.ps_config.proofs.Once.{no_longer}
@@ -78,15 +78,15 @@ atoms_all atoms place up end =
 
 -- ---- both
 
-one_count : (c : Configuration) (m n : ℕ) → HasThreads c m → HasThreads c n → m ≤ n
+one_count : (c : Configuration) (m n : ℕ) → HasThreadCount c m → HasThreadCount c n → m ≤ n
 one_count c m n (xs, are, long) (ys, also, longer) =
     let le : length xs ≤ length ys = no_longer xs ys (once_ascending xs are.ascend) (λ t h. (also.occurring t).1 ((are.occurring t).0 h)) in
     omega (arith, le, long, longer)
 
-pub config_from : (c : Configuration) (count : ℕ) → IsStrictlyIncreasing (map (λ (p : ℕ × ℕ). p.0) c.at) → IsStrictlySortedBy atom_cmp c.atoms → length c.atoms ≤ MOST_ATOMS → HasThreads c count → count ≤ MOST_THREADS → IsConfig c
+pub config_from : (c : Configuration) (count : ℕ) → IsStrictlyIncreasing (map (λ (p : ℕ × ℕ). p.0) c.at) → IsStrictlySortedBy atom_cmp c.atoms → length c.atoms ≤ MOST_ATOMS → HasThreadCount c count → count ≤ MOST_THREADS → IsConfig c
 config_from c count located ordered few has le = record { located = located; ordered = ordered; few_threads = (count, has, le); few_atoms = few }
 
-pub config_count : (c : Configuration) (count : ℕ) → HasThreads c count → IsConfig c → count ≤ MOST_THREADS
+pub config_count : (c : Configuration) (count : ℕ) → HasThreadCount c count → IsConfig c → count ≤ MOST_THREADS
 config_count c count has is =
     let w = is.few_threads in
     let le : count ≤ w.0 = one_count c count w.0 has w.1 in

@@ -14,19 +14,19 @@ pub record AreThreads (c : Configuration) (threads : List ℕ) : Type 0 where
   pub occurring : (t : ℕ) → Contains threads t ↔ Contains (threads_at c) t
 
 -- so many threads occur
-abbrev pub HasThreads : Configuration → ℕ → Type 0
-HasThreads c count = (threads : List ℕ) × AreThreads c threads × (length threads ≡ count)
+abbrev pub HasThreadCount : Configuration → ℕ → Type 0
+HasThreadCount c count = (threads : List ℕ) × AreThreads c threads × (length threads ≡ count)
 
 -- located threads ascend, each with one location; atoms ascend, each once; there are few of both
 pub record IsConfig (c : Configuration) : Type 0 where
   pub located : IsStrictlyIncreasing (map (λ (p : ℕ × ℕ). p.0) c.at)
   pub ordered : IsStrictlySortedBy atom_cmp c.atoms
-  pub few_threads : (count : ℕ) × HasThreads c count × (count ≤ MOST_THREADS)
+  pub few_threads : (count : ℕ) × HasThreadCount c count × (count ≤ MOST_THREADS)
   pub few_atoms : length c.atoms ≤ MOST_ATOMS
 
 -- thread 0 at location 1, and the atom false
-abbrev pub start : Configuration
-start = record { at = (0, 1) ∷ []; atoms = record { predicate = 0; threads = [] } ∷ [] }
+abbrev pub start_configuration : Configuration
+start_configuration = record { at = (0, 1) ∷ []; atoms = record { predicate = 0; threads = [] } ∷ [] }
 
 -- the least number that is no thread's
 pub record IsFresh (c : Configuration) (thread : ℕ) : Type 0 where

@@ -1,7 +1,7 @@
 //! Configurations of a search.
 ghost use Rattle.std.specs.Prelude.{◌≡◌, ◌↔◌, IfOk, IsTrue};
 ghost use Rattle.ps_config.specs.Configurations.{Configuration};
-ghost use Rattle.ps_config.specs.Forms.{IsConfig, IsFresh, config_cmp, start};
+ghost use Rattle.ps_config.specs.Forms.{IsConfig, IsFresh, config_cmp, start_configuration};
 
 use crate::form::is_in_form;
 use crate::order::{compare_atoms, compare_places};
@@ -59,7 +59,7 @@ impl Config {
 
     /// Thread 0 at location 1, and the atom false.
     pub fn start(alloc: Global) -> Result<Config, AllocError>
-        ensures { IfOk result (λ config. config ≡ start) }
+        ensures { IfOk result (λ config. config ≡ start_configuration) }
     {
         let mut atoms = Vec::with_capacity(alloc, 1)?;
         atoms.push(Atom {

@@ -1,8 +1,8 @@
 //! The threads that occur in a configuration, in ascending order.
 ghost use Rattle.std.specs.Prelude.{◌≡◌, ◌↔◌, IsTrue, Contains, map};
 ghost use Rattle.ps_config.specs.Configurations.{threads_at};
-ghost use Rattle.ps_config.specs.Forms.{HasThreads, IsConfig, IsFresh};
-ghost use Rattle.ps_config.specs.Next.{IsNext};
+ghost use Rattle.ps_config.specs.Forms.{HasThreadCount, IsConfig, IsFresh};
+ghost use Rattle.ps_config.specs.Next.{IsNextThread};
 ghost use Rattle.ps_config.specs.inner.Best.{better_of, least_of};
 
 use ps_atom::Atom;
@@ -10,7 +10,7 @@ use ps_atom::Atom;
 /// The least thread from a number on that occurs among threads with locations and in atoms, in one
 /// pass over both.
 pub fn next_thread(at: &[(u32, u32)], atoms: &[Atom], from: u64) -> Option<u32>
-    ensures { IsNext (threads_at (record { at = at.now; atoms = atoms.now })) from result }
+    ensures { IsNextThread (threads_at (record { at = at.now; atoms = atoms.now })) from result }
 {
     let mut best = next_located(at, from);
     for atom in atoms {
@@ -20,7 +20,7 @@ pub fn next_thread(at: &[(u32, u32)], atoms: &[Atom], from: u64) -> Option<u32>
 }
 
 fn next_located(at: &[(u32, u32)], from: u64) -> Option<u32>
-    ensures { IsNext (map (λ p. p.0) at.now) from result }
+    ensures { IsNextThread (map (λ p. p.0) at.now) from result }
 {
     let mut best = None;
     for place in at {
@@ -30,7 +30,7 @@ fn next_located(at: &[(u32, u32)], from: u64) -> Option<u32>
 }
 
 fn next_number(numbers: &[u32], from: u64) -> Option<u32>
-    ensures { IsNext numbers.now from result }
+    ensures { IsNextThread numbers.now from result }
 {
     let mut best = None;
     for number in numbers {
@@ -63,7 +63,7 @@ fn least(one: Option<u32>, other: Option<u32>) -> Option<u32>
 
 /// How many threads occur among threads with locations and in atoms, in one pass over both for each.
 pub fn thread_count(at: &[(u32, u32)], atoms: &[Atom]) -> usize
-    ensures { HasThreads (record { at = at.now; atoms = atoms.now }) result }
+    ensures { HasThreadCount (record { at = at.now; atoms = atoms.now }) result }
 {
     let mut count: usize = 0;
     let mut from: u64 = 0;

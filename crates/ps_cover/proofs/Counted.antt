@@ -7,7 +7,7 @@ use Rattle.ps_atom.specs.declared.atom.Atom.{Atom}
 use Rattle.ps_config.proofs.Once.{IsOnce, no_longer, once_mapped, once_kept}
 use Rattle.ps_config.specs.Forms.{IsConfig}
 use Rattle.ps_config.proofs.Few.{once_located}
-use Rattle.ps_cover.specs.Within.{times, IsWithin}
+use Rattle.ps_cover.specs.Within.{times, IsWithinList}
 use Rattle.ps_cover.specs.inner.Counts.{those_at, those_of}
 use Rattle.ps_list.proofs.Members.{here, there}
 use Rattle.ps_config.specs.Configurations.{Configuration, Covers}
@@ -69,7 +69,7 @@ times_located l (p ∷ at) = by_test (p.1 == l) (times_located l at)
     by_test true h = omega (arith, h)
     by_test false h = h
 
-pub locations_within : (small large : Configuration) → IsConfig small → Covers small large → IsWithin (map (λ (p : ℕ × ℕ). p.1) small.at) (map (λ (p : ℕ × ℕ). p.1) large.at)
+pub locations_within : (small large : Configuration) → IsConfig small → Covers small large → IsWithinList (map (λ (p : ℕ × ℕ). p.1) small.at) (map (λ (p : ℕ × ℕ). p.1) large.at)
 locations_within small large is c l =
     let le : length (those_at l small.at) ≤ length (those_at l large.at) = fewer_at small large c (once_located small is) l in
     let a : times l (map (λ (p : ℕ × ℕ). p.1) small.at) ≡ length (those_at l small.at) = times_located l small.at in

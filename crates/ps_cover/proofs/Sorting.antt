@@ -3,8 +3,8 @@ use Rattle.std.proofs.Common.{◌≡◌, ◌≢◌, ◌<◌, ◌≤◌, ◌+◌,
 use Rattle.std.specs.List.Sorted.{IsNonDecreasing}
 use Rattle.std.proofs.lemmas.Bool.{cases_eq, cases_lt, eq-eqb, ne_eqb, false≢true}
 use Rattle.std.proofs.lemmas.List.{drop_more, drop_all, length-drop}
-use Rattle.ps_cover.specs.Within.{times, IsWithin}
-use Rattle.ps_cover.specs.inner.Parts.{is_part, IsFoundMore}
+use Rattle.ps_cover.specs.Within.{times, IsWithinList}
+use Rattle.ps_cover.specs.inner.Parts.{is_sublist, IsFoundMore}
 
 times_first : (n x : ℕ) (xs : List ℕ) → x ≡ n → times n (x ∷ xs) ≡ times n xs + 1
 times_first n x xs e = at (x == n) (eq-eqb x n e)
@@ -20,17 +20,17 @@ times_later n x xs other = at (x == n) (ne_eqb x n other)
     at true h = absurd (false≢true (sym h))
     at false h = refl
 
-part_same : (x y : ℕ) (xs ys : List ℕ) → x ≡ y → is_part (x ∷ xs) (y ∷ ys) ≡ is_part xs ys
+part_same : (x y : ℕ) (xs ys : List ℕ) → x ≡ y → is_sublist (x ∷ xs) (y ∷ ys) ≡ is_sublist xs ys
 part_same x y xs ys e = at (x == y) (eq-eqb x y e)
   where
-    at : (b : Bool) → b ≡ true → (if b then is_part xs ys else is_part (x ∷ xs) ys) ≡ is_part xs ys
+    at : (b : Bool) → b ≡ true → (if b then is_sublist xs ys else is_sublist (x ∷ xs) ys) ≡ is_sublist xs ys
     at true h = refl
     at false h = absurd (false≢true h)
 
-part_other : (x y : ℕ) (xs ys : List ℕ) → x ≢ y → is_part (x ∷ xs) (y ∷ ys) ≡ is_part (x ∷ xs) ys
+part_other : (x y : ℕ) (xs ys : List ℕ) → x ≢ y → is_sublist (x ∷ xs) (y ∷ ys) ≡ is_sublist (x ∷ xs) ys
 part_other x y xs ys other = at (x == y) (ne_eqb x y other)
   where
-    at : (b : Bool) → b ≡ false → (if b then is_part xs ys else is_part (x ∷ xs) ys) ≡ is_part (x ∷ xs) ys
+    at : (b : Bool) → b ≡ false → (if b then is_sublist xs ys else is_sublist (x ∷ xs) ys) ≡ is_sublist (x ∷ xs) ys
     at true h = absurd (false≢true (sym h))
     at false h = refl
 
@@ -40,7 +40,7 @@ more_times n y ys = elim (cases_eq y n) [
   | inr other ↦ (let e : times n (y ∷ ys) ≡ times n ys = times_later n y ys other in omega (arith, e))
 ]
 
-pub within_from_part : (xs ys : List ℕ) → is_part xs ys ≡ true → IsWithin xs ys
+pub within_from_part : (xs ys : List ℕ) → is_sublist xs ys ≡ true → IsWithinList xs ys
 within_from_part [] ys h n = omega arith
 within_from_part (x ∷ xs) [] h n = absurd (false≢true h)
 within_from_part (x ∷ xs) (y ∷ ys) h n = elim (cases_eq x y) [
@@ -73,7 +73,7 @@ none_below : (m n : ℕ) (xs : List ℕ) → m < n → AllFrom n xs → times m 
 none_below m n [] lt h = refl
 none_below m n (x ∷ xs) lt h = times_later m x xs (λ e. (let le : n ≤ x = h.0 in let f : ⊥ = omega (arith, e, lt, le) in f)) ∙ none_below m n xs lt h.1
 
-pub part_from_within : (xs ys : List ℕ) → Sorted xs → Sorted ys → IsWithin xs ys → is_part xs ys ≡ true
+pub part_from_within : (xs ys : List ℕ) → Sorted xs → Sorted ys → IsWithinList xs ys → is_sublist xs ys ≡ true
 part_from_within [] ys sx sy w = refl
 part_from_within (x ∷ xs) [] sx sy w =
     let le : times x (x ∷ xs) ≤ 0 = w x in
@@ -115,9 +115,9 @@ sorted_from (x ∷ xs) h = (first xs h (sorted_from xs (rest_sorted x xs h)), so
 
 -- ---- a step of the loop
 
-pub found_part : (xs ys : List ℕ) (done i y next : ℕ) → i < length ys → y ≡ get_or ys i 0 → done ≤ length xs → IsFoundMore xs done y next → (is_part (drop next xs) (drop (i + 1) ys) ≡ is_part (drop done xs) (drop i ys)) × (next ≤ length xs)
+pub found_part : (xs ys : List ℕ) (done i y next : ℕ) → i < length ys → y ≡ get_or ys i 0 → done ≤ length xs → IsFoundMore xs done y next → (is_sublist (drop next xs) (drop (i + 1) ys) ≡ is_sublist (drop done xs) (drop i ys)) × (next ≤ length xs)
 found_part xs ys done i y next inside is within (inl w) = (
-  (let here : is_part (get_or xs done 0 ∷ drop (done + 1) xs) (get_or ys i 0 ∷ drop (i + 1) ys) ≡ is_part (drop (done + 1) xs) (drop (i + 1) ys) = part_same (get_or xs done 0) (get_or ys i 0) (drop (done + 1) xs) (drop (i + 1) ys) (w.1 ∙ is) in
+  (let here : is_sublist (get_or xs done 0 ∷ drop (done + 1) xs) (get_or ys i 0 ∷ drop (i + 1) ys) ≡ is_sublist (drop (done + 1) xs) (drop (i + 1) ys) = part_same (get_or xs done 0) (get_or ys i 0) (drop (done + 1) xs) (drop (i + 1) ys) (w.1 ∙ is) in
       rw (w.2, drop_more xs done 0 w.0, drop_more ys i 0 inside) (sym here)),
   (let lt : done < length xs = w.0 in let e : next ≡ done + 1 = w.2 in omega (arith, lt, e)),
 )
@@ -125,16 +125,16 @@ found_part xs ys done i y next inside is within (inr w) = (
   elim (cases_lt done (length xs)) [
     | inl lt ↦
         let other : get_or xs done 0 ≢ get_or ys i 0 = elim w.0 [ inl ends ↦ absurd (omega (arith, ends, lt)) | inr not_it ↦ (λ e. not_it (e ∙ sym is)) ] in
-        let here : is_part (get_or xs done 0 ∷ drop (done + 1) xs) (get_or ys i 0 ∷ drop (i + 1) ys) ≡ is_part (get_or xs done 0 ∷ drop (done + 1) xs) (drop (i + 1) ys) = part_other (get_or xs done 0) (get_or ys i 0) (drop (done + 1) xs) (drop (i + 1) ys) other in
+        let here : is_sublist (get_or xs done 0 ∷ drop (done + 1) xs) (get_or ys i 0 ∷ drop (i + 1) ys) ≡ is_sublist (get_or xs done 0 ∷ drop (done + 1) xs) (drop (i + 1) ys) = part_other (get_or xs done 0) (get_or ys i 0) (drop (done + 1) xs) (drop (i + 1) ys) other in
         rw (w.1, drop_more xs done 0 lt, drop_more ys i 0 inside) (sym here)
     | inr end ↦ rw (w.1, drop_all done xs end) refl
   ],
   (let e : next ≡ done = w.1 in omega (arith, e, within)),
 )
 
-pub part_end : (xs ys : List ℕ) (done i : ℕ) → done ≤ length xs → length ys ≤ i → is_part (drop done xs) (drop i ys) ≡ is_part xs ys → (done == length xs) ≡ is_part xs ys
+pub part_end : (xs ys : List ℕ) (done i : ℕ) → done ≤ length xs → length ys ≤ i → is_sublist (drop done xs) (drop i ys) ≡ is_sublist xs ys → (done == length xs) ≡ is_sublist xs ys
 part_end xs ys done i within end h = at (drop done xs) (drop i ys) (drop_all i ys end) refl ∙ h
   where
-    at : (ps qs : List ℕ) → qs ≡ [] → drop done xs ≡ ps → (done == length xs) ≡ is_part ps qs
+    at : (ps qs : List ℕ) → qs ≡ [] → drop done xs ≡ ps → (done == length xs) ≡ is_sublist ps qs
     at [] qs e f = eq-eqb done (length xs) (omega (arith, within, length-drop done xs, ap length f))
-    at (p ∷ ps) qs e f = subst (λ (zs : List ℕ). (done == length xs) ≡ is_part (p ∷ ps) zs) (sym e) (ne_eqb done (length xs) (λ same. (let long : length (drop done xs) ≡ length (p ∷ ps) = ap length f in let g : ⊥ = omega (arith, same, long, length-drop done xs) in g)))
+    at (p ∷ ps) qs e f = subst (λ (zs : List ℕ). (done == length xs) ≡ is_sublist (p ∷ ps) zs) (sym e) (ne_eqb done (length xs) (λ same. (let long : length (drop done xs) ≡ length (p ∷ ps) = ap length f in let g : ⊥ = omega (arith, same, long, length-drop done xs) in g)))

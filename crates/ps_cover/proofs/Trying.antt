@@ -6,7 +6,7 @@ use Rattle.std.proofs.lemmas.List.Elements.{Contains-push_cases}
 use Rattle.ps_list.proofs.Members.{nothing}
 use Rattle.ps_list.proofs.Numbers.{has_to}
 use Rattle.ps_config.specs.Configurations.{Configuration, threads_at}
-use Rattle.ps_config.specs.Next.{IsNext}
+use Rattle.ps_config.specs.Next.{IsNextThread}
 use Rattle.ps_config.proofs.Covering.{image_occurs}
 use Rattle.ps_cover.specs.declared.partial.Partial.{Partial}
 use Rattle.ps_cover.specs.inner.Rests.{NoWay, Ends, HaveFailed, AllOccur, Waits}
@@ -26,7 +26,7 @@ pub record IsTried (small : Configuration) (p : Partial) (t : ℕ) : Type 0 wher
 abbrev pub NoneBelow : Configuration → Configuration → Partial → ℕ → ℕ → Type 0
 NoneBelow small large p t from = (v : ℕ) → v < from → Ends small large p t v
 
-pub below_next : (small large : Configuration) (p : Partial) (t : ℕ) → IsTried small p t → (from image : ℕ) → NoneBelow small large p t from → IsNext (threads_at large) from (Some image) → NoneBelow small large p t image
+pub below_next : (small large : Configuration) (p : Partial) (t : ℕ) → IsTried small p t → (from image : ℕ) → NoneBelow small large p t from → IsNextThread (threads_at large) from (Some image) → NoneBelow small large p t image
 below_next small large p t is from image none next v h = elim (cases_lt v from) [
   | inl lower ↦ none v lower
   | inr higher ↦ goes_absent small large p.threads p.to t v is.long is.waits.occurs (λ c. (let l : image ≤ v = next.2 v c higher in let f : ⊥ = omega (arith, l, h) in f))
@@ -39,7 +39,7 @@ below_more small large p t image none ends v h = elim (cases_lt v image) [
 ]
 
 -- none of the images has a way
-pub none_goes : (small large : Configuration) (p : Partial) (t : ℕ) → IsTried small p t → (from : ℕ) → NoneBelow small large p t from → IsNext (threads_at large) from None → NoWay small large p.threads p.to
+pub none_goes : (small large : Configuration) (p : Partial) (t : ℕ) → IsTried small p t → (from : ℕ) → NoneBelow small large p t from → IsNextThread (threads_at large) from None → NoWay small large p.threads p.to
 none_goes small large p t is from none next f e same =
     none (f t) (next (f t) (image_occurs small large f e t is.waits.occurs)) f e (map_push f p.threads p.to t (f t) same refl)
 

@@ -8,7 +8,7 @@ use Rattle.ps_list.proofs.Members.{nothing, here, there}
 use Rattle.ps_config.specs.Configurations.{Configuration, threads_at}
 use Rattle.ps_config.specs.Forms.{AreThreads}
 use Rattle.ps_cover.specs.declared.partial.Partial.{Partial}
-use Rattle.ps_cover.specs.inner.Rests.{Fits, IsAnswer, one_more, AllOccur}
+use Rattle.ps_cover.specs.inner.Rests.{Fits, IsRestAnswer, one_more, AllOccur}
 use Rattle.ps_cover.specs.inner.Tests.{can_go}
 use Rattle.ps_cover.proofs.Firsts.{first_at, first_done}
 use Rattle.ps_cover.proofs.Fitting.{fits_from_next}
@@ -44,7 +44,7 @@ are_moved small ss t ts are = subst (λ (xs : List ℕ). AreThreads small xs) (s
 longer : (ss us : List ℕ) (t v : ℕ) → length us ≡ length ss → length (us ++ v ∷ []) ≡ length (ss ++ t ∷ [])
 longer ss us t v long = rw (length-append, length-append) (omega (arith, long))
 
-pub turn_found : (small large : Configuration) (p : Partial) (left : List ℕ) → IsTurn small large p left → (image : ℕ) (all : List ℕ) → NoneBelow small large p (get_or left 0 0) image → IsAnswer small large (one_more p left image) (drop 1 left) (Some all) → IsAnswer small large p left (Some all)
+pub turn_found : (small large : Configuration) (p : Partial) (left : List ℕ) → IsTurn small large p left → (image : ℕ) (all : List ℕ) → NoneBelow small large p (get_or left 0 0) image → IsRestAnswer small large (one_more p left image) (drop 1 left) (Some all) → IsRestAnswer small large p left (Some all)
 turn_found small large p [] turn image all none answer = absurd (none_left turn.some)
 turn_found small large p (t ∷ ts) turn image all none (rest, is, first) = (
   image ∷ rest,
@@ -64,7 +64,7 @@ turn_threads small large p [] turn image = absurd (none_left turn.some)
 turn_threads small large p (t ∷ ts) turn image = are_moved small p.threads t ts turn.are
 
 -- all threads have images
-pub answer_done : (small large : Configuration) (p : Partial) (left : List ℕ) → Fits small large p.threads p.to → length left ≡ 0 → IsAnswer small large p left (Some p.to)
+pub answer_done : (small large : Configuration) (p : Partial) (left : List ℕ) → Fits small large p.threads p.to → length left ≡ 0 → IsRestAnswer small large p left (Some p.to)
 answer_done small large p [] fits e = ([], sym (append-nil p.to), first_done small large p.threads p.to fits)
 answer_done small large p (t ∷ ts) fits e = absurd (omega (arith, e))
 

@@ -10,7 +10,7 @@ use Rattle.ps_cover.specs.inner.Counts.{HasBare, those_at, those_of, place_count
 use Rattle.ps_config.specs.Forms.{AreThreads, IsConfig}
 use Rattle.ps_config.proofs.Few.{once_atoms, once_located}
 use Rattle.ps_cover.specs.Coverings.{IsFirstInjection}
-use Rattle.ps_cover.specs.inner.Rests.{Fits, IsFirstRest, IsAnswer, NoWay}
+use Rattle.ps_cover.specs.inner.Rests.{Fits, IsFirstRest, IsRestAnswer, NoWay}
 use Rattle.ps_cover.specs.declared.partial.Partial.{Partial}
 use Rattle.ps_cover.proofs.Counted.{fewer_at, fewer_of}
 use Rattle.ps_cover.proofs.Firsts.{bare_there, fits_none, first_covering}
@@ -58,7 +58,7 @@ refused_by_counts small large is e = refused small large (once_located small is)
 pub begins : (small large : Configuration) (p : Partial) → p.threads ≡ [] → p.to ≡ [] → HasBare small large → Fits small large p.threads p.to
 begins small large p e f bare = subst (λ (xs : List ℕ). Fits small large xs p.to) (sym e) (subst (λ (ys : List ℕ). Fits small large [] ys) (sym f) (fits_none small large bare))
 
-pub found_first : (small large : Configuration) (p : Partial) (threads to : List ℕ) → p.threads ≡ [] → p.to ≡ [] → AreThreads small threads → IsAnswer small large p threads (Some to) → IsFirstInjection small large to
+pub found_first : (small large : Configuration) (p : Partial) (threads to : List ℕ) → p.threads ≡ [] → p.to ≡ [] → AreThreads small threads → IsRestAnswer small large p threads (Some to) → IsFirstInjection small large to
 found_first small large p threads to e f are (rest, is, first) =
     let same : to ≡ rest = is ∙ ap (λ (xs : List ℕ). xs ++ rest) f in
     let at_none : IsFirstRest small large [] [] threads rest = subst (λ (xs : List ℕ). IsFirstRest small large xs [] threads rest) e (subst (λ (ys : List ℕ). IsFirstRest small large p.threads ys threads rest) f first) in
@@ -72,6 +72,6 @@ pub listed_threads : (small said : Configuration) (none threads left : List ℕ)
 listed_threads small said none threads left e f g are =
     subst (λ (xs : List ℕ). AreThreads small (xs ++ left)) (sym f) (subst (λ (xs : List ℕ). AreThreads small xs) (sym g) (subst (λ (c : Configuration). AreThreads c threads) e are))
 
-pub found_images : (small large : Configuration) (p : Partial) (threads left to images : List ℕ) → p.threads ≡ [] → p.to ≡ [] → left ≡ threads → images ≡ to → AreThreads small threads → IsAnswer small large p left (Some to) → IsFirstInjection small large images
+pub found_images : (small large : Configuration) (p : Partial) (threads left to images : List ℕ) → p.threads ≡ [] → p.to ≡ [] → left ≡ threads → images ≡ to → AreThreads small threads → IsRestAnswer small large p left (Some to) → IsFirstInjection small large images
 found_images small large p threads left to images e f g h are answer =
-    subst (λ (xs : List ℕ). IsFirstInjection small large xs) (sym h) (found_first small large p threads to e f are (subst (λ (xs : List ℕ). IsAnswer small large p xs (Some to)) g answer))
+    subst (λ (xs : List ℕ). IsFirstInjection small large xs) (sym h) (found_first small large p threads to e f are (subst (λ (xs : List ℕ). IsRestAnswer small large p xs (Some to)) g answer))

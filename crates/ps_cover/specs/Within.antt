@@ -6,5 +6,5 @@ abbrev pub times : ℕ → List ℕ → ℕ
 times number numbers = length (filter (λ n. n == number) numbers)
 
 -- each number stands in the first list at most as often as in the second
-abbrev pub IsWithin : List ℕ → List ℕ → Type 0
-IsWithin small large = (n : ℕ) → times n small ≤ times n large
+abbrev pub IsWithinList : List ℕ → List ℕ → Type 0
+IsWithinList small large = (n : ℕ) → times n small ≤ times n large

@@ -3,7 +3,7 @@ ghost use Rattle.std.specs.Prelude.{◌≡◌, ◌∷◌, [], ℕ, List, map};
 ghost use Rattle.ps_config.specs.Configurations.{Configuration, Covers};
 ghost use Rattle.ps_cover.specs.Coverings.{IsFirstInjection};
 ghost use Rattle.ps_cover.specs.Examples.{one_thread, two_threads};
-ghost use Rattle.ps_cover.specs.Within.{IsWithin};
+ghost use Rattle.ps_cover.specs.Within.{IsWithinList};
 
 use ps_config::Config;
 
@@ -28,7 +28,7 @@ pub fn the_least_image_is_first()
 /// The locations of what is covered are within those of what covers it, each as often.
 pub fn locations_are_within(small: &Config)
     ensures { (large : Configuration) → Covers small.now large
-        → IsWithin (map (λ p. p.1) small.now.at) (map (λ p. p.1) large.at) }
+        → IsWithinList (map (λ p. p.1) small.now.at) (map (λ p. p.1) large.at) }
 {
     let _places = small.at();
 }

@@ -2,7 +2,7 @@
 ghost use Rattle.std.specs.Prelude.{◌≡◌, ◌++◌, ◌≤◌, ◌<◌, ◌+◌, drop, length, slice_index};
 ghost use Rattle.ps_config.specs.Configurations.{Configuration};
 ghost use Rattle.ps_config.specs.Forms.{AreThreads};
-ghost use Rattle.ps_cover.specs.inner.Rests.{Fits, HaveFailed, IsAnswer, IsTrial, large_of};
+ghost use Rattle.ps_cover.specs.inner.Rests.{Fits, HaveFailed, IsRestAnswer, IsTrial, large_of};
 
 use crate::few::Few;
 use crate::fits::fits;
@@ -35,7 +35,7 @@ pub(crate) fn search(
     requires threads { AreThreads small.now (partial.now.threads ++ left.now) }
     requires few { length partial.now.threads + length left.now ≤ MOST_THREADS }
     requires fits { Fits small.now (large_of at.now atoms.now) partial.now.threads partial.now.to }
-    ensures { IsAnswer small.now (large_of at.now atoms.now) partial.now left.now result }
+    ensures { IsRestAnswer small.now (large_of at.now atoms.now) partial.now left.now result }
 {
     if left.is_empty() {
         return Some(partial.to.copied());

@@ -2,7 +2,7 @@
 use Rattle.std.proofs.Common.{◌≡◌, ◌≢◌, ℕ, List, [], ◌∷◌, Contains, ap, sym, subst, refl, inl, inr, arith}
 use Rattle.ps_drop.specs.declared.pair.Pair.{Pair}
 use Rattle.ps_drop.specs.Examples.{pair, tree, links}
-use Rattle.ps_drop.specs.Pairs.{Names, IsPath, Leads, Leans}
+use Rattle.ps_drop.specs.Pairs.{NamesPair, IsPath, Leads, Leans}
 use Rattle.ps_list.proofs.Members.{nothing, cons_cases, here, there}
 
 -- 3 is below 1
@@ -13,7 +13,7 @@ three_below_one = (1 ∷ [], (there (pair 1 0) (pair 2 0 ∷ pair 3 1 ∷ []) (p
 pub nine_below_nine : Leads tree 9 9
 nine_below_nine = ([], refl)
 
-other_of_two : (m : ℕ) → Names tree 2 m → m ≡ 0
+other_of_two : (m : ℕ) → NamesPair tree 2 m → m ≡ 0
 other_of_two m h = elim (cons_cases (pair 1 0) (pair 2 0 ∷ pair 3 1 ∷ []) (pair 2 m) h) [
   | inl is ↦ (let no_such : 1 ≡ 2 = ap (λ (p : Pair). p.node) is in absurd (omega (arith, no_such)))
   | inr rest ↦ elim (cons_cases (pair 2 0) (pair 3 1 ∷ []) (pair 2 m) rest) [
@@ -25,7 +25,7 @@ other_of_two m h = elim (cons_cases (pair 1 0) (pair 2 0 ∷ pair 3 1 ∷ []) (p
   ]
 ]
 
-no_other_of_zero : (m : ℕ) → ¬ Names tree 0 m
+no_other_of_zero : (m : ℕ) → ¬ NamesPair tree 0 m
 no_other_of_zero m h = elim (cons_cases (pair 1 0) (pair 2 0 ∷ pair 3 1 ∷ []) (pair 0 m) h) [
   | inl is ↦ (let no_such : 1 ≡ 0 = ap (λ (p : Pair). p.node) is in omega (arith, no_such))
   | inr rest ↦ elim (cons_cases (pair 2 0) (pair 3 1 ∷ []) (pair 0 m) rest) [
@@ -59,7 +59,7 @@ not_one_or_three other h e = elim (cons_cases 1 (3 ∷ []) other h) [
   | inr rest ↦ elim (cons_cases 3 [] other rest) [ inl is ↦ omega (arith, is, e) | inr none ↦ nothing other none ]
 ]
 
-links_of_two : (other : ℕ) → Names links 2 other → other ≡ 2
+links_of_two : (other : ℕ) → NamesPair links 2 other → other ≡ 2
 links_of_two other h = elim (cons_cases (pair 0 1) (pair 0 2 ∷ pair 2 2 ∷ []) (pair 2 other) h) [
   | inl is ↦ (let no_such : 0 ≡ 2 = ap (λ (p : Pair). p.node) is in absurd (omega (arith, no_such)))
   | inr rest ↦ elim (cons_cases (pair 0 2) (pair 2 2 ∷ []) (pair 2 other) rest) [

@@ -13,7 +13,7 @@ use Rattle.std.proofs.lemmas.List.{take_more}
 use Rattle.std.proofs.lemmas.List.Sorted.{IsPermutation-sym, Contains-permutation}
 use Rattle.ps_list.proofs.Members.{nothing, cons_cases}
 use Rattle.ps_drop.specs.declared.pair.Pair.{Pair}
-use Rattle.ps_drop.specs.Pairs.{Names, IsPath, Leads}
+use Rattle.ps_drop.specs.Pairs.{NamesPair, IsPath, Leads}
 use Rattle.ps_drop.specs.inner.Visit.{AreChildren, Has, unfound, Visits}
 
 -- ---- a node goes into the set
@@ -124,9 +124,9 @@ pub record Searched (pairs : List Pair) (root : ℕ) (found : BTreeSet ℕ) (wai
   pub root_found : Has found root
   pub found_lead : (n : ℕ) → Has found n → Leads pairs n root
   pub waiting_found : (n : ℕ) → Contains waiting n → Has found n
-  pub children_found : (n parent : ℕ) → Names pairs n parent → Has found parent → Contains waiting parent ⊎ Has found n
+  pub children_found : (n parent : ℕ) → NamesPair pairs n parent → Has found parent → Contains waiting parent ⊎ Has found n
 
-names_child : (pairs : List Pair) (n parent : ℕ) (p : Pair) → Contains pairs p → p.other ≡ parent → p.node ≡ n → Names pairs n parent
+names_child : (pairs : List Pair) (n parent : ℕ) (p : Pair) → Contains pairs p → p.other ≡ parent → p.node ≡ n → NamesPair pairs n parent
 names_child pairs n parent p listed of_parent is =
     subst (λ (m : ℕ). Contains pairs (record { node = m; other = parent })) is (subst (λ (o : ℕ). Contains pairs (record { node = p.node; other = o })) of_parent listed)
 

@@ -4,7 +4,7 @@ use Rattle.std.proofs.lemmas.Bool.{both_ways}
 use Rattle.std.proofs.lemmas.Int.{ints}
 use Rattle.std.proofs.lemmas.List.{get_or-map, length-map}
 use Rattle.std.proofs.lemmas.List.Elements.{All-contains, All-map, All-nil, All-push, All-weaker, Contains-append_left, Contains-push}
-use Rattle.ps_elim.specs.inner.Choosing.{IsLeastAmong, IsPositive, lesser_of}
+use Rattle.ps_elim.specs.inner.Choosing.{IsLeastAmong, IsPositive, lesser_vector}
 use Rattle.ps_elim.specs.Elimination.{HasNoRefutation, IsLeastRefutation, last_set}
 use Rattle.ps_elim.specs.Supports.{is_less}
 use Rattle.ps_elim.specs.Vectors.{constant_under}
@@ -48,7 +48,7 @@ IsBest-compared ws best w h p false e = record {
   least = All-push (λ u. IsPositive u → ¬ IsTrue (is_less u.vector best.vector)) ws w h.least (λ q t. both_ways (is_less w.vector best.vector) e t);
 }
 
-pub IsBest-more : (ws : List Weighted) (best : Option Weighted) (w : Weighted) → IsBest ws best → IsPositive w → IsBest (ws ++ w ∷ []) (Some (lesser_of best w))
+pub IsBest-more : (ws : List Weighted) (best : Option Weighted) (w : Weighted) → IsBest ws best → IsPositive w → IsBest (ws ++ w ∷ []) (Some (lesser_vector best w))
 IsBest-more ws None w h p = IsBest-first ws w h p
 IsBest-more ws (Some best) w h p = IsBest-compared ws best w h p (is_less w.vector best.vector) refl
 

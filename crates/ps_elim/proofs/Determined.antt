@@ -5,7 +5,7 @@ use Rattle.std.proofs.lemmas.List.Elements.{All-contains, All-head, All-tail}
 use Rattle.ps_elim.specs.Combining.{eliminated, width}
 use Rattle.ps_elim.specs.Elimination.{HasNoRefutation, IsElimination, IsLeastRefutation, last_set}
 use Rattle.ps_elim.specs.Refutation.{HasCanonicalRows}
-use Rattle.ps_elim.specs.Stages.{AllPass, AreStages, Passes, StopsAt, first_set, variables}
+use Rattle.ps_elim.specs.Stages.{AllPass, AreStages, PassesStage, StopsAtStage, first_set, variables}
 use Rattle.ps_elim.specs.Supports.{is_less}
 use Rattle.ps_elim.specs.Vectors.{AreSums, constant_under}
 use Rattle.ps_elim.specs.declared.answer.Elim.{Elim}
@@ -21,7 +21,7 @@ use Rattle.ps_term.proofs.Uniqueness.{same_coefficients}
 
 -- ---- the stage at which an elimination stops
 abbrev Refuses : List Row → (List (List ℕ) → Var → Type 0) → Type 0
-Refuses rows reason = (vs : List (List ℕ)) (x : Var) → reason vs x → ¬ Passes rows vs x
+Refuses rows reason = (vs : List (List ℕ)) (x : Var) → reason vs x → ¬ PassesStage rows vs x
 
 wide_refuses : (rows : List Row) (count : ℕ) → Refuses rows (WideAt rows count)
 wide_refuses rows count vs x h p =
@@ -41,7 +41,7 @@ record StopsOnce (f g : List (List ℕ) → Var → Type 0) (n m : ℕ) : Type 0
   second : g set variable
 
 stops_once : (f g : List (List ℕ) → Var → Type 0) (rows : List Row) → Refuses rows f → Refuses rows g → (vs : List (List ℕ)) (xs : List Var) (n m : ℕ)
-    → StopsAt f rows vs xs n → StopsAt g rows vs xs m → StopsOnce f g n m
+    → StopsAtStage f rows vs xs n → StopsAtStage g rows vs xs m → StopsOnce f g n m
 stops_once f g rows p q vs [] n m h k = absurd h
 stops_once f g rows p q vs (x ∷ xs) zero zero h k = record { stage = refl; set = vs; variable = x; first = h; second = k }
 stops_once f g rows p q vs (x ∷ xs) zero (suc m) h k = absurd (p vs x h k.0)
@@ -50,7 +50,7 @@ stops_once f g rows p q vs (x ∷ xs) (suc n) (suc m) h k =
     let rest = stops_once f g rows p q (eliminated rows x vs) xs n m h.1 k.1 in
     record { stage = ap suc rest.stage; set = rest.set; variable = rest.variable; first = rest.first; second = rest.second }
 
-never_stops : (f : List (List ℕ) → Var → Type 0) (rows : List Row) → Refuses rows f → (vs : List (List ℕ)) (xs : List Var) (n : ℕ) → AllPass rows vs xs → StopsAt f rows vs xs n → ⊥
+never_stops : (f : List (List ℕ) → Var → Type 0) (rows : List Row) → Refuses rows f → (vs : List (List ℕ)) (xs : List Var) (n : ℕ) → AllPass rows vs xs → StopsAtStage f rows vs xs n → ⊥
 never_stops f rows p vs [] n a h = h
 never_stops f rows p vs (x ∷ xs) zero a h = p vs x h a.0
 never_stops f rows p vs (x ∷ xs) (suc n) a h = never_stops f rows p (eliminated rows x vs) xs n a.1 h.1

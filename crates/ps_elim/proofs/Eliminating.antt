@@ -4,7 +4,7 @@ use Rattle.std.proofs.lemmas.List.{append_assoc, length_push}
 use Rattle.std.proofs.lemmas.List.Elements.{All-head, All-tail, All-nil, All-push}
 use Rattle.ps_elim.specs.Combining.{AllFit, all_combined, eliminated, negatives, positives, width, zeros}
 use Rattle.ps_elim.specs.Elimination.{Ends, IsTooWide, LeavesRange, last_set}
-use Rattle.ps_elim.specs.Stages.{AllPass, AreStages, Passes, StopsAt, first_set, set_after, variables}
+use Rattle.ps_elim.specs.Stages.{AllPass, AreStages, PassesStage, StopsAtStage, first_set, set_after, variables}
 use Rattle.ps_elim.specs.Vectors.{AreSums}
 use Rattle.ps_elim.specs.inner.Antichains.{IsAntichain}
 use Rattle.ps_elim.specs.inner.Weighing.{IsWeighted, vectors_of}
@@ -31,8 +31,8 @@ pub record Eliminating (rows : List Row) (set : List Weighted) (stages : List St
   pub last : set_after rows (vectors_of set) rest ≡ last_set rows
   pub ends : AllPass rows (vectors_of set) rest → Ends rows
   pub made : (more : List Stage) → AreStages rows (vectors_of set) rest more → AreStages rows (first_set rows) (variables rows) (stages ++ more)
-  pub wide : (count n : ℕ) → StopsAt (WideAt rows count) rows (vectors_of set) rest n → IsTooWide rows (length stages + n) count
-  pub past : (n : ℕ) → StopsAt (PastAt rows) rows (vectors_of set) rest n → LeavesRange rows (length stages + n)
+  pub wide : (count n : ℕ) → StopsAtStage (WideAt rows count) rows (vectors_of set) rest n → IsTooWide rows (length stages + n) count
+  pub past : (n : ℕ) → StopsAtStage (PastAt rows) rows (vectors_of set) rest n → LeavesRange rows (length stages + n)
   pub sums : HaveSums rows stages
 
 pub Eliminating-start : (rows : List Row) (set : List Weighted) → All (IsWeighted rows) set → vectors_of set ≡ first_set rows → length set < 2 ^ 32 → Eliminating rows set [] (variables rows)
@@ -43,8 +43,8 @@ Eliminating-start rows set h e l = record {
   last = ap (λ (vs : List (List ℕ)). set_after rows vs (variables rows)) e;
   ends = λ p. subst (λ (vs : List (List ℕ)). AllPass rows vs (variables rows)) e p;
   made = λ more p. subst (λ (vs : List (List ℕ)). AreStages rows vs (variables rows) more) e p;
-  wide = λ count n p. subst (λ (k : ℕ). IsTooWide rows k count) (zero_left n) (subst (λ (vs : List (List ℕ)). StopsAt (WideAt rows count) rows vs (variables rows) n) e p);
-  past = λ n p. subst (λ (k : ℕ). LeavesRange rows k) (zero_left n) (subst (λ (vs : List (List ℕ)). StopsAt (PastAt rows) rows vs (variables rows) n) e p);
+  wide = λ count n p. subst (λ (k : ℕ). IsTooWide rows k count) (zero_left n) (subst (λ (vs : List (List ℕ)). StopsAtStage (WideAt rows count) rows vs (variables rows) n) e p);
+  past = λ n p. subst (λ (k : ℕ). LeavesRange rows k) (zero_left n) (subst (λ (vs : List (List ℕ)). StopsAtStage (PastAt rows) rows vs (variables rows) n) e p);
   sums = All-nil (λ stage. AreSums rows stage.vectors stage.rows);
 }
   where
@@ -55,7 +55,7 @@ sums_of : (rows : List Row) (ws : List Weighted) → All (IsWeighted rows) ws �
 sums_of rows [] h = tt
 sums_of rows (w ∷ ws) h = ((All-head (IsWeighted rows) w ws h).sum, sums_of rows ws (All-tail (IsWeighted rows) w ws h))
 
-pub Eliminating-step : (rows : List Row) (set next : List Weighted) (stages : List Stage) (x : Var) (rest : List Var) (stage : Stage) → Eliminating rows set stages (x ∷ rest) → Passes rows (vectors_of set) x → All (IsWeighted rows) next → vectors_of next ≡ eliminated rows x (vectors_of set) → length next ≤ MOST_VECTORS → stage.variable ≡ x → stage.vectors ≡ vectors_of set → stage.rows ≡ map (λ w. w.row) set → Eliminating rows next (stages ++ stage ∷ []) rest
+pub Eliminating-step : (rows : List Row) (set next : List Weighted) (stages : List Stage) (x : Var) (rest : List Var) (stage : Stage) → Eliminating rows set stages (x ∷ rest) → PassesStage rows (vectors_of set) x → All (IsWeighted rows) next → vectors_of next ≡ eliminated rows x (vectors_of set) → length next ≤ MOST_VECTORS → stage.variable ≡ x → stage.vectors ≡ vectors_of set → stage.rows ≡ map (λ w. w.row) set → Eliminating rows next (stages ++ stage ∷ []) rest
 Eliminating-step rows set next stages x rest stage e p all same few is vs rs =
     let sums_here : AreSums rows stage.vectors stage.rows = subst (λ (us : List (List ℕ)). AreSums rows us stage.rows) (sym vs) (subst (λ (ss : List Row). AreSums rows (vectors_of set) ss) (sym rs) (sums_of rows set e.weighted)) in
     record {
@@ -65,8 +65,8 @@ Eliminating-step rows set next stages x rest stage e p all same few is vs rs =
       last = ap (λ (us : List (List ℕ)). set_after rows us rest) same ∙ e.last;
       ends = λ h. e.ends (p, subst (λ (us : List (List ℕ)). AllPass rows us rest) same h);
       made = λ more h. subst (λ (ss : List Stage). AreStages rows (first_set rows) (variables rows) ss) (sym (append_assoc stages (stage ∷ []) more)) (e.made (stage ∷ more) (is, vs, sums_here, subst (λ (us : List (List ℕ)). AreStages rows us rest more) same h));
-      wide = λ count n h. subst (λ (k : ℕ). IsTooWide rows k count) (shifted n) (e.wide count (suc n) (p, subst (λ (us : List (List ℕ)). StopsAt (WideAt rows count) rows us rest n) same h));
-      past = λ n h. subst (λ (k : ℕ). LeavesRange rows k) (shifted n) (e.past (suc n) (p, subst (λ (us : List (List ℕ)). StopsAt (PastAt rows) rows us rest n) same h));
+      wide = λ count n h. subst (λ (k : ℕ). IsTooWide rows k count) (shifted n) (e.wide count (suc n) (p, subst (λ (us : List (List ℕ)). StopsAtStage (WideAt rows count) rows us rest n) same h));
+      past = λ n h. subst (λ (k : ℕ). LeavesRange rows k) (shifted n) (e.past (suc n) (p, subst (λ (us : List (List ℕ)). StopsAtStage (PastAt rows) rows us rest n) same h));
       sums = All-push (λ s. AreSums rows s.vectors s.rows) stages stage e.sums sums_here;
     }
   where

@@ -5,10 +5,10 @@ use Rattle.std.proofs.lemmas.Bool.{false≢true}
 use Rattle.std.proofs.lemmas.Int.{ints}
 use Rattle.std.proofs.lemmas.List.Elements.{All-cons, All-head, All-nil}
 use Rattle.ps_list.proofs.Members.{cons_cases, here, nothing}
-use Rattle.ps_elim.specs.Combining.{AllFit, PairFits, WeightedFits, negatives, width}
+use Rattle.ps_elim.specs.Combining.{AllFit, CombinationFits, WeightedFits, negatives, width}
 use Rattle.ps_elim.specs.Elimination.{IsLeastRefutation}
 use Rattle.ps_elim.specs.Examples.{PairsAreTooMany, SumRefutesTwo, TwiceIsPast, great, two, wide}
-use Rattle.ps_elim.specs.Stages.{Passes, first_set}
+use Rattle.ps_elim.specs.Stages.{PassesStage, first_set}
 use Rattle.ps_elim.specs.Supports.{is_less}
 use Rattle.ps_elim.specs.declared.limits.TheConstants.{MOST_VECTORS}
 use Rattle.ps_term.specs.Var.{var_eq}
@@ -23,7 +23,7 @@ either_fits : (t : Bool) → WeightedFits 1 (under 1 0 t) 1 (under 0 1 t)
 either_fits true = (record { sfits = omega arith }, (record { sfits = omega arith }, record { sfits = omega arith }))
 either_fits false = (record { sfits = omega arith }, (record { sfits = omega arith }, record { sfits = omega arith }))
 
-pair_fits : PairFits two (Global 0) (1 ∷ 0 ∷ []) (0 ∷ 1 ∷ [])
+pair_fits : CombinationFits two (Global 0) (1 ∷ 0 ∷ []) (0 ∷ 1 ∷ [])
 pair_fits = record {
   entries = (first, (second, tt));
   coefficients = λ y. either_fits (var_eq y (Global 0));
@@ -36,10 +36,10 @@ pair_fits = record {
     second : WeightedFits 1 (pos 0) 1 (pos 1)
     second = (record { sfits = omega arith }, (record { sfits = omega arith }, record { sfits = omega arith }))
 
-passes : Passes two (first_set two) (Global 0)
+passes : PassesStage two (first_set two) (Global 0)
 passes = record {
   few = lit≤ tt;
-  fits = All-cons (λ p. All (PairFits two (Global 0) p) ((0 ∷ 1 ∷ []) ∷ [])) (1 ∷ 0 ∷ []) [] (All-cons (PairFits two (Global 0) (1 ∷ 0 ∷ [])) (0 ∷ 1 ∷ []) [] pair_fits (All-nil (PairFits two (Global 0) (1 ∷ 0 ∷ [])))) (All-nil (λ p. All (PairFits two (Global 0) p) ((0 ∷ 1 ∷ []) ∷ [])));
+  fits = All-cons (λ p. All (CombinationFits two (Global 0) p) ((0 ∷ 1 ∷ []) ∷ [])) (1 ∷ 0 ∷ []) [] (All-cons (CombinationFits two (Global 0) (1 ∷ 0 ∷ [])) (0 ∷ 1 ∷ []) [] pair_fits (All-nil (CombinationFits two (Global 0) (1 ∷ 0 ∷ [])))) (All-nil (λ p. All (CombinationFits two (Global 0) p) ((0 ∷ 1 ∷ []) ∷ [])));
 }
 
 none_less : (u : List ℕ) → Contains ((1 ∷ 1 ∷ []) ∷ []) u → ¬ IsTrue (is_less u (1 ∷ 1 ∷ []))
@@ -69,8 +69,8 @@ twice_does_not_fit h = let within = h.sfits in omega (arith, ints, within)
 
 no_pair_fits : ¬ AllFit great (Global 0) (first_set great)
 no_pair_fits fits =
-    let first : All (PairFits great (Global 0) (1 ∷ 0 ∷ [])) ((0 ∷ 1 ∷ []) ∷ []) = All-head (λ p. All (PairFits great (Global 0) p) (negatives great (Global 0) (first_set great))) (1 ∷ 0 ∷ []) [] fits in
-    let pair : PairFits great (Global 0) (1 ∷ 0 ∷ []) (0 ∷ 1 ∷ []) = All-head (PairFits great (Global 0) (1 ∷ 0 ∷ [])) (0 ∷ 1 ∷ []) [] first in
+    let first : All (CombinationFits great (Global 0) (1 ∷ 0 ∷ [])) ((0 ∷ 1 ∷ []) ∷ []) = All-head (λ p. All (CombinationFits great (Global 0) p) (negatives great (Global 0) (first_set great))) (1 ∷ 0 ∷ []) [] fits in
+    let pair : CombinationFits great (Global 0) (1 ∷ 0 ∷ []) (0 ∷ 1 ∷ []) = All-head (CombinationFits great (Global 0) (1 ∷ 0 ∷ [])) (0 ∷ 1 ∷ []) [] first in
     twice_does_not_fit (pair.coefficients (Global 0)).0
 
 pub leaves_range : TwiceIsPast

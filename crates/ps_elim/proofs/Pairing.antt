@@ -2,7 +2,7 @@
 use Rattle.std.proofs.Common.{◌≡◌, ℕ, ◌/◌, ◌<◌, ℤ, pos, ◌+ℤ◌, ◌*ℤ◌, List, [], ◌∷◌, ◌++◌, ◌+◌, map, take, length, get_or, All, Result, Ok, Err, OnOk, IsErrOf, Bor, unsigned_abs, sym, ap, ap₂, ◌∙◌, subst, subst₂}
 use Rattle.std.proofs.lemmas.List.{append-nil, append_assoc, get_or-map, length-map, map_push, take_more}
 use Rattle.std.proofs.lemmas.List.Elements.{All-push}
-use Rattle.ps_elim.specs.Combining.{PairFits, WeightedFits, all_combined, combined, size_under, weight, weighted_entries}
+use Rattle.ps_elim.specs.Combining.{CombinationFits, WeightedFits, all_combined, combined, size_under, weight, weighted_entries}
 use Rattle.ps_elim.specs.Divisors.{common_divisor}
 use Rattle.ps_elim.specs.Vectors.{IsSum, coefficient_under, constant_under}
 use Rattle.ps_elim.specs.inner.Weighing.{IsWeighted, pointed_to, vectors_of}
@@ -44,7 +44,7 @@ pair_sum rows p q m n row h k c d = record {
   constant = d ∙ (ap₂ (λ (y z : ℤ). (pos m *ℤ y) +ℤ (pos n *ℤ z)) h.sum.constant k.sum.constant ∙ sym (weighted-entries (λ t. t.constant) rows m p.vector n q.vector (h.long ∙ sym k.long)));
 }
 
-pub pair_fits : (rows : List Row) (x : Var) (p q : Weighted) (m n : ℕ) → IsWeighted rows p → IsWeighted rows q → m ≡ weight rows x p.vector q.vector → n ≡ weight rows x q.vector p.vector → EntriesFit m n p.vector q.vector → TermsFit m p.row.term n q.row.term → PairFits rows x p.vector q.vector
+pub pair_fits : (rows : List Row) (x : Var) (p q : Weighted) (m n : ℕ) → IsWeighted rows p → IsWeighted rows q → m ≡ weight rows x p.vector q.vector → n ≡ weight rows x q.vector p.vector → EntriesFit m n p.vector q.vector → TermsFit m p.row.term n q.row.term → CombinationFits rows x p.vector q.vector
 pair_fits rows x p q m n h k e f a b = record {
   entries = subst₂ (λ (i j : ℕ). EntriesFit i j p.vector q.vector) e f a;
   coefficients = λ y. subst₂ (λ (i j : ℕ). WeightedFits i (coefficient_under rows y p.vector) j (coefficient_under rows y q.vector)) e f (subst₂ (λ (i j : ℤ). WeightedFits m i n j) (h.sum.coefficients y) (k.sum.coefficients y) (b.0 y));

@@ -5,7 +5,7 @@ use Rattle.std.proofs.lemmas.Int.{ints}
 use Rattle.std.proofs.lemmas.List.{drop_more}
 use Rattle.ps_elim.specs.Combining.{width}
 use Rattle.ps_elim.specs.Elimination.{IsTooWide}
-use Rattle.ps_elim.specs.Stages.{first_set, variables, StopsAt}
+use Rattle.ps_elim.specs.Stages.{first_set, variables, StopsAtStage}
 use Rattle.ps_elim.specs.Vectors.{coefficient_under, units}
 use Rattle.ps_elim.specs.inner.Weighing.{is_of}
 use Rattle.ps_elim.specs.inner.Width.{width_of_rows}
@@ -61,8 +61,8 @@ first_is x (y ∷ ys) e = let same : y ≡ x = cc in ap (λ (z : Var). z ∷ ys)
 pub wide_first : (rows : List Row) (xs : List Var) (x : Var) (count : ℕ) → xs ≡ variables rows → Some x ≡ slice_get xs 0 → count ≡ width_of_rows x rows → MOST_VECTORS < count → IsTooWide rows 0 count
 wide_first rows xs x count is first e more =
     let same : count ≡ width rows x (first_set rows) = e ∙ width_is x rows in
-    let here : StopsAt (WideAt rows count) rows (first_set rows) (x ∷ drop 1 xs) 0 = (subst (λ (n : ℕ). MOST_VECTORS < n) same more, same) in
-    subst (λ (ys : List Var). StopsAt (WideAt rows count) rows (first_set rows) ys 0) (sym (first_is x xs first) ∙ is) here
+    let here : StopsAtStage (WideAt rows count) rows (first_set rows) (x ∷ drop 1 xs) 0 = (subst (λ (n : ℕ). MOST_VECTORS < n) same more, same) in
+    subst (λ (ys : List Var). StopsAtStage (WideAt rows count) rows (first_set rows) ys 0) (sym (first_is x xs first) ∙ is) here
 
 -- ---- counting row by row
 pub count_step : (test : Row → Bool) (rows : List Row) (i : ℕ) (r : Row) → i < length rows → r ≡ get_or rows i r → (t : Bool) → test r ≡ t → length (filter test (drop i rows)) ≡ (if t then 1 else 0) + length (filter test (drop (i + 1) rows))

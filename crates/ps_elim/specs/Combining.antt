@@ -56,11 +56,11 @@ abbrev pub WeightedFits : ℕ → ℤ → ℕ → ℤ → Type 0
 WeightedFits m i n j = FitsSigned w128 (pos m *ℤ i) × ScaledFits (pos m *ℤ i) (pos n) j
 
 -- before its entries are divided, a pair's vector and its row stay within 128 bits
-pub record PairFits (rows : List Row) (x : Var) (p q : List ℕ) : Type 0 where
+pub record CombinationFits (rows : List Row) (x : Var) (p q : List ℕ) : Type 0 where
   pub entries : AllZip (λ i j. WeightedFits (weight rows x p q) (pos i) (weight rows x q p) (pos j)) p q
   pub coefficients : (y : Var) → WeightedFits (weight rows x p q) (coefficient_under rows y p) (weight rows x q p) (coefficient_under rows y q)
   pub constant : WeightedFits (weight rows x p q) (constant_under rows p) (weight rows x q p) (constant_under rows q)
 
 -- all pairs do
 abbrev pub AllFit : List Row → Var → List (List ℕ) → Type 0
-AllFit rows x vs = All (λ p. All (PairFits rows x p) (negatives rows x vs)) (positives rows x vs)
+AllFit rows x vs = All (λ p. All (CombinationFits rows x p) (negatives rows x vs)) (positives rows x vs)

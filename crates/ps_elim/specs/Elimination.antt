@@ -1,7 +1,7 @@
 -- The answer of an elimination.
 use Rattle.std.specs.Prelude.{◌≡◌, ◌≤◌, ◌<◌, ◌≤ℤ◌, ℕ, pos, IsTrue, List, All, Contains}
 use Rattle.ps_elim.specs.Combining.{AllFit, width}
-use Rattle.ps_elim.specs.Stages.{AllPass, AreStages, StopsAt, first_set, set_after, variables}
+use Rattle.ps_elim.specs.Stages.{AllPass, AreStages, StopsAtStage, first_set, set_after, variables}
 use Rattle.ps_elim.specs.Supports.{is_less}
 use Rattle.ps_elim.specs.Vectors.{constant_under}
 use Rattle.ps_elim.specs.declared.limits.TheConstants.{MOST_VECTORS}
@@ -31,12 +31,12 @@ HasNoRefutation rows = All (λ v. constant_under rows v ≤ℤ pos 0) (last_set 
 -- the stage of this number is made of too many vectors
 abbrev pub IsTooWide : List Row → ℕ → ℕ → Type 0
 IsTooWide rows stage count =
-    StopsAt (λ vs x. (MOST_VECTORS < width rows x vs) × (count ≡ width rows x vs)) rows (first_set rows) (variables rows) stage
+    StopsAtStage (λ vs x. (MOST_VECTORS < width rows x vs) × (count ≡ width rows x vs)) rows (first_set rows) (variables rows) stage
 
 -- the stage of this number isn't, but some number of its making leaves 128 bits
 abbrev pub LeavesRange : List Row → ℕ → Type 0
 LeavesRange rows stage =
-    StopsAt (λ vs x. (width rows x vs ≤ MOST_VECTORS) × ¬ AllFit rows x vs) rows (first_set rows) (variables rows) stage
+    StopsAtStage (λ vs x. (width rows x vs ≤ MOST_VECTORS) × ¬ AllFit rows x vs) rows (first_set rows) (variables rows) stage
 
 -- the stages of the rows, without a refutation at their end
 pub record AreStagesOf (rows : List Row) (stages : List Stage) : Type 0 where

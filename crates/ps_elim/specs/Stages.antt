@@ -33,20 +33,20 @@ set_after rows vs [] = vs
 set_after rows vs (x ∷ xs) = set_after rows (eliminated rows x vs) xs
 
 -- the next set is made of few enough vectors, and all numbers of its making stay within 128 bits
-pub record Passes (rows : List Row) (vs : List (List ℕ)) (x : Var) : Type 0 where
+pub record PassesStage (rows : List Row) (vs : List (List ℕ)) (x : Var) : Type 0 where
   pub few : width rows x vs ≤ MOST_VECTORS
   pub fits : AllFit rows x vs
 
 -- at each of these variables
 abbrev pub AllPass : List Row → List (List ℕ) → List Var → Type 0
 AllPass rows vs [] = Unit {0}
-AllPass rows vs (x ∷ xs) = Passes rows vs x × AllPass rows (eliminated rows x vs) xs
+AllPass rows vs (x ∷ xs) = PassesStage rows vs x × AllPass rows (eliminated rows x vs) xs
 
 -- the stages before the numbered one pass, and of its set and its variable the fact holds
-abbrev pub StopsAt : (List (List ℕ) → Var → Type 0) → List Row → List (List ℕ) → List Var → ℕ → Type 0
-StopsAt fact rows vs [] n = ⊥
-StopsAt fact rows vs (x ∷ xs) zero = fact vs x
-StopsAt fact rows vs (x ∷ xs) (suc n) = Passes rows vs x × StopsAt fact rows (eliminated rows x vs) xs n
+abbrev pub StopsAtStage : (List (List ℕ) → Var → Type 0) → List Row → List (List ℕ) → List Var → ℕ → Type 0
+StopsAtStage fact rows vs [] n = ⊥
+StopsAtStage fact rows vs (x ∷ xs) zero = fact vs x
+StopsAtStage fact rows vs (x ∷ xs) (suc n) = PassesStage rows vs x × StopsAtStage fact rows (eliminated rows x vs) xs n
 
 -- one stage for each variable, with the set before it and the rows of its vectors
 abbrev pub AreStages : List Row → List (List ℕ) → List Var → List Stage → Type 0

@@ -1,6 +1,6 @@
 // The vector that an elimination answers.
 ghost use Rattle.std.specs.Prelude.{◌≡◌, ◌≤ℤ◌, pos, All, IfSome, IfNone, option_copied};
-ghost use Rattle.ps_elim.specs.inner.Choosing.{IsLeastAmong, lesser_of};
+ghost use Rattle.ps_elim.specs.inner.Choosing.{IsLeastAmong, lesser_vector};
 
 use crate::lexicographic::is_less;
 use crate::weighted::Weighted;
@@ -22,7 +22,7 @@ pub(crate) fn least_refutation(set: &[Weighted]) -> Option<&Weighted>
 
 // This one, or the best so far where it isn't less than that.
 fn lesser<'a>(best: Option<&'a Weighted>, weighted: &'a Weighted) -> &'a Weighted
-    ensures { result.now ≡ lesser_of (option_copied best.entry) weighted.now }
+    ensures { result.now ≡ lesser_vector (option_copied best.entry) weighted.now }
 {
     match best {
         Some(so_far) => {

@@ -1,8 +1,8 @@
 // The set of vectors that comes after one variable is eliminated.
 ghost use Rattle.std.specs.Prelude.{◌≡◌, ◌≤◌, ◌<◌, ◌++◌, ◌^◌, List, All, length, map, IfOk, OnOk, IsErrOf};
-ghost use Rattle.ps_elim.specs.Combining.{PairFits, all_combined, combined};
+ghost use Rattle.ps_elim.specs.Combining.{CombinationFits, all_combined, combined};
 ghost use Rattle.ps_elim.specs.inner.Antichains.{IsAntichain};
-ghost use Rattle.ps_elim.specs.inner.Weighing.{AllPairsFit, ArePairable, IsNext, IsPairable, IsWeighted, pointed_to, vectors_of};
+ghost use Rattle.ps_elim.specs.inner.Weighing.{AllPairsFit, ArePairable, IsNextSet, IsPairable, IsWeighted, pointed_to, vectors_of};
 ghost use Rattle.ps_elim.specs.declared.sign.Sign.TheVariants.{Positive, Negative};
 ghost use Rattle.ps_term.specs.declared.row.Row.{Row};
 
@@ -37,7 +37,7 @@ pub(crate) fn next_set(
     requires weighted { All (IsWeighted rows) set.now }
     requires few { length set.now < 2 ^ 32 }
     requires apart { IsAntichain (vectors_of set.now) }
-    ensures { IfOk result (IsNext rows variable (vectors_of set.now)) }
+    ensures { IfOk result (IsNextSet rows variable (vectors_of set.now)) }
 {
     let zeros = with_sign(alloc, set, variable, Sign::Zero)?;
     let positives = with_sign(alloc, set, variable, Sign::Positive)?;
@@ -116,9 +116,9 @@ fn with_pairs_of(
     ensures vectors { IfOk result (λ all. vectors_of all.items ≡ vectors_of made.items
         ++ map (combined rows variable positive.now.vector) (vectors_of (pointed_to negatives.now))) }
     ensures fits { OnOk result
-        (All (PairFits rows variable positive.now.vector) (vectors_of (pointed_to negatives.now))) }
+        (All (CombinationFits rows variable positive.now.vector) (vectors_of (pointed_to negatives.now))) }
     ensures past { IsErrOf result TermEnd.Past128
-        → ¬ All (PairFits rows variable positive.now.vector)
+        → ¬ All (CombinationFits rows variable positive.now.vector)
         (vectors_of (pointed_to negatives.now)) }
 {
     let mut all = made;

@@ -1,6 +1,6 @@
 // The vector of a pair of vectors whose rows have opposite coefficients at a variable.
 ghost use Rattle.std.specs.Prelude.{◌≡◌, ◌<◌, ◌^◌, ◌↔◌, ◌+ℤ◌, ◌*ℤ◌, ◌<ℤ◌, pos, List, IfOk, OnOk, IsErrOf, IsTrue};
-ghost use Rattle.ps_elim.specs.Combining.{PairFits, combined};
+ghost use Rattle.ps_elim.specs.Combining.{CombinationFits, combined};
 ghost use Rattle.ps_elim.specs.inner.Weighing.{IsPairable, IsWeighted};
 ghost use Rattle.ps_elim.specs.inner.Weights.{AreWeights, TermsFit};
 ghost use Rattle.ps_elim.specs.declared.sign.Sign.TheVariants.{Positive, Negative};
@@ -34,9 +34,9 @@ pub(crate) fn combined(
     ensures weighted { IfOk result (IsWeighted rows) }
     ensures vector { IfOk result
         (λ made. made.vector ≡ combined rows variable p.now.vector q.now.vector) }
-    ensures fits { OnOk result (PairFits rows variable p.now.vector q.now.vector) }
+    ensures fits { OnOk result (CombinationFits rows variable p.now.vector q.now.vector) }
     ensures past { IsErrOf result TermEnd.Past128
-        → ¬ PairFits rows variable p.now.vector q.now.vector }
+        → ¬ CombinationFits rows variable p.now.vector q.now.vector }
 {
     let weights = weights_of(variable, &p.row, &q.row);
     let row = weighted_row(alloc, weights, &p.row, &q.row)?;

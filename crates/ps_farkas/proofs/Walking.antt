@@ -12,7 +12,7 @@ use Rattle.ps_term.specs.Var.{var_lt, var_eq}
 use Rattle.ps_term.proofs.Canonical.{coefficient-other}
 use Rattle.ps_term.proofs.Variables.{var_eq-true, var_eq_refl, var_lt-var_eq, var_lt_or_gt, var_lt_trans}
 use Rattle.ps_farkas.specs.Refutes.{weighted, SumsFit}
-use Rattle.ps_farkas.specs.inner.Walk.{IsNext, lesser_of}
+use Rattle.ps_farkas.specs.inner.Walk.{IsNextVariable, lesser_variable}
 use Rattle.ps_farkas.proofs.Weighing.{weighted-zero, SumsFit-zero}
 
 -- ---- the next variable
@@ -24,7 +24,7 @@ before_lesser_of x a b false e h = (h, by_test (var_eq b a) refl)
     by_test true s = subst (λ (y : Var). var_lt x y ≡ true) (sym (var_eq-true b a s)) h
     by_test false s = var_lt_trans x a b h (var_lt_or_gt b a s e)
 
-before_lesser : (x : Var) (a b : Option Var) → IsBefore x (lesser_of a b) → IsBefore x a × IsBefore x b
+before_lesser : (x : Var) (a b : Option Var) → IsBefore x (lesser_variable a b) → IsBefore x a × IsBefore x b
 before_lesser x None b h = (tt, h)
 before_lesser x (Some a) None h = (h, tt)
 before_lesser x (Some a) (Some b) h = before_lesser_of x a b (var_lt b a) refl h
@@ -48,7 +48,7 @@ stands_here : (last : Option Var) (rs : List Row) (r : Row) (b : Option Var) →
 stands_here last rs r None h = tt
 stands_here last rs r (Some x) h = (h.0, Any-push (λ s. coefficient x s.term.pairs ≢ pos 0) rs r h.1)
 
-either_stands : (P : Var → Type 0) (a b : Option Var) → IfSome a P → IfSome b P → IfSome (lesser_of a b) P
+either_stands : (P : Var → Type 0) (a b : Option Var) → IfSome a P → IfSome b P → IfSome (lesser_variable a b) P
 either_stands P None b h k = k
 either_stands P (Some x) None h k = h
 either_stands P (Some x) (Some y) h k = by_test (var_lt y x)
@@ -57,17 +57,17 @@ either_stands P (Some x) (Some y) h k = by_test (var_lt y x)
     by_test true = k
     by_test false = h
 
-pub IsNext-start : (last : Option Var) → IsNext last [] None
+pub IsNext-start : (last : Option Var) → IsNextVariable last [] None
 IsNext-start last = record { skipped = λ x a b k d h. absurd (omega arith); stands = tt }
 
-IsNext-push : (last : Option Var) (rs : List Row) (r : Row) (a b : Option Var) → IsNext last rs a → ((x : Var) → IsAfter last x → IsBefore x b → coefficient x r.term.pairs ≡ pos 0) → IfSome b (λ x. IsAfter last x × (coefficient x r.term.pairs ≢ pos 0)) → IsNext last (rs ++ r ∷ []) (lesser_of a b)
+IsNext-push : (last : Option Var) (rs : List Row) (r : Row) (a b : Option Var) → IsNextVariable last rs a → ((x : Var) → IsAfter last x → IsBefore x b → coefficient x r.term.pairs ≡ pos 0) → IfSome b (λ x. IsAfter last x × (coefficient x r.term.pairs ≢ pos 0)) → IsNextVariable last (rs ++ r ∷ []) (lesser_variable a b)
 IsNext-push last rs r a b n skips stands =
     record {
       skipped = λ x after before. (let both = before_lesser x a b before in All-push (λ s. coefficient x s.term.pairs ≡ pos 0) rs r (n.skipped x after both.0) (skips x after both.1));
       stands = either_stands (Stands last (rs ++ r ∷ [])) a b (stands_more last rs r a n.stands) (stands_here last rs r b stands);
     }
 
-pub IsNext-step : (last : Option Var) (rows : List Row) (i : ℕ) (r : Row) (a b next : Option Var) → IsNext last (take i rows) a → i < length rows → r ≡ get_or rows i r → ((x : Var) → IsAfter last x → IsBefore x b → coefficient x r.term.pairs ≡ pos 0) → IfSome b (λ x. IsAfter last x × (coefficient x r.term.pairs ≢ pos 0)) → next ≡ lesser_of a b → IsNext last (take (i + 1) rows) next
+pub IsNext-step : (last : Option Var) (rows : List Row) (i : ℕ) (r : Row) (a b next : Option Var) → IsNextVariable last (take i rows) a → i < length rows → r ≡ get_or rows i r → ((x : Var) → IsAfter last x → IsBefore x b → coefficient x r.term.pairs ≡ pos 0) → IfSome b (λ x. IsAfter last x × (coefficient x r.term.pairs ≢ pos 0)) → next ≡ lesser_variable a b → IsNextVariable last (take (i + 1) rows) next
 IsNext-step last rows i r a b next n h is skips stands e =
     let more : take (i + 1) rows ≡ (take i rows ++ r ∷ []) = take_more rows i r h ∙ ap (λ (x : Row). take i rows ++ x ∷ []) (sym is) in
     rw (more, e) (IsNext-push last (take i rows) r a b n skips stands)
@@ -143,7 +143,7 @@ left_fewer_at last x (r ∷ rs) zero s after h e n =
 left_fewer_at last x (r ∷ rs) (suc k) s after h e n =
     omega (arith, left_fewer_at last x rs k s after (omega arith) e n, after_no_more last x r.term.pairs after)
 
-pub count_left-falls : (last : Option Var) (rows : List Row) (x : Var) → IsNext last rows (Some x) → count_left (Some x) rows < count_left last rows
+pub count_left-falls : (last : Option Var) (rows : List Row) (x : Var) → IsNextVariable last rows (Some x) → count_left (Some x) rows < count_left last rows
 count_left-falls last rows x n =
     let a = n.stands.1 in
     left_fewer_at last x rows a.0 a.1 n.stands.0 a.2 a.3 a.4
@@ -176,7 +176,7 @@ and_true false b e = absurd (false≢true e)
 true_and : (a b : Bool) → a ≡ true → b ≡ true → (a && b) ≡ true
 true_and a b e f = rw (e, f) refl
 
-pub Walked-turn : (rows : List Row) (ns : List ℕ) (last : Option Var) (cancels cancel new : Bool) (y : Var) → Walked rows ns last cancels → IsNext last rows (Some y) → SumsFit (λ t. coefficient y t.pairs) (pos 0) rows ns → (cancel ≡ true → weighted (λ t. coefficient y t.pairs) rows ns ≡ pos 0) → (weighted (λ t. coefficient y t.pairs) rows ns ≡ pos 0 → cancel ≡ true) → new ≡ (cancels && cancel) → Walked rows ns (Some y) new
+pub Walked-turn : (rows : List Row) (ns : List ℕ) (last : Option Var) (cancels cancel new : Bool) (y : Var) → Walked rows ns last cancels → IsNextVariable last rows (Some y) → SumsFit (λ t. coefficient y t.pairs) (pos 0) rows ns → (cancel ≡ true → weighted (λ t. coefficient y t.pairs) rows ns ≡ pos 0) → (weighted (λ t. coefficient y t.pairs) rows ns ≡ pos 0 → cancel ≡ true) → new ≡ (cancels && cancel) → Walked rows ns (Some y) new
 Walked-turn rows ns last cancels cancel new y w n fits told tells e =
     record {
       fits = reached (λ x. SumsFit (λ t. coefficient x t.pairs) (pos 0) rows ns) last y w.fits fits (λ x a l. SumsFit-zero (λ t. coefficient x t.pairs) rows ns (recursion_from_All (λ r. coefficient x r.term.pairs ≡ pos 0) rows (n.skipped x a l)));
@@ -197,7 +197,7 @@ pub record WalkedAll (rows : List Row) (ns : List ℕ) (cancels : Bool) : Type 0
   pub yes : cancels ≡ true → (x : Var) → weighted (λ t. coefficient x t.pairs) rows ns ≡ pos 0
   pub no : ((x : Var) → weighted (λ t. coefficient x t.pairs) rows ns ≡ pos 0) → cancels ≡ true
 
-pub Walked-end : (rows : List Row) (ns : List ℕ) (last : Option Var) (cancels : Bool) → Walked rows ns last cancels → IsNext last rows None → WalkedAll rows ns cancels
+pub Walked-end : (rows : List Row) (ns : List ℕ) (last : Option Var) (cancels : Bool) → Walked rows ns last cancels → IsNextVariable last rows None → WalkedAll rows ns cancels
 Walked-end rows ns last cancels w n =
     record {
       fits = past_all (λ x. SumsFit (λ t. coefficient x t.pairs) (pos 0) rows ns) last w.fits (λ x a. SumsFit-zero (λ t. coefficient x t.pairs) rows ns (recursion_from_All (λ r. coefficient x r.term.pairs ≡ pos 0) rows (n.skipped x a tt)));
@@ -209,12 +209,12 @@ Walked-end rows ns last cancels w n =
 pub record Walking (rows : List Row) (ns : List ℕ) (next : Option Var) (cancels : Bool) : Type 0 where
   pub last : Option Var
   pub walked : Walked rows ns last cancels
-  pub follows : IsNext last rows next
+  pub follows : IsNextVariable last rows next
 
-pub Walking-start : (rows : List Row) (ns : List ℕ) (next : Option Var) → IsNext None rows next → Walking rows ns next true
+pub Walking-start : (rows : List Row) (ns : List ℕ) (next : Option Var) → IsNextVariable None rows next → Walking rows ns next true
 Walking-start rows ns next n = record { last = None; walked = Walked-start rows ns; follows = n }
 
-pub Walking-turn : (rows : List Row) (ns : List ℕ) (y : Var) (next : Option Var) (cancels cancel new : Bool) → Walking rows ns (Some y) cancels → IsNext (Some y) rows next → SumsFit (λ t. coefficient y t.pairs) (pos 0) rows ns → (cancel ≡ true → weighted (λ t. coefficient y t.pairs) rows ns ≡ pos 0) → (weighted (λ t. coefficient y t.pairs) rows ns ≡ pos 0 → cancel ≡ true) → new ≡ (cancels && cancel) → Walking rows ns next new
+pub Walking-turn : (rows : List Row) (ns : List ℕ) (y : Var) (next : Option Var) (cancels cancel new : Bool) → Walking rows ns (Some y) cancels → IsNextVariable (Some y) rows next → SumsFit (λ t. coefficient y t.pairs) (pos 0) rows ns → (cancel ≡ true → weighted (λ t. coefficient y t.pairs) rows ns ≡ pos 0) → (weighted (λ t. coefficient y t.pairs) rows ns ≡ pos 0 → cancel ≡ true) → new ≡ (cancels && cancel) → Walking rows ns next new
 Walking-turn rows ns y next cancels cancel new w n fits told tells e =
     record { last = Some y; walked = Walked-turn rows ns w.last cancels cancel new y w.walked w.follows fits told tells e; follows = n }
 
@@ -226,6 +226,6 @@ abbrev pub count_from : Option Var → List Row → ℕ
 count_from None rows = 0
 count_from (Some x) rows = 1 + count_left (Some x) rows
 
-pub count_from-falls : (rows : List Row) (y : Var) (next : Option Var) → IsNext (Some y) rows next → count_from next rows < count_from (Some y) rows
+pub count_from-falls : (rows : List Row) (y : Var) (next : Option Var) → IsNextVariable (Some y) rows next → count_from next rows < count_from (Some y) rows
 count_from-falls rows y None n = omega arith
 count_from-falls rows y (Some z) n = omega (arith, count_left-falls (Some y) rows z n)

@@ -2,7 +2,7 @@
 ghost use Rattle.std.specs.Prelude.{◌≡◌, pos, length, IfNone, IfSome, Some};
 ghost use Rattle.ps_term.specs.Pairs.{coefficient};
 ghost use Rattle.ps_farkas.specs.Refutes.{SumsFit, weighted};
-ghost use Rattle.ps_farkas.specs.inner.Walk.{IsNext};
+ghost use Rattle.ps_farkas.specs.inner.Walk.{IsNextVariable};
 
 use crate::product::weighed;
 use crate::row_lists::RowLists;
@@ -36,7 +36,7 @@ pub(crate) fn visit(
         (¬ SumsFit (λ t. coefficient variable t.pairs) (pos 0) rows.now lambda.now) }
     ensures sum { IfSome result
         (λ v. v.sum ≡ weighted (λ t. coefficient variable t.pairs) rows.now lambda.now) }
-    ensures next { IfSome result (λ v. IsNext (Some variable) rows.now v.next) }
+    ensures next { IfSome result (λ v. IsNextVariable (Some variable) rows.now v.next) }
 {
     let mut sum: i128 = 0;
     let mut next = None;

@@ -4,23 +4,23 @@ use Rattle.std.specs.Prelude.{◌≡◌, ◌≢◌, ◌≤◌, ◌<◌, ℕ, ◌
 use Rattle.ps_tree.specs.declared.relation.Sign.TheVariants as sign
 use Rattle.ps_grammar.specs.Grammar.{ProductText, number, name, number_name, name_number, SumText, RelationText, CondText, last_conj, or_else, ConjText, last_unary, and_also, UnaryText, negation, in_parens, relation, TestText, either, condition, StmtText, assign, havoc, assume, assert, skip, atomic, if_then, if_else, while_do, BlockText, block_end, block_more, ItemText, global, local, init, ProgramText}
 use Rattle.ps_grammar.specs.Declarations.{Declared, most_globals, most_levels, most_locals, most_rows, names_of, nothing_declared}
-use Rattle.ps_grammar.specs.Names.{Names, variable_of}
+use Rattle.ps_grammar.specs.Names.{Names, variable_of_name}
 use Rattle.ps_grammar.specs.Trees.{with_item, with_items}
 
-abbrev pub IsKnown : Names → List ℕ → Type 0
-IsKnown names x = variable_of names x ≢ None
+abbrev pub IsKnownName : Names → List ℕ → Type 0
+IsKnownName names x = variable_of_name names x ≢ None
 
 abbrev pub ProductFits : Names → ProductText → Type 0
 ProductFits names (number n) = Unit {0}
-ProductFits names (name x) = IsKnown names x
-ProductFits names (number_name n x) = IsKnown names x
-ProductFits names (name_number x n) = IsKnown names x
+ProductFits names (name x) = IsKnownName names x
+ProductFits names (number_name n x) = IsKnownName names x
+ProductFits names (name_number x n) = IsKnownName names x
 
-abbrev pub SumFits : Names → SumText → Type 0
-SumFits names s = ProductFits names s.first × All (λ (p : Bool × ProductText). ProductFits names p.1) s.further
+abbrev pub SumTextFits : Names → SumText → Type 0
+SumTextFits names s = ProductFits names s.first × All (λ (p : Bool × ProductText). ProductFits names p.1) s.further
 
 abbrev pub RelationFits : Names → RelationText → Type 0
-RelationFits names r = SumFits names r.left × SumFits names r.right
+RelationFits names r = SumTextFits names r.left × SumTextFits names r.right
 
 -- a condition in which at most so many levels of `!` and `(` are opened
 abbrev mutual
@@ -45,8 +45,8 @@ TestFits names levels (condition c) = (1 ≤ levels) × CondFits names (levels -
 -- statements in which at most so many levels are opened, inside an atomic block or not
 abbrev mutual
   pub StmtFits : Names → ℕ → Bool → StmtText → Type 0
-  StmtFits names levels inside (assign x s) = IsKnown names x × SumFits names s
-  StmtFits names levels inside (havoc x) = IsKnown names x
+  StmtFits names levels inside (assign x s) = IsKnownName names x × SumTextFits names s
+  StmtFits names levels inside (havoc x) = IsKnownName names x
   StmtFits names levels inside (assume c) = CondFits names levels c
   StmtFits names levels inside (assert c) = CondFits names levels c
   StmtFits names levels inside skip = Unit {0}
@@ -61,7 +61,7 @@ abbrev mutual
 
 -- the name isn't declared yet
 abbrev pub IsNew : Declared → List ℕ → Type 0
-IsNew d x = variable_of (names_of d) x ≡ None
+IsNew d x = variable_of_name (names_of d) x ≡ None
 
 abbrev pub ItemFits : Declared → ItemText → Type 0
 ItemFits d (global x v) = IsNew d x × (length d.globals < most_globals) × ((with_item d (global x v)).rows ≤ most_rows)

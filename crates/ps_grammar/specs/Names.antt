@@ -20,6 +20,6 @@ first_of (Some x) b = Some x
 first_of None b = b
 
 -- the variable of a declared name
-abbrev pub variable_of : Names → List ℕ → Option Var
-variable_of names name =
+abbrev pub variable_of_name : Names → List ℕ → Option Var
+variable_of_name names name =
     first_of (option_map Global (position_from 0 name names.globals)) (option_map (Local 0) (position_from 0 name names.locals))

@@ -16,7 +16,7 @@ use Rattle.ps_tree.specs.declared.stmt.StmtKind.TheVariants as stmt
 use Rattle.ps_tree.specs.declared.sum.Sum.{Sum}
 use Rattle.ps_grammar.specs.Grammar.{ProductText, number, name, number_name, name_number, SumText, RelationText, CondText, last_conj, or_else, ConjText, last_unary, and_also, UnaryText, negation, in_parens, relation, TestText, either, condition, StmtText, assign, havoc, assume, assert, skip, atomic, if_then, if_else, while_do, BlockText, block_end, block_more, ValueText, ItemText, global, local, init, ProgramText}
 use Rattle.ps_grammar.specs.Declarations.{Declared, names_of, nothing_declared, rows_of_sign, rows_of_value}
-use Rattle.ps_grammar.specs.Names.{Names, variable_of}
+use Rattle.ps_grammar.specs.Names.{Names, variable_of_name}
 use Rattle.ps_grammar.specs.Spelling.{item_pieces, rest_pieces, stmt_pieces, test_pieces}
 use Rattle.ps_grammar.specs.Numbers.{number_value, signed}
 
@@ -26,7 +26,7 @@ variable_or_first (Some x) = x
 variable_or_first None = Global 0
 
 abbrev pub variable_named : Names → List ℕ → Var
-variable_named names x = variable_or_first (variable_of names x)
+variable_named names x = variable_or_first (variable_of_name names x)
 
 abbrev pub product_tree : Names → ProductText → ℤ × Option Var
 product_tree names (number n) = (number_value n, None)
@@ -69,9 +69,9 @@ test_tree names either = test.Star
 test_tree names (condition c) = test.Cond (cond_tree names c)
 
 -- the first of the places
-abbrev pub first_place : List Place → Place
-first_place [] = record { line = 0; column = 0 }
-first_place (p ∷ ps) = p
+abbrev pub place_of_first : List Place → Place
+place_of_first [] = record { line = 0; column = 0 }
+place_of_first (p ∷ ps) = p
 
 -- Statements, from the places of their words: each stands at that of its first word.
 abbrev mutual
@@ -91,13 +91,13 @@ abbrev mutual
   pub block_trees : Names → BlockText → List Place → List Stmt
   block_trees names block_end places = []
   block_trees names (block_more s b) places =
-      record { place = first_place places; kind = stmt_tree names s places } ∷ block_trees names b (drop (length (stmt_pieces s)) places)
+      record { place = place_of_first places; kind = stmt_tree names s places } ∷ block_trees names b (drop (length (stmt_pieces s)) places)
 
 -- ---- declarations
 
-abbrev pub value_of : Option ValueText → Option ℤ
-value_of None = None
-value_of (Some v) = Some (signed v.negative (number_value v.digits, None)).0
+abbrev pub declared_value : Option ValueText → Option ℤ
+declared_value None = None
+declared_value (Some v) = Some (signed v.negative (number_value v.digits, None)).0
 
 abbrev pub rows_of_relations : List RelationText → ℕ
 rows_of_relations [] = 0
@@ -106,7 +106,7 @@ rows_of_relations (r ∷ rs) = rows_of_sign r.sign + rows_of_relations rs
 -- what is declared after an item
 abbrev pub with_item : Declared → ItemText → Declared
 with_item d (global x v) =
-    record { globals = d.globals ++ record { name = x; value = value_of v } ∷ []; locals = d.locals; inits = d.inits; rows = d.rows + rows_of_value (value_of v) }
+    record { globals = d.globals ++ record { name = x; value = declared_value v } ∷ []; locals = d.locals; inits = d.inits; rows = d.rows + rows_of_value (declared_value v) }
 with_item d (local x) = record { globals = d.globals; locals = d.locals ++ x ∷ []; inits = d.inits; rows = d.rows + 0 }
 with_item d (init r rs) =
     record { globals = d.globals; locals = d.locals; inits = d.inits ++ map (relation_tree (names_of d)) (r ∷ rs); rows = d.rows + rows_of_relations (r ∷ rs) }

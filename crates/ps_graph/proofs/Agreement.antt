@@ -8,7 +8,7 @@ use Rattle.ps_graph.proofs.Truths.{any_hold-true, any_hold-false}
 use Rattle.ps_graph.specs.Alternatives.{Bound, bound_holds, all_hold, any_hold, alternatives}
 use Rattle.ps_graph.specs.Paths.{Act, Guards, Assigns, Havocs, Chooses, Fails, is_failing, guarded_by, ways, followed, paths, paths_all}
 use Rattle.ps_graph.specs.Picks.{choice_of}
-use Rattle.ps_graph.specs.Step.{Completion, Normal, Failing, Blocked, decided, then_do, branch, within, within_all}
+use Rattle.ps_graph.specs.Step.{Completion, Normal, Failing, Blocked, decided, then_do, branch, step_within, within_all}
 use Rattle.ps_tree.specs.Cond.{truth}
 use Rattle.ps_tree.specs.Sum.{sum_value}
 use Rattle.ps_tree.specs.declared.cond.Cond.{Cond}
@@ -354,7 +354,7 @@ branch_agrees ps qs v cs (Some (false, ds)) held failed a b = second_of ps qs v 
 
 -- the paths of a statement, and of a block, come to what its run in one go does
 mutual
-  pub agrees : (k : StmtKind) (v : Values) (cs : List ℤ) → Agree (paths k) v cs (within k v cs)
+  pub agrees : (k : StmtKind) (v : Values) (cs : List ℤ) → Agree (paths k) v cs (step_within k v cs)
   agrees (Assign x s) v cs = alone (Assigns x s ∷ []) v cs _ refl
   agrees (Havoc x) v [] = record { sound = (inl refl, tt); complete = inl refl }
   agrees (Havoc x) v (c ∷ cs) = alone (Havocs x ∷ []) v (c ∷ cs) _ refl
@@ -371,4 +371,4 @@ mutual
   pub all_agree : {n : _} (block : Row_of-Stmt n) (v : Values) (cs : List ℤ) → Agree (paths_all block) v cs (within_all block v cs)
   all_agree end_of-Stmt v cs = alone [] v cs _ refl
   all_agree (more_of-Stmt _ k rest) v cs =
-      followed_agrees (paths k) (paths_all rest) v cs (within k v cs) (within_all rest) (agrees k v cs) (λ w ds. all_agree rest w ds)
+      followed_agrees (paths k) (paths_all rest) v cs (step_within k v cs) (within_all rest) (agrees k v cs) (λ w ds. all_agree rest w ds)

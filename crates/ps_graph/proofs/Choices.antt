@@ -12,7 +12,7 @@ use Rattle.ps_graph.proofs.Agreement.{gives}
 use Rattle.ps_graph.specs.Alternatives.{bound_holds}
 use Rattle.ps_graph.specs.Facts.{after_edge}
 use Rattle.ps_command.specs.Commands.{ops_of}
-use Rattle.ps_graph.specs.Follows.{Says, Realises}
+use Rattle.ps_graph.specs.Follows.{SaysOps, Realises}
 use Rattle.ps_graph.specs.Paths.{Act, Guards, Assigns, Havocs, Chooses, Fails, picks_of}
 use Rattle.ps_graph.specs.Picks.{choice_of, fit, if_all_used, run_with}
 use Rattle.ps_graph.specs.Step.{Completion, Normal, Failing, Blocked}
@@ -35,7 +35,7 @@ never None = refl
 never (Some x) = refl
 
 -- the ops and the picks of a path, taken apart, come to what the path gives
-tied : (p : List Act) (ops : List Op) → Says p ops → (v : Values) (cs : List ℤ) →
+tied : (p : List Act) (ops : List Op) → SaysOps p ops → (v : Values) (cs : List ℤ) →
     option_and_then (run_left ops v) (fit (picks_of p) cs) ≡ ended (gives p v cs)
 tied [] ops s v cs = ap (λ (os : List Op). run_left os v ([], cs)) s
 tied (Fails ∷ p) ops s v cs = ap (λ (os : List Op). run_left os v ([], cs)) s

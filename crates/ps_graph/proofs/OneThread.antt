@@ -11,7 +11,7 @@ use Rattle.ps_graph.proofs.Members.{IsIn, contains_of_in, in_of_contains, in_lef
 use Rattle.ps_graph.specs.Facts.{after_edge}
 use Rattle.ps_graph.specs.Follows.{Realises, AreRealised, going_to, leaving, StmtConnects, BlockConnects, RestBeginsAt, ThreadIsAt, along, StepsAreEdges}
 use Rattle.ps_graph.specs.Paths.{Act, is_failing, ways, paths}
-use Rattle.ps_graph.specs.Step.{Completion, Normal, Failing, Blocked, decided, within, Thread, Runs, Failed, settled, chosen, step, step_of}
+use Rattle.ps_graph.specs.Step.{Completion, Normal, Failing, Blocked, decided, step_within, Thread, Runs, Failed, completed, chosen, step, step_of}
 use Rattle.ps_graph.specs.declared.edge.Edge.{Edge}
 use Rattle.ps_tree.specs.declared.cond.Test.{Test}
 use Rattle.ps_tree.specs.declared.stmt.Stmt.{Stmt}
@@ -93,7 +93,7 @@ module _ (commands : List Command) (edges : List Edge) where
   -- the step of a statement that is run in one go
   settled_leads : (a b : ℕ) (rest : List Stmt) (ps : List (List Act)) (v : Values) (cs : List ℤ) (o : Completion) →
       AreRealised commands a (going_to b ps) (leaving a edges) → RestBeginsAt commands edges rest b → Agree ps v cs o →
-      Leads commands edges a v cs (settled rest o)
+      Leads commands edges a v cs (completed rest o)
   settled_leads a b rest ps v cs (Normal w []) d r g = elim g.complete [ inl e ↦ (let no_such : Normal w [] ≡ Blocked = e in cc) | inr f ↦ at (found_path ps v cs (Normal w []) f) ]
     where
       at : (p : List Act) × IsIn p ps × (gives p v cs ≡ Normal w []) → Leads commands edges a v cs (Some (w, Runs rest))
@@ -116,29 +116,29 @@ module _ (commands : List Command) (edges : List Edge) where
 
   settled_comes : (a b : ℕ) (rest : List Stmt) (ps : List (List Act)) (v : Values) (cs : List ℤ) (o : Completion) →
       AreRealised commands a (going_to b ps) (leaving a edges) → RestBeginsAt commands edges rest b → Agree ps v cs o →
-      (e : Edge) (w : Values) (y : ℕ) → IsIn e edges → along commands e a v cs ≡ Some (w, y) → Comes commands edges w y (settled rest o)
+      (e : Edge) (w : Values) (y : ℕ) → IsIn e edges → along commands e a v cs ≡ Some (w, y) → Comes commands edges w y (completed rest o)
   settled_comes a b rest ps v cs o d r g e w y h l = at (untaken a (going_to b ps) d e h v cs w y l)
     where
       ended : (p : List Act) (x : Completion) → gives p v cs ≡ x → used x ≡ Some w → y ≡ (if is_failing p then 1 else b) →
-          (x ≡ Blocked) ⊎ (x ≡ o) → Comes commands edges w y (settled rest o)
+          (x ≡ Blocked) ⊎ (x ≡ o) → Comes commands edges w y (completed rest o)
       ended p Blocked k u t s = cc
       ended p (Normal x []) k u t (inl n) = let no_such : Normal x [] ≡ Blocked = n in cc
       ended p (Normal x []) k u t (inr n) = (
         Runs rest,
-        ap (settled rest) (sym n) ∙ ap (λ (q : Option Values). option_map (λ (m : Values). (m, Runs rest)) q) u,
+        ap (completed rest) (sym n) ∙ ap (λ (q : Option Values). option_map (λ (m : Values). (m, Runs rest)) q) u,
         subst (λ (i : ℕ). RestBeginsAt commands edges rest i) (sym (continues p v cs x [] y b k t)) r,
       )
       ended p (Normal x (c ∷ ds)) k u t s = cc
       ended p (Failing x []) k u t (inl n) = let no_such : Failing x [] ≡ Blocked = n in cc
       ended p (Failing x []) k u t (inr n) = (
         Failed,
-        ap (settled rest) (sym n) ∙ ap (λ (q : Option Values). option_map (λ (m : Values). (m, Failed)) q) u,
+        ap (completed rest) (sym n) ∙ ap (λ (q : Option Values). option_map (λ (m : Values). (m, Failed)) q) u,
         breaks p v cs x [] y b k t,
       )
       ended p (Failing x (c ∷ ds)) k u t s = cc
 
       at : (p : List Act × ℕ) × IsIn p (going_to b ps) × (used (gives p.0 v cs) ≡ Some w) × (y ≡ (if is_failing p.0 then 1 else p.1)) →
-          Comes commands edges w y (settled rest o)
+          Comes commands edges w y (completed rest o)
       at (p, i, u, t) =
           let q : IsIn p.0 ps × (p.1 ≡ b) = of_going b p ps i in
           ended p.0 (gives p.0 v cs) refl u (t ∙ ap (λ (n : ℕ). if is_failing p.0 then 1 else n) q.1) (sound_path ps v cs o p.0 g.sound q.0)
@@ -237,12 +237,12 @@ module _ (commands : List Command) (edges : List Edge) where
   kind_leads : (s : Stmt) (k : StmtKind) → s.kind ≡ k → (rest : List Stmt) (a b : ℕ) → a ≢ 1 → StmtConnects commands edges k a b →
       RestBeginsAt commands edges rest b → (v : Values) (cs : List ℤ) → Leads commands edges a v cs (step_of s k rest v cs)
   kind_leads s (Assign x m) e rest a b ne d r v cs = settled_leads a b rest (paths (Assign x m)) v cs _ d r (agrees (Assign x m) v cs)
-  kind_leads s (Havoc x) e rest a b ne d r v cs = settled_leads a b rest (paths (Havoc x)) v cs (within (Havoc x) v cs) d r (agrees (Havoc x) v cs)
-  kind_leads s (Assume c) e rest a b ne d r v cs = settled_leads a b rest (paths (Assume c)) v cs (within (Assume c) v cs) d r (agrees (Assume c) v cs)
-  kind_leads s (Assert c) e rest a b ne d r v cs = settled_leads a b rest (paths (Assert c)) v cs (within (Assert c) v cs) d r (agrees (Assert c) v cs)
+  kind_leads s (Havoc x) e rest a b ne d r v cs = settled_leads a b rest (paths (Havoc x)) v cs (step_within (Havoc x) v cs) d r (agrees (Havoc x) v cs)
+  kind_leads s (Assume c) e rest a b ne d r v cs = settled_leads a b rest (paths (Assume c)) v cs (step_within (Assume c) v cs) d r (agrees (Assume c) v cs)
+  kind_leads s (Assert c) e rest a b ne d r v cs = settled_leads a b rest (paths (Assert c)) v cs (step_within (Assert c) v cs) d r (agrees (Assert c) v cs)
   kind_leads s Skip e rest a b ne d r v cs = settled_leads a b rest (paths Skip) v cs _ d r (agrees Skip v cs)
   kind_leads s (Atomic' n block) e rest a b ne d r v cs =
-      settled_leads a b rest (paths (Atomic' n block)) v cs (within (Atomic' n block) v cs) d r (agrees (Atomic' n block) v cs)
+      settled_leads a b rest (paths (Atomic' n block)) v cs (step_within (Atomic' n block) v cs) d r (agrees (Atomic' n block) v cs)
   kind_leads s (If' t n held m failed) e rest a b ne (i, j, d, h, f) r v cs =
       chosen_leads a i j (items-the_row-Stmt _ held ++ rest) (items-the_row-Stmt _ failed ++ rest) t v cs d (join held rest i b h r) (join failed rest j b f r)
   kind_leads s (While' t n block) e rest a b ne (i, d, h) r v cs =
@@ -256,14 +256,14 @@ module _ (commands : List Command) (edges : List Edge) where
       along commands e a v cs ≡ Some (w, y) → Comes commands edges w y (step_of s k rest v cs)
   kind_comes s (Assign x m) q rest a b ne d r v cs e w y h l = settled_comes a b rest (paths (Assign x m)) v cs _ d r (agrees (Assign x m) v cs) e w y h l
   kind_comes s (Havoc x) q rest a b ne d r v cs e w y h l =
-      settled_comes a b rest (paths (Havoc x)) v cs (within (Havoc x) v cs) d r (agrees (Havoc x) v cs) e w y h l
+      settled_comes a b rest (paths (Havoc x)) v cs (step_within (Havoc x) v cs) d r (agrees (Havoc x) v cs) e w y h l
   kind_comes s (Assume c) q rest a b ne d r v cs e w y h l =
-      settled_comes a b rest (paths (Assume c)) v cs (within (Assume c) v cs) d r (agrees (Assume c) v cs) e w y h l
+      settled_comes a b rest (paths (Assume c)) v cs (step_within (Assume c) v cs) d r (agrees (Assume c) v cs) e w y h l
   kind_comes s (Assert c) q rest a b ne d r v cs e w y h l =
-      settled_comes a b rest (paths (Assert c)) v cs (within (Assert c) v cs) d r (agrees (Assert c) v cs) e w y h l
+      settled_comes a b rest (paths (Assert c)) v cs (step_within (Assert c) v cs) d r (agrees (Assert c) v cs) e w y h l
   kind_comes s Skip q rest a b ne d r v cs e w y h l = settled_comes a b rest (paths Skip) v cs _ d r (agrees Skip v cs) e w y h l
   kind_comes s (Atomic' n block) q rest a b ne d r v cs e w y h l =
-      settled_comes a b rest (paths (Atomic' n block)) v cs (within (Atomic' n block) v cs) d r (agrees (Atomic' n block) v cs) e w y h l
+      settled_comes a b rest (paths (Atomic' n block)) v cs (step_within (Atomic' n block) v cs) d r (agrees (Atomic' n block) v cs) e w y h l
   kind_comes s (If' t n held m failed) q rest a b ne (i, j, d, h, f) r v cs e w y g l =
       chosen_comes a i j (items-the_row-Stmt _ held ++ rest) (items-the_row-Stmt _ failed ++ rest) t v cs d (join held rest i b h r) (join failed rest j b f r) e w y g l
   kind_comes s (While' t n block) q rest a b ne (i, d, h) r v cs e w y g l =

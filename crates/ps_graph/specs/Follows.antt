@@ -18,20 +18,20 @@ use Rattle.ps_term.specs.declared.var.Var.{Var}
 
 -- The ops are those of the path: each does what its act does, at all values, and a choice of a `*` has no op. This fixes
 -- a term where it is canonical, since two canonical terms that are worth the same at all values are one.
-abbrev pub Says : List Act → List Op → Type 0
-Says [] ops = ops ≡ []
-Says (Chooses _ ∷ p) ops = Says p ops
-Says (Fails ∷ p) ops = ops ≡ []
-Says (Guards b ∷ p) (Assume r ∷ ops) = ((values : Var → ℤ) → value values r.term ≡ bound_value values b) × Says p ops
-Says (Assigns x s ∷ p) (Assign y t ∷ ops) = (y ≡ x) × ((values : Var → ℤ) → value values t ≡ sum_value values s) × Says p ops
-Says (Havocs x ∷ p) (Havoc y ∷ ops) = (y ≡ x) × Says p ops
-Says _ _ = ⊥
+abbrev pub SaysOps : List Act → List Op → Type 0
+SaysOps [] ops = ops ≡ []
+SaysOps (Chooses _ ∷ p) ops = SaysOps p ops
+SaysOps (Fails ∷ p) ops = ops ≡ []
+SaysOps (Guards b ∷ p) (Assume r ∷ ops) = ((values : Var → ℤ) → value values r.term ≡ bound_value values b) × SaysOps p ops
+SaysOps (Assigns x s ∷ p) (Assign y t ∷ ops) = (y ≡ x) × ((values : Var → ℤ) → value values t ≡ sum_value values s) × SaysOps p ops
+SaysOps (Havocs x ∷ p) (Havoc y ∷ ops) = (y ≡ x) × SaysOps p ops
+SaysOps _ _ = ⊥
 
 -- an edge realises a path that goes on to a location: it leads there, or to the error where the path fails
 pub record Realises (commands : List Command) (a : ℕ) (p : List Act) (goal : ℕ) (e : Edge) : Type 0 where
   pub source : e.source ≡ a
   pub target : e.target ≡ (if is_failing p then 1 else goal)
-  pub ops : Says p (ops_of commands e.command)
+  pub ops : SaysOps p (ops_of commands e.command)
   pub picks : e.picks ≡ picks_of p
 
 -- the edges realise the paths from a location, one by one

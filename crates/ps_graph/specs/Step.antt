@@ -36,20 +36,20 @@ branch (Some (false, cs)) held failed = failed cs
 
 -- A statement, and a block, run in one go from values with choices. A loop has no such run.
 abbrev mutual
-  pub within : StmtKind → Values → List ℤ → Completion
-  within (Assign x s) v cs = Normal (with_value v x (sum_value (value_at v) s)) cs
-  within (Havoc x) v [] = Blocked
-  within (Havoc x) v (c ∷ cs) = Normal (with_value v x c) cs
-  within (Assume c) v cs = if truth (value_at v) c then Normal v cs else Blocked
-  within (Assert c) v cs = if truth (value_at v) c then Normal v cs else Failing v cs
-  within Skip v cs = Normal v cs
-  within (Atomic' _ block) v cs = within_all block v cs
-  within (If' t _ held _ failed) v cs = branch (decided t v cs) (within_all held v) (within_all failed v)
-  within (While' _ _ _) v cs = Blocked
+  pub step_within : StmtKind → Values → List ℤ → Completion
+  step_within (Assign x s) v cs = Normal (with_value v x (sum_value (value_at v) s)) cs
+  step_within (Havoc x) v [] = Blocked
+  step_within (Havoc x) v (c ∷ cs) = Normal (with_value v x c) cs
+  step_within (Assume c) v cs = if truth (value_at v) c then Normal v cs else Blocked
+  step_within (Assert c) v cs = if truth (value_at v) c then Normal v cs else Failing v cs
+  step_within Skip v cs = Normal v cs
+  step_within (Atomic' _ block) v cs = within_all block v cs
+  step_within (If' t _ held _ failed) v cs = branch (decided t v cs) (within_all held v) (within_all failed v)
+  step_within (While' _ _ _) v cs = Blocked
 
   pub within_all : {n : _} → Row_of-Stmt n → Values → List ℤ → Completion
   within_all end_of-Stmt v cs = Normal v cs
-  within_all (more_of-Stmt _ k rest) v cs = then_do (within k v cs) (within_all rest)
+  within_all (more_of-Stmt _ k rest) v cs = then_do (step_within k v cs) (within_all rest)
 
 -- a thread: the statements that it still has to run, or Failed
 pub data Thread : Type 0 where
@@ -57,10 +57,10 @@ pub data Thread : Type 0 where
   Failed : Thread
 
 -- what a run in one go makes of the thread, where no choice is left; the rest is what comes after it
-abbrev pub settled : List Stmt → Completion → Option (Values × Thread)
-settled rest (Normal v []) = Some (v, Runs rest)
-settled rest (Failing v []) = Some (v, Failed)
-settled rest _ = None
+abbrev pub completed : List Stmt → Completion → Option (Values × Thread)
+completed rest (Normal v []) = Some (v, Runs rest)
+completed rest (Failing v []) = Some (v, Failed)
+completed rest _ = None
 
 -- the one list of statements where the test holds, the other where it doesn't, where no choice is left
 abbrev pub chosen : Option (Bool × List ℤ) → List Stmt → List Stmt → Values → Option (Values × Thread)
@@ -74,7 +74,7 @@ abbrev pub step_of : Stmt → StmtKind → List Stmt → Values → List ℤ →
 step_of s (If' t _ held _ failed) rest v cs =
     chosen (decided t v cs) (items-the_row-Stmt _ held ++ rest) (items-the_row-Stmt _ failed ++ rest) v
 step_of s (While' t _ block) rest v cs = chosen (decided t v cs) (items-the_row-Stmt _ block ++ s ∷ rest) rest v
-step_of s k rest v cs = settled rest (within k v cs)
+step_of s k rest v cs = completed rest (step_within k v cs)
 
 -- One step of a thread from values, with a list of choices that it uses up exactly: its first statement is run. A
 -- thread that is Failed or has nothing left to run has no step.

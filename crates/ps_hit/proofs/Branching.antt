@@ -6,7 +6,7 @@ use Rattle.ps_hit.specs.declared.cover.Cover.TheVariants.{Unmet}
 use Rattle.ps_hit.specs.declared.node.Node.{Node}
 use Rattle.ps_hit.specs.Hitting.{Meets, IsMinimalHit}
 use Rattle.ps_hit.specs.inner.Covers.{unmet}
-use Rattle.ps_hit.specs.inner.Searching.{IsNode, IsBelow, AddsChild, Branches, work, works}
+use Rattle.ps_hit.specs.inner.Searching.{IsNode, IsUnderNode, AddsChild, Branches, work, works}
 use Rattle.ps_list.proofs.Members.{nothing}
 use Rattle.ps_list.proofs.Numbers.{is_in}
 use Rattle.ps_hit.proofs.CoverSteps.{unmet_falls}
@@ -16,7 +16,7 @@ use Rattle.ps_hit.proofs.Nodes.{child_node, below_child, no_child, not_chosen, z
 pub record Branching (sets : List (List ℕ)) (node : Node) (set : List ℕ) (i : ℕ) (before : List Node) (barred : List ℕ) (after : List Node) : Type 0 where
   pub nodes : All (IsNode sets) before → All (IsNode sets) after
   pub stays : (other : Node) → Contains before other → Contains after other
-  pub reached : (hit : List ℕ) → IsMinimalHit sets hit → IsBelow node hit → ((child : Node) × Contains after child × IsBelow child hit) ⊎ (¬ Meets barred hit)
+  pub reached : (hit : List ℕ) → IsMinimalHit sets hit → IsUnderNode node hit → ((child : Node) × Contains after child × IsUnderNode child hit) ⊎ (¬ Meets barred hit)
   pub passed : (n : ℕ) → Contains (take i set) n → Contains barred n
   pub work_falls : (most : ℕ) → 1 ≤ most → works most after ≤ works most before + i * work most (unmet node.covers.items - 1)
 

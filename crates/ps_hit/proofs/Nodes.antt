@@ -12,7 +12,7 @@ use Rattle.ps_hit.specs.declared.cover.Cover.TheVariants.{Unmet}
 use Rattle.ps_hit.specs.declared.node.Node.{Node}
 use Rattle.ps_hit.specs.Hitting.{numbers_of, Meets, IsSubset, IsMinimalHit}
 use Rattle.ps_hit.specs.inner.Covers.{IsCover, HasOwn, covers_with, unmet}
-use Rattle.ps_hit.specs.inner.Searching.{IsNode, IsBelow, IsChild, HasNoChild, AddsChild, work, works}
+use Rattle.ps_hit.specs.inner.Searching.{IsNode, IsUnderNode, IsChild, HasNoChild, AddsChild, work, works}
 use Rattle.ps_list.proofs.Members.{here, there}
 use Rattle.ps_hit.proofs.CoverSteps.{covers_step, root_covers}
 use Rattle.ps_hit.proofs.Critical.{has_own_below}
@@ -79,15 +79,15 @@ chosen_more chosen hit number below has n h = elim (Contains-push_cases chosen n
   | inr is ↦ subst (λ (m : ℕ). Contains hit m) is has
 ]
 
-pub below_child : (sets : List (List ℕ)) (node : Node) (number : ℕ) (passed : List ℕ) (child : Node) (hit : List ℕ) → IsBelow node hit → (¬ Meets passed hit) → Contains hit number
-    → IsChild sets node number passed child → IsBelow child hit
+pub below_child : (sets : List (List ℕ)) (node : Node) (number : ℕ) (passed : List ℕ) (child : Node) (hit : List ℕ) → IsUnderNode node hit → (¬ Meets passed hit) → Contains hit number
+    → IsChild sets node number passed child → IsUnderNode child hit
 below_child sets node number passed child hit below misses has made = record {
   chosen = rw made.chosen (chosen_more node.chosen.items hit number below.chosen has);
   barred = rw made.barred misses;
 }
 
 pub no_child : (sets : List (List ℕ)) (node : Node) (number : ℕ) (hit : List ℕ) → IsNode sets node → (¬ Contains node.chosen.items number) → HasNoChild sets node number
-    → IsMinimalHit sets hit → IsBelow node hit → Contains hit number → ⊥
+    → IsMinimalHit sets hit → IsUnderNode node hit → Contains hit number → ⊥
 no_child sets node number hit is new none minimal below has =
     let more = chosen_more node.chosen.items hit number below.chosen has in
     let covers = covers_step node.chosen.items number new sets node.covers.items is.covers in

@@ -7,10 +7,10 @@ use Rattle.std.proofs.lemmas.List.Elements.{All-nil, All-cons, All-contains, Con
 use Rattle.ps_hit.specs.declared.cover.Cover.{Cover}
 use Rattle.ps_hit.specs.declared.cover.Cover.TheVariants.{Unmet, Once, Again}
 use Rattle.ps_hit.specs.declared.node.Node.{Node}
-use Rattle.ps_hit.specs.Hitting.{Meets, IsSubset, IsListed}
+use Rattle.ps_hit.specs.Hitting.{Meets, IsSubset, IsListedHit}
 use Rattle.ps_hit.specs.Answer.{IsLexicographic}
 use Rattle.ps_hit.specs.inner.Covers.{unmet}
-use Rattle.ps_hit.specs.inner.Searching.{IsNode, IsBelow, Branches, work, works}
+use Rattle.ps_hit.specs.inner.Searching.{IsNode, IsUnderNode, Branches, work, works}
 use Rattle.ps_list.proofs.Members.{nothing, here}
 use Rattle.ps_hit.proofs.Critical.{leaf_minimal, leaf_all}
 use Rattle.ps_hit.proofs.Ascending.{put, put_keeps, put_new, put_cases}
@@ -20,15 +20,15 @@ use Rattle.ps_hit.proofs.Nodes.{works-append, work_some}
 -- what was found is minimal, and each minimal hitting set was found or is below a node that waits
 pub record Searching (sets found : List (List ℕ)) (waiting : List Node) : Type 0 where
   pub nodes : All (IsNode sets) waiting
-  pub minimal : All (IsListed sets) found
-  pub every : (hit : List ℕ) → IsListed sets hit → Contains found hit ⊎ ((node : Node) × Contains waiting node × IsBelow node hit)
+  pub minimal : All (IsListedHit sets) found
+  pub every : (hit : List ℕ) → IsListedHit sets hit → Contains found hit ⊎ ((node : Node) × Contains waiting node × IsUnderNode node hit)
   pub ordered : IsLexicographic found
 
 pub searching_first : (sets : List (List ℕ)) (node : Node) (found : List (List ℕ)) (waiting : List Node) → found ≡ [] → IsLexicographic found → waiting ≡ [] ++ node ∷ [] → IsNode sets node
     → node.chosen.items ≡ [] → node.barred.items ≡ [] → Searching sets found waiting
 searching_first sets node found waiting none up one is chosen barred = record {
   nodes = rw one (All-cons (IsNode sets) node [] is (All-nil (IsNode sets)));
-  minimal = rw none (All-nil (IsListed sets));
+  minimal = rw none (All-nil (IsListedHit sets));
   every = λ hit listed. inr (
     node,
     rw one (here node []),
@@ -54,7 +54,7 @@ searching_branch sets found waiting rest after node place s popped within b = re
     | inl known ↦ inl known
     | inr some ↦ elim (Contains-push_cases rest node some.0 (subst (λ (nodes : List Node). Contains nodes some.0) popped some.1)) [
       | inl later ↦ inr (some.0, b.stays some.0 later, some.2)
-      | inr is ↦ inr (b.reached hit listed.is_minimal (subst (λ (n : Node). IsBelow n hit) (sym is) some.2)
+      | inr is ↦ inr (b.reached hit listed.is_minimal (subst (λ (n : Node). IsUnderNode n hit) (sym is) some.2)
           (All-contains (Meets hit) sets (get_or sets place []) listed.is_minimal.hits (Contains-get_or sets place [] within)))
     ]
   ];
@@ -67,19 +67,19 @@ pub searching_leaf : (sets found found' : List (List ℕ)) (waiting rest : List 
     → found' ≡ put found list → IsLexicographic found' → Searching sets found' rest
 searching_leaf sets found found' waiting rest node list s popped met up same added ordered =
     let is : IsNode sets node = last_node sets found waiting rest node popped s in
-    let minimal : IsListed sets list = record { is_minimal = leaf_minimal sets node.chosen.items list node.covers.items is.covers is.own met (λ n h. (same n).1 h) (λ n h. (same n).0 h); ascends = up } in
+    let minimal : IsListedHit sets list = record { is_minimal = leaf_minimal sets node.chosen.items list node.covers.items is.covers is.own met (λ n h. (same n).1 h) (λ n h. (same n).0 h); ascends = up } in
     record {
       nodes = rest_nodes sets waiting rest node popped s.nodes;
       minimal = rw added (λ k d inside. elim (put_cases found list _ (Contains-get_or (put found list) k d inside)) [
-        | inl old ↦ All-contains (IsListed sets) found _ s.minimal old
-        | inr is_new ↦ subst (λ (l : List ℕ). IsListed sets l) is_new minimal
+        | inl old ↦ All-contains (IsListedHit sets) found _ s.minimal old
+        | inr is_new ↦ subst (λ (l : List ℕ). IsListedHit sets l) is_new minimal
       ]);
       every = λ hit listed. elim (s.every hit listed) [
         | inl known ↦ inl (rw added (put_keeps found list hit known))
         | inr some ↦ elim (Contains-push_cases rest node some.0 (subst (λ (nodes : List Node). Contains nodes some.0) popped some.1)) [
           | inl later ↦ inr (some.0, later, some.2)
           | inr is_this ↦
-              let below : IsBelow node hit = subst (λ (n : Node). IsBelow n hit) (sym is_this) some.2 in
+              let below : IsUnderNode node hit = subst (λ (n : Node). IsUnderNode n hit) (sym is_this) some.2 in
               let all : IsSubset hit node.chosen.items = leaf_all sets node.chosen.items hit node.covers.items is.covers met listed.is_minimal below.chosen in
               let equal : list ≡ hit = same_ascending list hit up listed.ascends (λ n h. below.chosen n ((same n).0 h)) (λ n h. (same n).1 (all n h)) in
               inl (rw added (subst (λ (l : List ℕ). Contains (put found list) l) equal (put_new found list)))
@@ -89,7 +89,7 @@ searching_leaf sets found found' waiting rest node list s popped met up same add
     }
 
 -- where nothing waits, each was found
-pub searched_every : (sets found : List (List ℕ)) → Searching sets found [] → (hit : List ℕ) → IsListed sets hit → Contains found hit
+pub searched_every : (sets found : List (List ℕ)) → Searching sets found [] → (hit : List ℕ) → IsListedHit sets hit → Contains found hit
 searched_every sets found s hit listed = elim (s.every hit listed) [
   | inl known ↦ known
   | inr some ↦ absurd (nothing some.0 some.1)

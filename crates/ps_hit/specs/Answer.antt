@@ -5,7 +5,7 @@ use Rattle.std.specs.Cmp.Lexicographic.{slice_cmp}
 use Rattle.std.specs.List.Sorted.{IsStrictlySortedBy}
 use Rattle.ps_hit.specs.declared.hits.Hits.{Hits}
 use Rattle.ps_hit.specs.declared.hits.Hits.TheVariants.{All, TooMany}
-use Rattle.ps_hit.specs.Hitting.{IsListed}
+use Rattle.ps_hit.specs.Hitting.{IsListedHit}
 
 -- the answer is a list, of which this holds
 abbrev pub IfAll : Hits → (List (List ℕ) → Type 0) → Type 0
@@ -24,6 +24,6 @@ IsLexicographic hits = IsStrictlySortedBy (slice_cmp nat_cmp) hits
 -- there are more than `most` minimal hitting sets, of which this lists as many, each once
 pub record HasMore (sets : List (List ℕ)) (most : ℕ) : Type 0 where
   pub hits : List (List ℕ)
-  pub are_minimal : Each (IsListed sets) hits
+  pub are_minimal : Each (IsListedHit sets) hits
   pub ordered : IsLexicographic hits
   pub more : most < length hits

@@ -29,6 +29,6 @@ pub record IsMinimalHit (sets : List (List ℕ)) (hit : List ℕ) : Type 0 where
   pub minimal : (part : List ℕ) → IsStrictSubset part hit → ¬ IsHit sets part
 
 -- a minimal hitting set, written as the one ascending list of its numbers
-pub record IsListed (sets : List (List ℕ)) (hit : List ℕ) : Type 0 where
+pub record IsListedHit (sets : List (List ℕ)) (hit : List ℕ) : Type 0 where
   pub is_minimal : IsMinimalHit sets hit
   pub ascends : IsStrictlyIncreasing hit

@@ -3,7 +3,7 @@ ghost use Rattle.std.specs.Prelude.{◌≡◌, ◌<◌, ◌≤◌, ◌↔◌, �
 ghost use Rattle.std.specs.List.{HoldsAt, IsDistinct};
 ghost use Rattle.std.specs.List.Sorted.{IsStrictlyIncreasing};
 ghost use Rattle.ps_hit.specs.Answer.{IfAll, OnTooMany, IsLexicographic, HasMore};
-ghost use Rattle.ps_hit.specs.Hitting.{numbers_of, IsListed};
+ghost use Rattle.ps_hit.specs.Hitting.{numbers_of, IsListedHit};
 ghost use Rattle.ps_hit.specs.inner.Searching.{IsNode, Branches};
 
 use crate::cover::{Cover, bar, narrowest_unmet};
@@ -24,9 +24,9 @@ use std::collections::BTreeSet;
 /// of two small values a set. The search ends once more than `most` sets were found; how many nodes it
 /// tries until then isn't bounded by the number of hitting sets.
 pub fn minimal_hits(alloc: Global, sets: &[Vec<u32>], most: u32) -> Result<Hits, AllocError>
-    ensures minimal { IfOk result (λ hits. IfAll hits (All (IsListed (numbers_of sets.now)))) }
+    ensures minimal { IfOk result (λ hits. IfAll hits (All (IsListedHit (numbers_of sets.now)))) }
     ensures every { IfOk result (λ hits. IfAll hits (λ all.
-        (hit : List ℕ) → IsListed (numbers_of sets.now) hit → Contains all hit)) }
+        (hit : List ℕ) → IsListedHit (numbers_of sets.now) hit → Contains all hit)) }
     ensures ordered { IfOk result (λ hits. IfAll hits IsLexicographic) }
     ensures few { IfOk result (λ hits. IfAll hits (λ all. length all ≤ most)) }
     ensures too_many { IfOk result (λ hits. OnTooMany hits (HasMore (numbers_of sets.now) most)) }

@@ -1,6 +1,6 @@
 -- What a sink over memory holds, and which of its calls fail.
 use Rattle.std.specs.Prelude.{ℕ, ◌+◌, ◌<◌, ◌⊎◌, min, List, length}
-use Rattle.ps_io.specs.SourceState.{IsListed}
+use Rattle.ps_io.specs.SourceState.{IsListedCall}
 
 -- the bytes that were written, how many there may be, how many a call takes at most, the calls that fail
 -- (counted from 1), how many calls there were, and how many of them failed
@@ -14,4 +14,4 @@ pub record SinkState : Type 0 where
 
 -- the next put of this many bytes is a listed call, or what it would take doesn't fit the room
 abbrev pub PutFails : SinkState → ℕ → Type 0
-PutFails sink len = IsListed sink.failing sink.calls ⊎ (sink.room < length sink.written + min sink.piece len)
+PutFails sink len = IsListedCall sink.failing sink.calls ⊎ (sink.room < length sink.written + min sink.piece len)

@@ -12,5 +12,5 @@ pub record SourceState : Type 0 where
   pub failed : Bool
 
 -- the call after this many is one of the listed ones; at the last value of the counter, where it stays, no call is
-abbrev pub IsListed : List ℕ → ℕ → Type 0
-IsListed failing calls = (calls < 2 ^ 64 - 1) × Contains failing (calls + 1)
+abbrev pub IsListedCall : List ℕ → ℕ → Type 0
+IsListedCall failing calls = (calls < 2 ^ 64 - 1) × Contains failing (calls + 1)

@@ -3,7 +3,7 @@ ghost use Rattle.std.specs.Prelude.{◌≡◌, ℕ, ◌+◌, ◌-◌, ◌^◌, �
 ghost use Rattle.std.specs.Io.{ReadsAtMost};
 ghost use Rattle.std.specs.Io.KnownBytes.{ReadConsumes};
 ghost use Rattle.ps_io.specs.Causes.{HasCause};
-ghost use Rattle.ps_io.specs.SourceState.{IsListed};
+ghost use Rattle.ps_io.specs.SourceState.{IsListedCall};
 
 use crate::calls::is_listed;
 use crate::{Fault, Source};
@@ -81,7 +81,7 @@ impl Source for MemorySource {
         ensures cause { HasCause self.old.faults self.new.faults result }
         ensures last { IsTrue self.new.failed ↔ IsErr result }
 
-        ensures fails { IsErr result ↔ IsListed self.old.failing self.old.calls }
+        ensures fails { IsErr result ↔ IsListedCall self.old.failing self.old.calls }
         ensures gives { IfOk result
             (λ n. n ≡ min (min (length self.old.left) self.old.piece) (length into.old)) }
         ensures counts { self.new.calls ≡ min (self.old.calls + 1) (2 ^ 64 - 1) }

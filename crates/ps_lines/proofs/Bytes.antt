@@ -2,7 +2,7 @@
 use Rattle.std.proofs.Common.{◌≡◌, ℕ, Bool, true, false, not, ◌&&◌, List, [], ◌∷◌, ◌++◌, map, refl, sym, ap, subst, ◌∙◌, append_assoc, eqb}
 use Rattle.std.specs.List.{flat_map, AllByRecursion}
 use Rattle.std.proofs.lemmas.Bool.{eqb-true, and_parts, not-true}
-use Rattle.ps_lines.specs.Tokens.{Token, Field, Newline, onto, token_onto, tokens, after_blank, line_bytes, text_bytes, line_tokens, text_tokens}
+use Rattle.ps_lines.specs.Tokens.{Piece, Field, Newline, onto, piece_onto, pieces, after_blank, line_bytes, text_bytes, line_pieces, text_pieces}
 use Rattle.ps_lines.proofs.Ahead.{blank, feed, inside, byte_is, onto_begins, token_onto-blank, token_onto-feed, token_onto-inside}
 
 -- neither a blank nor a line feed
@@ -14,137 +14,137 @@ pub record IsInside (b : ℕ) : Type 0 where
 abbrev pub IsPlain : List ℕ → Type 0
 IsPlain field = AllByRecursion IsInside field
 
-abbrev pub IsClean : List Token → Type 0
+abbrev pub IsClean : List Piece → Type 0
 IsClean [] = Unit {0}
 IsClean (Field f ∷ ts) = IsPlain f × IsClean ts
 IsClean (Newline ∷ ts) = IsClean ts
 
 abbrev pub AreClean : List (List ℕ × List (List ℕ)) → Type 0
-AreClean ls = IsClean (text_tokens ls)
+AreClean ls = IsClean (text_pieces ls)
 
 -- ---- from lines to tokens
 
-tokens-blank : (f bs : List ℕ) → IsPlain f → tokens (f ++ 32 ∷ bs) ≡ Field f ∷ tokens bs
+tokens-blank : (f bs : List ℕ) → IsPlain f → pieces (f ++ 32 ∷ bs) ≡ Field f ∷ pieces bs
 tokens-blank [] bs p = refl
-tokens-blank (b ∷ f) bs p = token_onto-inside b (tokens (f ++ 32 ∷ bs)) p.0.no_blank p.0.no_feed ∙ ap (onto b) (tokens-blank f bs p.1)
+tokens-blank (b ∷ f) bs p = token_onto-inside b (pieces (f ++ 32 ∷ bs)) p.0.no_blank p.0.no_feed ∙ ap (onto b) (tokens-blank f bs p.1)
 
-tokens-feed : (f bs : List ℕ) → IsPlain f → tokens (f ++ 10 ∷ bs) ≡ Field f ∷ (Newline ∷ tokens bs)
+tokens-feed : (f bs : List ℕ) → IsPlain f → pieces (f ++ 10 ∷ bs) ≡ Field f ∷ (Newline ∷ pieces bs)
 tokens-feed [] bs p = refl
-tokens-feed (b ∷ f) bs p = token_onto-inside b (tokens (f ++ 10 ∷ bs)) p.0.no_blank p.0.no_feed ∙ ap (onto b) (tokens-feed f bs p.1)
+tokens-feed (b ∷ f) bs p = token_onto-inside b (pieces (f ++ 10 ∷ bs)) p.0.no_blank p.0.no_feed ∙ ap (onto b) (tokens-feed f bs p.1)
 
-tokens-line : (w : List ℕ) (fs : List (List ℕ)) (bs : List ℕ) (ts : List Token) → IsClean (Field w ∷ (map Field fs ++ ts)) → tokens (w ++ (flat_map after_blank fs ++ 10 ∷ bs)) ≡ Field w ∷ (map Field fs ++ Newline ∷ tokens bs)
+tokens-line : (w : List ℕ) (fs : List (List ℕ)) (bs : List ℕ) (ts : List Piece) → IsClean (Field w ∷ (map Field fs ++ ts)) → pieces (w ++ (flat_map after_blank fs ++ 10 ∷ bs)) ≡ Field w ∷ (map Field fs ++ Newline ∷ pieces bs)
 tokens-line w [] bs ts p = tokens-feed w bs p.0
 tokens-line w (f ∷ fs) bs ts p =
     let regrouped : flat_map after_blank (f ∷ fs) ++ 10 ∷ bs ≡ 32 ∷ (f ++ (flat_map after_blank fs ++ 10 ∷ bs)) = append_assoc (after_blank f) (flat_map after_blank fs) (10 ∷ bs) in
-    ap (λ (r : List ℕ). tokens (w ++ r)) regrouped ∙ tokens-blank w (f ++ (flat_map after_blank fs ++ 10 ∷ bs)) p.0 ∙ ap (λ (r : List Token). Field w ∷ r) (tokens-line f fs bs ts p.1)
+    ap (λ (r : List ℕ). pieces (w ++ r)) regrouped ∙ tokens-blank w (f ++ (flat_map after_blank fs ++ 10 ∷ bs)) p.0 ∙ ap (λ (r : List Piece). Field w ∷ r) (tokens-line f fs bs ts p.1)
 
-clean-rest : (xs ts : List Token) → IsClean (xs ++ ts) → IsClean ts
+clean-rest : (xs ts : List Piece) → IsClean (xs ++ ts) → IsClean ts
 clean-rest [] ts p = p
 clean-rest (Field f ∷ xs) ts p = clean-rest xs ts p.1
 clean-rest (Newline ∷ xs) ts p = clean-rest xs ts p
 
-pub IsClean-append : (xs ys : List Token) → IsClean xs → IsClean ys → IsClean (xs ++ ys)
+pub IsClean-append : (xs ys : List Piece) → IsClean xs → IsClean ys → IsClean (xs ++ ys)
 IsClean-append [] ys p q = q
 IsClean-append (Field f ∷ xs) ys p q = (p.0, IsClean-append xs ys p.1 q)
 IsClean-append (Newline ∷ xs) ys p q = IsClean-append xs ys p q
 
-line_split : (w : List ℕ) (fs : List (List ℕ)) (ts : List Token) → line_tokens (w, fs) ++ ts ≡ Field w ∷ (map Field fs ++ Newline ∷ ts)
-line_split w fs ts = ap (λ (r : List Token). Field w ∷ r) (append_assoc (map Field fs) (Newline ∷ []) ts)
+line_split : (w : List ℕ) (fs : List (List ℕ)) (ts : List Piece) → line_pieces (w, fs) ++ ts ≡ Field w ∷ (map Field fs ++ Newline ∷ ts)
+line_split w fs ts = ap (λ (r : List Piece). Field w ∷ r) (append_assoc (map Field fs) (Newline ∷ []) ts)
 
 line_bytes_split : (w : List ℕ) (fs : List (List ℕ)) (bs : List ℕ) → line_bytes (w, fs) ++ bs ≡ w ++ (flat_map after_blank fs ++ 10 ∷ bs)
 line_bytes_split w fs bs = append_assoc w (flat_map after_blank fs ++ 10 ∷ []) bs ∙ ap (λ (r : List ℕ). w ++ r) (append_assoc (flat_map after_blank fs) (10 ∷ []) bs)
 
 -- the tokens of a text of clean lines
-pub text_read : (ls : List (List ℕ × List (List ℕ))) → AreClean ls → tokens (text_bytes ls) ≡ text_tokens ls
+pub text_read : (ls : List (List ℕ × List (List ℕ))) → AreClean ls → pieces (text_bytes ls) ≡ text_pieces ls
 text_read [] p = refl
 text_read ((w, fs) ∷ ls) p =
-    let q : IsClean (Field w ∷ (map Field fs ++ Newline ∷ text_tokens ls)) = subst IsClean (line_split w fs (text_tokens ls)) p in
-    let rest : IsClean (text_tokens ls) = clean-rest (map Field fs) (Newline ∷ text_tokens ls) q.1 in
-    ap tokens (line_bytes_split w fs (text_bytes ls))
-    ∙ tokens-line w fs (text_bytes ls) (Newline ∷ text_tokens ls) q
-    ∙ ap (λ (r : List Token). Field w ∷ (map Field fs ++ Newline ∷ r)) (text_read ls rest)
-    ∙ sym (line_split w fs (text_tokens ls))
+    let q : IsClean (Field w ∷ (map Field fs ++ Newline ∷ text_pieces ls)) = subst IsClean (line_split w fs (text_pieces ls)) p in
+    let rest : IsClean (text_pieces ls) = clean-rest (map Field fs) (Newline ∷ text_pieces ls) q.1 in
+    ap pieces (line_bytes_split w fs (text_bytes ls))
+    ∙ tokens-line w fs (text_bytes ls) (Newline ∷ text_pieces ls) q
+    ∙ ap (λ (r : List Piece). Field w ∷ (map Field fs ++ Newline ∷ r)) (text_read ls rest)
+    ∙ sym (line_split w fs (text_pieces ls))
 
 -- ---- from tokens to bytes, where the last line is ended
 
 -- the tokens end with the end of a line, or there are none
-abbrev is_closed : List Token → Bool
+abbrev is_closed : List Piece → Bool
 is_closed [] = true
 is_closed (Newline ∷ ts) = is_closed ts
 is_closed (Field f ∷ []) = false
 is_closed (Field f ∷ (Field g ∷ ts)) = is_closed (Field g ∷ ts)
 is_closed (Field f ∷ (Newline ∷ ts)) = is_closed (Newline ∷ ts)
 
-abbrev separated : List Token → List ℕ → List ℕ
+abbrev separated : List Piece → List ℕ → List ℕ
 separated (Field f ∷ ts) bs = 32 ∷ bs
 separated ts bs = bs
 
-abbrev untokens : List Token → List ℕ
+abbrev untokens : List Piece → List ℕ
 untokens [] = []
 untokens (Newline ∷ ts) = 10 ∷ untokens ts
 untokens (Field f ∷ ts) = f ++ separated ts (untokens ts)
 
-abbrev IsFieldFirst : List Token → Type 0
+abbrev IsFieldFirst : List Piece → Type 0
 IsFieldFirst (Newline ∷ ts) = ⊥
 IsFieldFirst ts = Unit {0}
 
-pub record Undone (b : ℕ) (ts new : List Token) : Type 0 where
+pub record Undone (b : ℕ) (ts new : List Piece) : Type 0 where
   pub closed : is_closed ts ≡ true
   pub same : untokens new ≡ b ∷ untokens ts
 
-undo-blank : (ts : List Token) → IsFieldFirst ts → is_closed (Field [] ∷ ts) ≡ true → Undone 32 ts (Field [] ∷ ts)
+undo-blank : (ts : List Piece) → IsFieldFirst ts → is_closed (Field [] ∷ ts) ≡ true → Undone 32 ts (Field [] ∷ ts)
 undo-blank [] first closed = absurd cc
 undo-blank (Newline ∷ ts) first closed = absurd first
 undo-blank (Field f ∷ ts) first closed = record { closed = closed; same = refl }
 
-undo-inside : (b : ℕ) (ts : List Token) → IsFieldFirst ts → is_closed (onto b ts) ≡ true → Undone b ts (onto b ts)
+undo-inside : (b : ℕ) (ts : List Piece) → IsFieldFirst ts → is_closed (onto b ts) ≡ true → Undone b ts (onto b ts)
 undo-inside b [] first closed = absurd cc
 undo-inside b (Newline ∷ ts) first closed = absurd first
 undo-inside b (Field f ∷ []) first closed = absurd cc
 undo-inside b (Field f ∷ (Field g ∷ ts)) first closed = record { closed = closed; same = refl }
 undo-inside b (Field f ∷ (Newline ∷ ts)) first closed = record { closed = closed; same = refl }
 
-undo : (b : ℕ) (ts : List Token) → IsFieldFirst ts → is_closed (token_onto b ts) ≡ true → Undone b ts (token_onto b ts)
+undo : (b : ℕ) (ts : List Piece) → IsFieldFirst ts → is_closed (piece_onto b ts) ≡ true → Undone b ts (piece_onto b ts)
 undo b ts first closed =
     elim (byte_is b) [
       | blank p ↦ (let e = token_onto-blank b ts p in
-          rw (e, eqb-true _ _ p) (undo-blank ts first (subst (λ (r : List Token). is_closed r ≡ true) e closed)))
+          rw (e, eqb-true _ _ p) (undo-blank ts first (subst (λ (r : List Piece). is_closed r ≡ true) e closed)))
       | feed p q ↦ (let e = token_onto-feed b ts p q in
-          rw (e, eqb-true _ _ q) (record { closed = subst (λ (r : List Token). is_closed r ≡ true) e closed; same = refl }))
+          rw (e, eqb-true _ _ q) (record { closed = subst (λ (r : List Piece). is_closed r ≡ true) e closed; same = refl }))
       | inside p q ↦ (let e = token_onto-inside b ts p q in
-          rw e (undo-inside b ts first (subst (λ (r : List Token). is_closed r ≡ true) e closed)))
+          rw e (undo-inside b ts first (subst (λ (r : List Piece). is_closed r ≡ true) e closed)))
     ]
 
-first_is_field : (bs : List ℕ) → IsFieldFirst (tokens bs)
+first_is_field : (bs : List ℕ) → IsFieldFirst (pieces bs)
 first_is_field [] = tt
-first_is_field (b ∷ bs) = let p = onto_begins b (tokens bs) in rw p.2 tt
+first_is_field (b ∷ bs) = let p = onto_begins b (pieces bs) in rw p.2 tt
 
-untokens-tokens : (bs : List ℕ) → is_closed (tokens bs) ≡ true → untokens (tokens bs) ≡ bs
+untokens-tokens : (bs : List ℕ) → is_closed (pieces bs) ≡ true → untokens (pieces bs) ≡ bs
 untokens-tokens [] closed = refl
 untokens-tokens (b ∷ bs) closed =
-    let one = undo b (tokens bs) (first_is_field bs) closed in
+    let one = undo b (pieces bs) (first_is_field bs) closed in
     one.same ∙ ap (λ (r : List ℕ). b ∷ r) (untokens-tokens bs one.closed)
 
-closed-line : (w : List ℕ) (fs : List (List ℕ)) (ts : List Token) → is_closed ts ≡ true → is_closed (Field w ∷ (map Field fs ++ Newline ∷ ts)) ≡ true
+closed-line : (w : List ℕ) (fs : List (List ℕ)) (ts : List Piece) → is_closed ts ≡ true → is_closed (Field w ∷ (map Field fs ++ Newline ∷ ts)) ≡ true
 closed-line w [] ts closed = closed
 closed-line w (f ∷ fs) ts closed = closed-line f fs ts closed
 
-closed-text : (ls : List (List ℕ × List (List ℕ))) → is_closed (text_tokens ls) ≡ true
+closed-text : (ls : List (List ℕ × List (List ℕ))) → is_closed (text_pieces ls) ≡ true
 closed-text [] = refl
-closed-text ((w, fs) ∷ ls) = rw (line_split w fs (text_tokens ls)) (closed-line w fs (text_tokens ls) (closed-text ls))
+closed-text ((w, fs) ∷ ls) = rw (line_split w fs (text_pieces ls)) (closed-line w fs (text_pieces ls) (closed-text ls))
 
-untokens-line : (w : List ℕ) (fs : List (List ℕ)) (ts : List Token) → untokens (Field w ∷ (map Field fs ++ Newline ∷ ts)) ≡ w ++ (flat_map after_blank fs ++ 10 ∷ untokens ts)
+untokens-line : (w : List ℕ) (fs : List (List ℕ)) (ts : List Piece) → untokens (Field w ∷ (map Field fs ++ Newline ∷ ts)) ≡ w ++ (flat_map after_blank fs ++ 10 ∷ untokens ts)
 untokens-line w [] ts = refl
 untokens-line w (f ∷ fs) ts =
     ap (λ (r : List ℕ). w ++ 32 ∷ r) (untokens-line f fs ts) ∙ ap (λ (r : List ℕ). w ++ r) (sym (append_assoc (after_blank f) (flat_map after_blank fs) (10 ∷ untokens ts)))
 
-untokens-text : (ls : List (List ℕ × List (List ℕ))) → untokens (text_tokens ls) ≡ text_bytes ls
+untokens-text : (ls : List (List ℕ × List (List ℕ))) → untokens (text_pieces ls) ≡ text_bytes ls
 untokens-text [] = refl
 untokens-text ((w, fs) ∷ ls) =
-    ap untokens (line_split w fs (text_tokens ls)) ∙ untokens-line w fs (text_tokens ls) ∙ ap (λ (r : List ℕ). w ++ (flat_map after_blank fs ++ 10 ∷ r)) (untokens-text ls) ∙ sym (line_bytes_split w fs (text_bytes ls))
+    ap untokens (line_split w fs (text_pieces ls)) ∙ untokens-line w fs (text_pieces ls) ∙ ap (λ (r : List ℕ). w ++ (flat_map after_blank fs ++ 10 ∷ r)) (untokens-text ls) ∙ sym (line_bytes_split w fs (text_bytes ls))
 
 -- bytes with the tokens of such a text are its bytes
-pub text_back : (bs : List ℕ) (ls : List (List ℕ × List (List ℕ))) → tokens bs ≡ text_tokens ls → bs ≡ text_bytes ls
+pub text_back : (bs : List ℕ) (ls : List (List ℕ × List (List ℕ))) → pieces bs ≡ text_pieces ls → bs ≡ text_bytes ls
 text_back bs ls e = sym (untokens-tokens bs (rw e (closed-text ls))) ∙ ap untokens e ∙ untokens-text ls
 
 -- ---- words

@@ -11,7 +11,7 @@ use Rattle.std.proofs.lemmas.Fmt.{decimal_digit, decimal_step_wide, decimal_by_s
 use Rattle.ps_lines.specs.declared.form_name.FormName.{FormName}
 use Rattle.ps_lines.specs.declared.form_name.FormName.TheVariants as name
 use Rattle.ps_lines.specs.Decimal.{IsDecimal, IsSignedDecimal, counts_as_decimal, is_run, u32_of, u128_of, i128_of}
-use Rattle.ps_lines.specs.Reading.{natural32, natural, integer, within, count, decimal_leaf}
+use Rattle.ps_lines.specs.Reading.{natural32, natural, integer, within_limit, count, decimal_leaf}
 use Rattle.ps_lines.proofs.Digits.{digit_is, digits_value_after_ge, are_digits-from, run_from, u32_is, u32_from, u128_is, u128_from, i128_is, i128_from, first_is_digit}
 use Rattle.ps_lines.proofs.Bytes.{IsPlain}
 use Rattle.ps_lines.proofs.Exact.{IsLeaf}
@@ -160,7 +160,7 @@ integer_is_leaf = decimal_leaf_is i128_of signed_decimal (FitsSigned w128)
 pub count_is_leaf : (limit : ℕ) → limit < 2 ^ 32 → IsLeaf (count limit) decimal (λ n. n ≤ limit)
 count_is_leaf limit small = record {
   found = λ f. by_number f (natural32 f) (natural32_is_leaf.found f);
-  again = λ n le. ap (within limit) (natural32_is_leaf.again n (omega (arith, small, le))) ∙ cond-true _ _ _ (le-leb _ _ le);
+  again = λ n le. ap (within_limit limit) (natural32_is_leaf.again n (omega (arith, small, le))) ∙ cond-true _ _ _ (le-leb _ _ le);
   clean = λ n le. decimal_plain n (omega (arith, small, le));
 }
   where
@@ -168,6 +168,6 @@ count_is_leaf limit small = record {
     by_limit f n e true le = (e, leb-true _ _ le)
     by_limit f n e false le = tt
 
-    by_number : (f : List ℕ) (r : Result ℕ FormName) → IfOk r (λ n. (f ≡ decimal n) × (n < 2 ^ 32)) → IfOk (within limit r) (λ n. (f ≡ decimal n) × (n ≤ limit))
+    by_number : (f : List ℕ) (r : Result ℕ FormName) → IfOk r (λ n. (f ≡ decimal n) × (n < 2 ^ 32)) → IfOk (within_limit limit r) (λ n. (f ≡ decimal n) × (n ≤ limit))
     by_number f (Ok n) h = by_limit f n h.0 (nat_le n limit) refl
     by_number f (Err what) h = tt

@@ -3,8 +3,8 @@ use Rattle.std.specs.Prelude.{◌≡◌, ℕ, negsuc, List, [], ◌∷◌, Some,
 use Rattle.ps_lines.specs.Decimal.{i128_of, u128_of, u32_of}
 use Rattle.ps_lines.specs.Lines.{lines_of}
 use Rattle.ps_lines.specs.Parts.{cut_at}
-use Rattle.ps_lines.specs.Reading.{header_at, only_at, start, value_of}
-use Rattle.ps_lines.specs.Tokens.{Field, Newline, text_bytes, tokens}
+use Rattle.ps_lines.specs.Reading.{header_at, only_at, text_start, value_read}
+use Rattle.ps_lines.specs.Tokens.{Field, Newline, text_bytes, pieces}
 use Rattle.ps_lines.specs.declared.form_name.FormName.TheVariants as name
 
 -- `a b`, an empty line, and `c`, which no line feed ends
@@ -14,8 +14,8 @@ text = 97 ∷ 32 ∷ 98 ∷ 10 ∷ 10 ∷ 99 ∷ []
 -- two lines are ended, the second with one empty field, and the last field is of none
 abbrev pub TextsAreCut : Type 0
 TextsAreCut =
-    (tokens text ≡ Field (97 ∷ []) ∷ Field (98 ∷ []) ∷ Newline ∷ Field [] ∷ Newline ∷ Field (99 ∷ []) ∷ [])
-    × (lines_of (tokens text) ≡ ((97 ∷ []) ∷ (98 ∷ []) ∷ []) ∷ ([] ∷ []) ∷ [])
+    (pieces text ≡ Field (97 ∷ []) ∷ Field (98 ∷ []) ∷ Newline ∷ Field [] ∷ Newline ∷ Field (99 ∷ []) ∷ [])
+    × (lines_of (pieces text) ≡ ((97 ∷ []) ∷ (98 ∷ []) ∷ []) ∷ ([] ∷ []) ∷ [])
 
 -- `a b c` and `end`
 abbrev pub LinesAreSpelled : Type 0
@@ -36,6 +36,6 @@ PartsAre = cut_at 42 (codes "1*g0") ≡ Some (codes "1", codes "g0")
 -- above 9, and `end` has a field too much, an empty one.
 abbrev pub FaultsAre : Type 0
 FaultsAre =
-    (value_of (header_at (codes "rows") 9 (start 4 (codes "rowz 1"))) ≡ Err (record { line = 4; field = 0; what = name.Cut }))
-    × (value_of (header_at (codes "rows") 9 (start 4 (114 ∷ 111 ∷ 119 ∷ 115 ∷ 32 ∷ 49 ∷ 48 ∷ 10 ∷ []))) ≡ Err (record { line = 4; field = 2; what = name.Limit }))
-    × (value_of (only_at (codes "end") (start 4 (101 ∷ 110 ∷ 100 ∷ 32 ∷ 10 ∷ []))) ≡ Err (record { line = 4; field = 2; what = name.Count }))
+    (value_read (header_at (codes "rows") 9 (text_start 4 (codes "rowz 1"))) ≡ Err (record { line = 4; field = 0; what = name.Cut }))
+    × (value_read (header_at (codes "rows") 9 (text_start 4 (114 ∷ 111 ∷ 119 ∷ 115 ∷ 32 ∷ 49 ∷ 48 ∷ 10 ∷ []))) ≡ Err (record { line = 4; field = 2; what = name.Limit }))
+    × (value_read (only_at (codes "end") (text_start 4 (101 ∷ 110 ∷ 100 ∷ 32 ∷ 10 ∷ []))) ≡ Err (record { line = 4; field = 2; what = name.Count }))

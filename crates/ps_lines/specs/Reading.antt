@@ -6,36 +6,36 @@ use Rattle.ps_lines.specs.declared.form_name.FormName.TheVariants as name
 use Rattle.ps_lines.specs.declared.form_fault.FormFault.{FormFault}
 use Rattle.ps_lines.specs.declared.form_end.FormEnd.{FormEnd}
 use Rattle.ps_lines.specs.declared.form_end.FormEnd.TheVariants.{Fault, Memory}
-use Rattle.ps_lines.specs.Tokens.{Token, Field, Newline, tokens, has_newline}
+use Rattle.ps_lines.specs.Tokens.{Piece, Field, Newline, pieces, has_newline}
 use Rattle.ps_lines.specs.Steps.{Reading, ◌>>=◌}
 use Rattle.ps_lines.specs.Decimal.{counts_as_decimal, u32_of, u128_of, i128_of}
 
 -- A place in a text: the line's number, the next field's number, and the tokens that are left.
-pub record At : Type 0 where
+pub record Position : Type 0 where
   pub line : ℕ
   pub field : ℕ
-  pub tokens : List Token
+  pub tokens : List Piece
 
 -- The start of a text whose lines count from `first`.
-abbrev pub start : ℕ → List ℕ → At
-start first bytes = record { line = first; field = 1; tokens = tokens bytes }
+abbrev pub text_start : ℕ → List ℕ → Position
+text_start first bytes = record { line = first; field = 1; tokens = pieces bytes }
 
 -- A reading function gives what it read and the place after it, or the first fault.
 abbrev pub Read : Type 0 → Type 0
-Read A = Reading At FormFault A
+Read A = Reading Position FormFault A
 
 -- A fault at the next field.
-abbrev pub fault_at : At → FormName → FormFault
+abbrev pub fault_at : Position → FormName → FormFault
 fault_at at what = record { line = at.line; field = at.field; what = what }
 
 -- A fault of the line as a whole.
-abbrev pub line_fault : At → FormName → FormFault
+abbrev pub line_fault : Position → FormName → FormFault
 line_fault at what = record { line = at.line; field = 0; what = what }
 
 -- ---- steps
 
 -- The next field, from a line's number, the field's, and the tokens ahead.
-abbrev pub field_from : ℕ → ℕ → List Token → Result (List ℕ × At) FormFault
+abbrev pub field_from : ℕ → ℕ → List Piece → Result (List ℕ × Position) FormFault
 field_from line field (Field f ∷ ts) = Ok (f, record { line = line; field = field + 1; tokens = ts })
 field_from line field ts = Err (record { line = line; field = field; what = name.Count })
 
@@ -44,15 +44,15 @@ abbrev pub field_at : Read (List ℕ)
 field_at at = field_from at.line at.field at.tokens
 
 -- What a field is read as, or the fault at its place.
-abbrev pub placed : {A : Type 0} → ℕ → ℕ → Result A FormName → Result A FormFault
-placed line field (Ok x) = Ok x
-placed line field (Err what) = Err (record { line = line; field = field; what = what })
+abbrev pub fault_placed : {A : Type 0} → ℕ → ℕ → Result A FormName → Result A FormFault
+fault_placed line field (Ok x) = Ok x
+fault_placed line field (Err what) = Err (record { line = line; field = field; what = what })
 
 -- The next field, as a value.
 unfoldable pub leaf_at : {A : Type 0} → (List ℕ → Result A FormName) → Read A
 leaf_at leaf at = do
   f ← field_at at
-  x ← placed at.line at.field (leaf f.0)
+  x ← fault_placed at.line at.field (leaf f.0)
   Ok (x, f.1)
 
 -- A field that is this word.
@@ -68,7 +68,7 @@ unfoldable pub line_at : List ℕ → Read (Unit {0})
 line_at word at = if has_newline at.tokens then word_at word at else Err (line_fault at name.Cut)
 
 -- The end of a line, from the line's number, the next field's, and the tokens ahead.
-abbrev pub end_from : ℕ → ℕ → List Token → Result (Unit {0} × At) FormFault
+abbrev pub end_from : ℕ → ℕ → List Piece → Result (Unit {0} × Position) FormFault
 end_from line field (Newline ∷ ts) = Ok (tt, record { line = line + 1; field = 1; tokens = ts })
 end_from line field ts = Err (record { line = line; field = field; what = name.Count })
 
@@ -83,12 +83,12 @@ only_at word at = do
   end_at w.1
 
 -- The end of the text, from the line's number and the tokens ahead.
-abbrev pub done_from : ℕ → List Token → Result (Unit {0}) FormFault
+abbrev pub done_from : ℕ → List Piece → Result (Unit {0}) FormFault
 done_from line [] = Ok tt
 done_from line (t ∷ ts) = Err (record { line = line; field = 0; what = name.Word })
 
 -- The text ends: `word` at the line that follows where one does, ended or not.
-abbrev pub done_at : At → Result (Unit {0}) FormFault
+abbrev pub done_at : Position → Result (Unit {0}) FormFault
 done_at at = done_from at.line at.tokens
 
 -- ---- decimals
@@ -110,13 +110,13 @@ abbrev pub integer : List ℕ → Result ℤ FormName
 integer = decimal_leaf i128_of
 
 -- A number that is within its limit.
-abbrev pub within : ℕ → Result ℕ FormName → Result ℕ FormName
-within limit (Ok n) = if nat_le n limit then Ok n else Err name.Limit
-within limit (Err what) = Err what
+abbrev pub within_limit : ℕ → Result ℕ FormName → Result ℕ FormName
+within_limit limit (Ok n) = if nat_le n limit then Ok n else Err name.Limit
+within_limit limit (Err what) = Err what
 
 -- A stated count: a decimal of 32 bits, at most its limit.
 abbrev pub count : ℕ → List ℕ → Result ℕ FormName
-count limit field = within limit (natural32 field)
+count limit field = within_limit limit (natural32 field)
 
 -- A line of a word and a stated count.
 unfoldable pub header_at : List ℕ → ℕ → Read ℕ
@@ -137,11 +137,11 @@ times_at read (suc n) at = do
   Ok (x.0 ∷ xs.0, xs.1)
 
 -- The fields of a line as long as `goes` passes them, each read in the state that the ones before it left.
-unfoldable pub list_from : {A S : Type 0} → (List ℕ → Bool) → (S → List ℕ → Result A FormName) → (S → A → S) → S → ℕ → ℕ → List Token → Result (List A × At) FormFault
+unfoldable pub list_from : {A S : Type 0} → (List ℕ → Bool) → (S → List ℕ → Result A FormName) → (S → A → S) → S → ℕ → ℕ → List Piece → Result (List A × Position) FormFault
 list_from goes leaf step state line field [] = Ok ([], record { line = line; field = field; tokens = [] })
 list_from goes leaf step state line field (Newline ∷ ts) = Ok ([], record { line = line; field = field; tokens = Newline ∷ ts })
 list_from goes leaf step state line field (Field f ∷ ts) =
-    if goes f then (placed line field (leaf state f) >>= λ x. list_from goes leaf step (step state x) line (field + 1) ts >>= λ xs. Ok (x ∷ xs.0, xs.1))
+    if goes f then (fault_placed line field (leaf state f) >>= λ x. list_from goes leaf step (step state x) line (field + 1) ts >>= λ xs. Ok (x ∷ xs.0, xs.1))
     else Ok ([], record { line = line; field = field; tokens = Field f ∷ ts })
 
 -- The same, from a place.
@@ -149,12 +149,12 @@ abbrev pub list_at : {A S : Type 0} → (List ℕ → Bool) → (S → List ℕ 
 list_at goes leaf step state at = list_from goes leaf step state at.line at.field at.tokens
 
 -- Whether the tokens begin with this word, in a line that is ended.
-abbrev pub begins_from : List ℕ → List Token → Bool
+abbrev pub begins_from : List ℕ → List Piece → Bool
 begins_from word (Field f ∷ ts) = bytes_eq f word && has_newline ts
 begins_from word ts = false
 
 -- Whether an ended line begins at a place with this word.
-abbrev pub begins_at : List ℕ → At → Bool
+abbrev pub begins_at : List ℕ → Position → Bool
 begins_at word at = begins_from word at.tokens
 
 -- As many lines as begin with the word, and at most `limit`: `limit` at the first one that is too much.
@@ -166,12 +166,12 @@ while_at word read (suc n) at =
 -- ---- what calls promise
 
 -- A call that takes no memory answers what a reading function gives. After a fault nothing is said of the place.
-abbrev pub Reads : {X A : Type 0} → (X → A) → Result X FormFault → At → Result (A × At) FormFault → Type 0
+abbrev pub Reads : {X A : Type 0} → (X → A) → Result X FormFault → Position → Result (A × Position) FormFault → Type 0
 Reads view (Ok x) now read = read ≡ Ok (view x, now)
 Reads view (Err fault) now read = read ≡ Err fault
 
 -- The same of a call that takes memory: where memory runs out nothing is said.
-abbrev pub Gives : {X A : Type 0} → (X → A) → Result X FormEnd → At → Result (A × At) FormFault → Type 0
+abbrev pub Gives : {X A : Type 0} → (X → A) → Result X FormEnd → Position → Result (A × Position) FormFault → Type 0
 Gives view (Ok x) now read = read ≡ Ok (view x, now)
 Gives view (Err (Fault fault)) now read = read ≡ Err fault
 Gives view (Err (Memory e)) now read = Unit {0}
@@ -183,6 +183,6 @@ Tells view (Err (Fault fault)) answer = answer ≡ Err fault
 Tells view (Err (Memory e)) answer = Unit {0}
 
 -- The value of a whole text, without the place.
-abbrev pub value_of : {A : Type 0} → Result (A × At) FormFault → Result A FormFault
-value_of (Ok x) = Ok x.0
-value_of (Err fault) = Err fault
+abbrev pub value_read : {A : Type 0} → Result (A × Position) FormFault → Result A FormFault
+value_read (Ok x) = Ok x.0
+value_read (Err fault) = Err fault

@@ -1,7 +1,7 @@
 //! What is read from a reader, and lists of it.
 
 ghost use Rattle.std.specs.Prelude.{◌≡◌, Result};
-ghost use Rattle.ps_lines.specs.Reading.{At, Gives, times_at, while_at};
+ghost use Rattle.ps_lines.specs.Reading.{Position, Gives, times_at, while_at};
 ghost use Rattle.ps_lines.specs.declared.form_fault.FormFault.{FormFault};
 
 use crate::form_end::FormEnd;
@@ -15,7 +15,7 @@ pub trait Form {
     type Value: Drop;
 
     /// What is read, and the place after it, or the first fault.
-    ghost reading: { At → Result (Self.Value × At) FormFault };
+    ghost reading: { Position → Result (Self.Value × Position) FormFault };
 
     fn take<'a>(alloc: Global, reader: &mut Reader<'a>) -> Result<Self::Value, FormEnd>
         ensures { Gives (λ x. x) result reader.new (reading reader.old) };

@@ -4,7 +4,7 @@ ghost use Rattle.std.specs.Prelude.{◌≡◌, List, Option, Result, Some, None,
 ghost use Rattle.ps_lines.specs.Until.{goes};
 ghost use Rattle.ps_lines.specs.Tokens.{next_field};
 ghost use Rattle.ps_lines.specs.Reading.{Reads, Gives, leaf_at, list_at};
-ghost use Rattle.ps_lines.specs.inner.Ahead.{goes_on, member_at};
+ghost use Rattle.ps_lines.specs.inner.Ahead.{list_goes_on, member_at};
 ghost use Rattle.ps_lines.specs.declared.form_name.FormName.{FormName};
 
 use crate::form_end::FormEnd;
@@ -43,7 +43,7 @@ pub fn take_leaf<'a, L: Leaf>(
 }
 
 fn goes_on<'a>(until: &Until<'_>, reader: &Reader<'a>) -> bool
-    ensures { result ≡ goes_on (goes until.now) (next_field reader.now.tokens) }
+    ensures { result ≡ list_goes_on (goes until.now) (next_field reader.now.tokens) }
 {
     match reader.peek() {
         Some(field) => until.passes(field),

@@ -1,9 +1,9 @@
 //! A place in a text, from which fields and ends of lines are taken one after the other.
 
 ghost use Rattle.std.specs.Prelude.{◌≡◌, ℕ, ◌+◌, ◌<◌, ◌≤◌, ◌^◌, List, length, drop, option_map, if◌then◌else◌};
-ghost use Rattle.ps_lines.specs.Tokens.{has_newline, next_field, tokens, ahead};
+ghost use Rattle.ps_lines.specs.Tokens.{has_newline, next_field, pieces, ahead};
 ghost use Rattle.ps_lines.specs.inner.Ahead.{field_len};
-ghost use Rattle.ps_lines.specs.Reading.{start, Reads, fault_at, line_fault, field_at, leaf_at, word_at, line_at, end_at, only_at, done_at, natural32, natural, integer, count, header_at, begins_at};
+ghost use Rattle.ps_lines.specs.Reading.{text_start, Reads, fault_at, line_fault, field_at, leaf_at, word_at, line_at, end_at, only_at, done_at, natural32, natural, integer, count, header_at, begins_at};
 
 use crate::decimal::{count, integer, natural, natural32};
 use crate::form_fault::FormFault;
@@ -24,11 +24,11 @@ pub struct Reader<'a> {
 impl<'a> Model for Reader<'a> {
     ghost use Rattle.std.specs.Prelude.{ℕ, ◌+◌, ◌<◌, ◌≤◌, ◌^◌, length, if◌then◌else◌};
     ghost use Rattle.ps_lines.specs.Tokens.{ahead};
-    ghost use Rattle.ps_lines.specs.Reading.{At};
+    ghost use Rattle.ps_lines.specs.Reading.{Position};
 
-    ghost Value = { At };
+    ghost Value = { Position };
 
-    ghost view = { λ r. record { line = r.line; field = r.field; tokens = ahead r.ended r.rest.now } };
+    ghost view = { λ r. record { line = r.line; field = r.field; pieces = ahead r.ended r.rest.now } };
 
     ghost invariant = { λ r. (1 ≤ r.line) × (r.line + (if r.ended then 1 else 0) + length r.rest.now < 2 ^ 32) × (r.field + length r.rest.now < 2 ^ 32) };
 }
@@ -47,7 +47,7 @@ pub(crate) fn field_len(bytes: &[u8]) -> usize
 }
 
 fn has_line_feed(bytes: &[u8]) -> bool
-    ensures { result ≡ has_newline (tokens bytes.now) }
+    ensures { result ≡ has_newline (pieces bytes.now) }
 {
     for byte in bytes {
         if *byte == b'\n' {
@@ -62,7 +62,7 @@ impl<'a> Reader<'a> {
     pub fn new(bytes: &'a [u8], first: u32) -> Self
         requires from_one { 1 ≤ first }
         requires room { first + length bytes.now < 2 ^ 32 }
-        ensures { result ≡ start first bytes.now }
+        ensures { result ≡ text_start first bytes.now }
     {
         Reader {
             rest: bytes,

@@ -2,7 +2,7 @@
 use Rattle.std.proofs.Common.{◌≡◌, ℕ, ◌<◌, List, length, Option, Some, None, Result, Ok, Err, IfOk, IsErrAnd, MatchResult, refl, sym, ap, ◌∙◌, arith, length-append}
 use Rattle.ps_io.specs.Bytes.{GaveMore}
 use Rattle.ps_modes.specs.Inner.Settled.{Settled}
-use Rattle.ps_modes.specs.Owes.{IsAnswer, Owes, TooLong, Within}
+use Rattle.ps_modes.specs.Owes.{IsOwedAnswer, Owes, TooLong, Within}
 use Rattle.ps_modes.specs.Status.{code}
 use Rattle.ps_modes.specs.declared.input.TheConstants.{MOST_BYTES}
 use Rattle.ps_modes.specs.declared.status.Status.{Status}
@@ -15,7 +15,7 @@ only_long Owed input long s t (TooLong _ e f) = (e, f)
 only_long Owed input long s t (Within short _) = absurd (omega (arith, long, short))
 
 long_answer : (Owed : List ℕ → Status → List ℕ → Type 0) (input : List ℕ) (status : Status) (text : List ℕ)
-    → MOST_BYTES < length input → status ≡ BadInput → text ≡ TOO_LONG.now → IsAnswer (Owes Owed input) status text
+    → MOST_BYTES < length input → status ≡ BadInput → text ≡ TOO_LONG.now → IsOwedAnswer (Owes Owed input) status text
 long_answer Owed input status text long e f = record {
   owed = TooLong long e f;
   only = λ s t owes. let same = only_long Owed input long s t owes in (same.0 ∙ sym e, same.1 ∙ sym f);

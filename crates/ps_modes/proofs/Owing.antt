@@ -4,14 +4,14 @@ use Rattle.ps_lines.specs.declared.form_fault.FormFault.{FormFault}
 use Rattle.ps_farkas.specs.Refutes.{AllSumsFit, Refutes}
 use Rattle.ps_rows.specs.declared.claim.Claim.{Claim}
 use Rattle.ps_rows.specs.Reading.{claim_at}
-use Rattle.ps_rows.specs.Spelling.{claim_lines, ClaimFits}
-use Rattle.ps_lines.specs.Reading.{start}
-use Rattle.ps_lines.specs.Tokens.{text_bytes, tokens}
+use Rattle.ps_rows.specs.Spelling.{claim_lines, ClaimHasSpelling}
+use Rattle.ps_lines.specs.Reading.{text_start}
+use Rattle.ps_lines.specs.Tokens.{text_bytes, pieces}
 use Rattle.ps_lines.proofs.Bytes.{text_read}
 use Rattle.ps_rows.proofs.Laws.{claim_is_format}
 use Rattle.ps_modes.specs.Inner.Judged.{Judged, Refuting, NotRefuting, PastSums}
-use Rattle.ps_modes.specs.Owes.{IsAnswer, IsShort, IsVerdict, Owes, OwesStatus, TooLong, Within}
-use Rattle.ps_modes.specs.Refute.{FirstFault, Owed, Yes, No, NotOfForm, PastRange, Says, SaysYes, SaysNo}
+use Rattle.ps_modes.specs.Owes.{IsOwedAnswer, IsShort, IsVerdict, Owes, OwesStatus, TooLong, Within}
+use Rattle.ps_modes.specs.Refute.{FirstFault, Owed, Yes, No, NotOfForm, PastRange, SpellsClaim, SaysYes, SaysNo}
 use Rattle.ps_modes.specs.Status.{Exactly}
 use Rattle.ps_modes.specs.Texts.{fault_line}
 use Rattle.ps_modes.specs.declared.status.Status.{Status}
@@ -20,8 +20,8 @@ use Rattle.ps_modes.specs.declared.texts.TheConstants.{NO, PAST, YES}
 
 -- the input says this claim and no other, and isn't faulty
 pub record IsRead (input : List ℕ) (claim : Claim) : Type 0 where
-  pub says : Says input claim
-  pub alone : (other : Claim) → Says input other → other ≡ claim
+  pub says : SpellsClaim input claim
+  pub alone : (other : Claim) → SpellsClaim input other → other ≡ claim
   pub good : (fault : FormFault) → FirstFault input fault → ⊥
 
 fits_too : (a b : Claim) → a ≡ b → AllSumsFit a.rows a.multipliers → AllSumsFit b.rows b.multipliers
@@ -56,12 +56,12 @@ only_past input claim read past s t (No n _ _) = absurd (past (fits_too n.claim 
 only_past input claim read past s t (NotOfForm fault first _ _) = absurd (read.good fault first)
 only_past input claim read past s t (PastRange _ _ _ e f) = (e, f)
 
-along : (input : List ℕ) (status s : Status) (text t : List ℕ) → IsAnswer (Owed input) s t → status ≡ s → text ≡ t → IsAnswer (Owed input) status text
+along : (input : List ℕ) (status s : Status) (text t : List ℕ) → IsOwedAnswer (Owed input) s t → status ≡ s → text ≡ t → IsOwedAnswer (Owed input) status text
 along input status s text t answer e f = rw (e, f) answer
 
 -- what a claim alone owes, the input owes that says it
 pub judged_answer : (input : List ℕ) (claim : Claim) → IsRead input claim → (status : Status) (text : List ℕ)
-    → Judged claim status text → IsAnswer (Owed input) status text
+    → Judged claim status text → IsOwedAnswer (Owed input) status text
 judged_answer input claim read status text (Refuting fits holds e f) =
     along input status Holds text YES.now (record {
       owed = Yes (record { claim = claim; says = read.says; fits = fits; holds = holds }) refl refl;
@@ -80,7 +80,7 @@ judged_answer input claim read status text (PastSums past e f) =
 
 -- ---- an input that isn't of the form
 
-only_fault : (input : List ℕ) (fault : FormFault) → FirstFault input fault → ((claim : Claim) → Says input claim → ⊥)
+only_fault : (input : List ℕ) (fault : FormFault) → FirstFault input fault → ((claim : Claim) → SpellsClaim input claim → ⊥)
     → (s : Status) (t : List ℕ) → Owed input s t → (s ≡ BadInput) × (t ≡ fault_line fault)
 only_fault input fault first none s t (Yes y _ _) = absurd (none y.claim y.says)
 only_fault input fault first none s t (No n _ _) = absurd (none n.claim n.says)
@@ -89,8 +89,8 @@ only_fault input fault first none s t (NotOfForm other again e f) =
     (e, f ∙ ap fault_line same)
 only_fault input fault first none s t (PastRange claim says _ _ _) = absurd (none claim says)
 
-pub fault_answer : (input : List ℕ) (fault : FormFault) → FirstFault input fault → ((claim : Claim) → Says input claim → ⊥)
-    → IsAnswer (Owed input) BadInput (fault_line fault)
+pub fault_answer : (input : List ℕ) (fault : FormFault) → FirstFault input fault → ((claim : Claim) → SpellsClaim input claim → ⊥)
+    → IsOwedAnswer (Owed input) BadInput (fault_line fault)
 fault_answer input fault first none = record {
   owed = NotOfForm fault first refl refl;
   only = only_fault input fault first none;
@@ -104,9 +104,9 @@ said claim = Ok claim
 abbrev pub faulty : FormFault → Result Claim FormFault
 faulty fault = Err fault
 
-pub claim_read : (input : List ℕ) (claim : Claim) → ClaimFits claim × (input ≡ text_bytes (claim_lines claim))
-    → ((other : Claim) → ClaimFits other → input ≡ text_bytes (claim_lines other) → said other ≡ said claim)
-    → claim_at (start 1 input) ≡ Ok claim → IsRead input claim
+pub claim_read : (input : List ℕ) (claim : Claim) → ClaimHasSpelling claim × (input ≡ text_bytes (claim_lines claim))
+    → ((other : Claim) → ClaimHasSpelling other → input ≡ text_bytes (claim_lines other) → said other ≡ said claim)
+    → claim_at (text_start 1 input) ≡ Ok claim → IsRead input claim
 claim_read input claim found only exact = record {
   says = record { fits = found.0; spelled = found.1 };
   alone = λ other says. let same : said other ≡ said claim = only other says.fits says.spelled in cc;
@@ -114,8 +114,8 @@ claim_read input claim found only exact = record {
 }
 
 pub fault_read : (input text : List ℕ) (fault : FormFault)
-    → ((other : Claim) → ClaimFits other → input ≡ text_bytes (claim_lines other) → said other ≡ faulty fault)
-    → claim_at (start 1 input) ≡ Err fault → text ≡ fault_line fault → IsAnswer (Owed input) BadInput text
+    → ((other : Claim) → ClaimHasSpelling other → input ≡ text_bytes (claim_lines other) → said other ≡ faulty fault)
+    → claim_at (text_start 1 input) ≡ Err fault → text ≡ fault_line fault → IsOwedAnswer (Owed input) BadInput text
 fault_read input text fault only exact e =
     rw e (fault_answer input fault exact
     (λ claim says. let same : said claim ≡ faulty fault = only claim says.fits says.spelled in cc))
@@ -123,13 +123,13 @@ fault_read input text fault only exact e =
 -- ---- an input owes one answer
 
 -- what an input says is what reading it gives
-says_reads : (input : List ℕ) (claim : Claim) → Says input claim → claim_at (start 1 input) ≡ Ok claim
+says_reads : (input : List ℕ) (claim : Claim) → SpellsClaim input claim → claim_at (text_start 1 input) ≡ Ok claim
 says_reads input claim says =
-    let g = claim_is_format.again (start 1 input) claim says.fits
-    (ap tokens says.spelled ∙ text_read (claim_lines claim) (claim_is_format.clean claim says.fits)) in
+    let g = claim_is_format.again (text_start 1 input) claim says.fits
+    (ap pieces says.spelled ∙ text_read (claim_lines claim) (claim_is_format.clean claim says.fits)) in
     g.ok ∙ ap (λ (c : Claim). Ok c) g.is
 
-is_read : (input : List ℕ) (claim : Claim) → Says input claim → IsRead input claim
+is_read : (input : List ℕ) (claim : Claim) → SpellsClaim input claim → IsRead input claim
 is_read input claim says = record {
   says = says;
   alone = λ other too. let a = says_reads input claim says in let b = says_reads input other too in cc;

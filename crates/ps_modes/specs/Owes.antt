@@ -15,7 +15,7 @@ abbrev pub IsShort : List ℕ → Type 0
 IsShort input = length input ≤ MOST_BYTES
 
 -- this status and this text are owed, and no others
-pub record IsAnswer (Owed : Status → List ℕ → Type 0) (status : Status) (text : List ℕ) : Type 0 where
+pub record IsOwedAnswer (Owed : Status → List ℕ → Type 0) (status : Status) (text : List ℕ) : Type 0 where
   pub owed : Owed status text
   pub only : (s : Status) (t : List ℕ) → Owed s t → (s ≡ status) × (t ≡ text)
 

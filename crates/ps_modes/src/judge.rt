@@ -1,6 +1,6 @@
 //! What a mode does of its own: from the bytes of an input to its answer.
 ghost use Rattle.std.specs.Prelude.{ℕ, List, IfOk};
-ghost use Rattle.ps_modes.specs.Owes.{IsAnswer, IsShort, IsVerdict};
+ghost use Rattle.ps_modes.specs.Owes.{IsOwedAnswer, IsShort, IsVerdict};
 ghost use Rattle.ps_modes.specs.declared.status.Status.{Status};
 
 use crate::answer::Answer;
@@ -15,6 +15,6 @@ pub(crate) trait Judge {
     fn judge(&self, alloc: Global, input: &[u8]) -> Result<Answer, AllocError>
         requires { IsShort input.now }
         ensures answer { IfOk result
-            (λ answer. IsAnswer (owed self.now input.now) answer.status answer.text.items) }
+            (λ answer. IsOwedAnswer (owed self.now input.now) answer.status answer.text.items) }
         ensures verdict { IfOk result (λ answer. IsVerdict answer.status) };
 }

@@ -5,7 +5,7 @@ ghost use Rattle.ps_io.specs.Bytes.{GaveAtMost, TookPrefix};
 ghost use Rattle.ps_io.specs.Causes.{Rose};
 ghost use Rattle.ps_modes.specs.Inner.Judged.{Judged};
 ghost use Rattle.ps_modes.specs.Owes.{IsShort, IsVerdict, OwesStatus, SomeAnswer};
-ghost use Rattle.ps_modes.specs.Refute.{IsRefused, Owed, Refusal, SaysYes, SaysNo};
+ghost use Rattle.ps_modes.specs.Refute.{IsRefusedInput, Owed, Refusal, SaysYes, SaysNo};
 ghost use Rattle.ps_modes.specs.Status.{code, Exactly, IsOneOf};
 ghost use Rattle.ps_modes.specs.declared.status.Status.{Status};
 ghost use Rattle.ps_modes.specs.declared.status.Status.TheVariants.{Holds, Fails, BadInput, BadWords, ReadFault, WriteFault, NoMemory};
@@ -37,7 +37,7 @@ pub fn refute_run<S: Source, K: Sink>(alloc: Global, source: &mut S, sink: &mut 
     ensures no_text { result ≡ code Fails
         → Appends (K.written sink.old) (K.written sink.new) NO.now }
     ensures refused { IfSome (S.left source.old)
-        (λ input. Exactly result BadInput (IsRefused input)) }
+        (λ input. Exactly result BadInput (IsRefusedInput input)) }
     ensures refused_text { result ≡ code BadInput → IfSome (S.left source.old) (λ input.
         (text : List ℕ) × Refusal input text × Appends (K.written sink.old) (K.written sink.new) text) }
 

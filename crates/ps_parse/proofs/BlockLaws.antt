@@ -11,11 +11,11 @@ use Rattle.ps_tree.specs.declared.stmt.StmtKind.TheVariants as stmt
 use Rattle.ps_parse.specs.declared.read_refusal.ReadRefusal.{ReadRefusal}
 use Rattle.ps_grammar.specs.Grammar.{StmtText, assign, havoc, assume, assert, skip, atomic, if_then, if_else, while_do, BlockText, block_end, block_more}
 use Rattle.ps_grammar.specs.Words.{Word}
-use Rattle.ps_parse.specs.Reading.{At, Read, is_kind, next_is, place_of_next, place_at, after_word}
+use Rattle.ps_parse.specs.Reading.{WordsAhead, ReadWords, is_kind, next_is, place_of_next, place_at, after_word}
 use Rattle.ps_grammar.specs.Names.{Names}
 use Rattle.ps_parse.specs.Blocks.{while_stmt_at, kind_at, stmt_at, has_more, block_at}
 use Rattle.ps_grammar.specs.Spelling.{Piece, Mark, pieces, stmt_pieces, rest_pieces, block_pieces}
-use Rattle.ps_grammar.specs.Trees.{first_place, stmt_tree, block_trees}
+use Rattle.ps_grammar.specs.Trees.{place_of_first, stmt_tree, block_trees}
 use Rattle.ps_grammar.specs.Fits.{StmtFits, RestFits}
 use Rattle.ps_parse.proofs.Steps.{places, takes_pieces, Ahead, ahead_so, begins_piece, next_ahead, Not, Finds, Gets, found_bind, found_end, found_if, gets_bind, gets_end, gets_true, gets_false, gets_more, Spelled, Exact}
 use Rattle.ps_parse.proofs.Sequences.{mark_found, exact_as, after_exact, closed_exact, ListSays, GoesOn, while_exact}
@@ -50,10 +50,10 @@ stmt_some (while_do t u) = omega arith
 -- ---- which statement
 
 -- a block of either sort, at a level
-abbrev Blocks : ℕ → Names → ℕ → (Bool → Read (List Stmt)) → Type 0
+abbrev Blocks : ℕ → Names → ℕ → (Bool → ReadWords (List Stmt)) → Type 0
 Blocks n names levels block = (inside : Bool) → BlockExact n names levels inside (block inside)
 
-kind_found : (n : ℕ) (names : Names) (levels : ℕ) (block : Bool → Read (List Stmt)) → Blocks n names levels block → (inside : Bool) (at : At)
+kind_found : (n : ℕ) (names : Names) (levels : ℕ) (block : Bool → ReadWords (List Stmt)) → Blocks n names levels block → (inside : Bool) (at : WordsAhead)
     → Finds (kind_at block inside (Some names) n levels at) (Spelled stmt_pieces (StmtFits names levels inside) (StmtIs names) at)
 unfolding kind_at while_stmt_at
 kind_found n names levels block exact inside at =
@@ -69,14 +69,14 @@ kind_found n names levels block exact inside at =
   where
     as_stmt : {C : Type 0} {spell : C → List Piece} {fits : C → Type 0} {says : C → List Place → StmtKind → Type 0} (f : C → StmtText)
         → ((c : C) → spell c ≡ stmt_pieces (f c)) → ((c : C) → fits c → StmtFits names levels inside (f c)) → ((c : C) (ps : List Place) (y : StmtKind) → says c ps y → StmtIs names (f c) ps y)
-        → (at : At) (r : Result (StmtKind × At) ReadRefusal) → Finds r (Spelled spell fits says at) → Finds r (Spelled stmt_pieces (StmtFits names levels inside) (StmtIs names) at)
+        → (at : WordsAhead) (r : Result (StmtKind × WordsAhead) ReadRefusal) → Finds r (Spelled spell fits says at) → Finds r (Spelled stmt_pieces (StmtFits names levels inside) (StmtIs names) at)
     as_stmt f a b c at r h = found_as stmt_pieces (StmtFits names levels inside) (StmtIs names) f a b c at r h
 
     by_inside : (t : Bool) → BlockExact n names levels t (block t) → Finds (while_stmt_at t (block t) (Some names) n levels at) (Spelled stmt_pieces (StmtFits names levels t) (StmtIs names) at)
     by_inside true ex = record { is = tt }
     by_inside false ex = found_as stmt_pieces (StmtFits names levels false) (StmtIs names) (λ c. while_do c.0 c.1) (λ c. refl) (λ c h. (refl, h.0, h.1.0, h.1.1)) (λ c ps y h. h) at _ ((while_do_exact n names levels false (block false) ex).found at)
 
-kind_again : (n : ℕ) (names : Names) (levels : ℕ) (block : Bool → Read (List Stmt)) → Blocks n names levels block → (inside : Bool) (at : At) (s : StmtText) (rest : List Piece) → StmtFits names levels inside s → Ahead n at (stmt_pieces s ++ rest) → Not kind.Else rest
+kind_again : (n : ℕ) (names : Names) (levels : ℕ) (block : Bool → ReadWords (List Stmt)) → Blocks n names levels block → (inside : Bool) (at : WordsAhead) (s : StmtText) (rest : List Piece) → StmtFits names levels inside s → Ahead n at (stmt_pieces s ++ rest) → Not kind.Else rest
     → Gets (kind_at block inside (Some names) n levels at) (λ y. StmtIs names s (places at.words) y.0 × Ahead n y.1 rest)
 unfolding kind_at while_stmt_at
 kind_again n names levels block exact inside at (assign x s) rest fit h stop =
@@ -138,28 +138,28 @@ kind_again n names levels block exact inside at (while_do t b) rest fit h stop =
     (gets_false inside _ _ _ fit.0
     ((while_do_exact n names levels inside (block inside) (exact inside)).again at (t, b) rest (fit.1, (fit.2, fit.3)) h tt)))))))))
 
-abbrev kind_exact : (n : ℕ) (names : Names) (levels : ℕ) (block : Bool → Read (List Stmt)) → Blocks n names levels block → (inside : Bool) → Exact n (kind_at block inside (Some names) n levels) stmt_pieces (StmtFits names levels inside) (StmtIs names) (Not kind.Else)
+abbrev kind_exact : (n : ℕ) (names : Names) (levels : ℕ) (block : Bool → ReadWords (List Stmt)) → Blocks n names levels block → (inside : Bool) → Exact n (kind_at block inside (Some names) n levels) stmt_pieces (StmtFits names levels inside) (StmtIs names) (Not kind.Else)
 kind_exact n names levels block exact inside = record { found = kind_found n names levels block exact inside; again = kind_again n names levels block exact inside }
 
 -- ---- with its place
 
 abbrev StmtSays : Names → StmtText → List Place → Stmt → Type 0
-StmtSays names s ps y = y ≡ record { place = first_place ps; kind = stmt_tree names s ps }
+StmtSays names s ps y = y ≡ record { place = place_of_first ps; kind = stmt_tree names s ps }
 
-first_is : (ws : List Word) (end : Place) (ps : List Piece) → pieces ws ≡ ps → 1 ≤ length ps → place_of_next ws end ≡ first_place (places ws)
+first_is : (ws : List Word) (end : Place) (ps : List Piece) → pieces ws ≡ ps → 1 ≤ length ps → place_of_next ws end ≡ place_of_first (places ws)
 first_is [] end ps e h = absurd (omega (arith, h, ap (λ (qs : List Piece). length qs) e))
 first_is (w ∷ ws) end ps e h = refl
 
-make_stmt : (names : Names) (s : StmtText) (at : At) (rest : List Piece) (k : StmtKind) → pieces at.words ≡ stmt_pieces s ++ rest → StmtIs names s (places at.words) k → StmtSays names s (places at.words) (record { place = place_at at; kind = k })
+make_stmt : (names : Names) (s : StmtText) (at : WordsAhead) (rest : List Piece) (k : StmtKind) → pieces at.words ≡ stmt_pieces s ++ rest → StmtIs names s (places at.words) k → StmtSays names s (places at.words) (record { place = place_at at; kind = k })
 make_stmt names s at rest k e h =
     let some : 1 ≤ length (stmt_pieces s ++ rest) = omega (arith, length-append (stmt_pieces s) rest, stmt_some s) in
-    let place : place_of_next at.words at.end ≡ first_place (places at.words) = first_is at.words at.end (stmt_pieces s ++ rest) e some in
-    ap (λ (p : Place). made p k) place ∙ ap (made (first_place (places at.words))) h
+    let place : place_of_next at.words at.end ≡ place_of_first (places at.words) = first_is at.words at.end (stmt_pieces s ++ rest) e some in
+    ap (λ (p : Place). made p k) place ∙ ap (made (place_of_first (places at.words))) h
   where
     made : Place → StmtKind → Stmt
     made p j = record { place = p; kind = j }
 
-stmt_exact : (n : ℕ) (names : Names) (levels : ℕ) (block : Bool → Read (List Stmt)) → Blocks n names levels block → (inside : Bool) → Exact n (stmt_at block inside (Some names) n levels) stmt_pieces (StmtFits names levels inside) (StmtSays names) (Not kind.Else)
+stmt_exact : (n : ℕ) (names : Names) (levels : ℕ) (block : Bool → ReadWords (List Stmt)) → Blocks n names levels block → (inside : Bool) → Exact n (stmt_at block inside (Some names) n levels) stmt_pieces (StmtFits names levels inside) (StmtSays names) (Not kind.Else)
 unfolding stmt_at
 stmt_exact n names levels block exact inside = record {
   found = λ at.
@@ -205,7 +205,7 @@ unfolding block_of
 block_said names [] ps [] h = refl
 block_said names [] ps (y ∷ ys) h = absurd h
 block_said names (s ∷ ss) ps [] h = absurd h
-block_said names (s ∷ ss) ps (y ∷ ys) h = ap (λ (z : Stmt). z ∷ ys) h.0 ∙ ap (λ (zs : List Stmt). record { place = first_place ps; kind = stmt_tree names s ps } ∷ zs) (block_said names ss (drop (length (stmt_pieces s)) ps) ys h.1)
+block_said names (s ∷ ss) ps (y ∷ ys) h = ap (λ (z : Stmt). z ∷ ys) h.0 ∙ ap (λ (zs : List Stmt). record { place = place_of_first ps; kind = stmt_tree names s ps } ∷ zs) (block_said names ss (drop (length (stmt_pieces s)) ps) ys h.1)
 
 abbrev pub goes_on : List Piece → Bool
 goes_on ps = not (begins_piece kind.CloseBrace ps)

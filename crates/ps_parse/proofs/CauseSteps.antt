@@ -10,13 +10,13 @@ use Rattle.ps_term.specs.declared.var.Var.{Var}
 use Rattle.ps_tree.specs.declared.limit_name.LimitName.TheVariants as limit
 use Rattle.ps_parse.specs.declared.read_refusal.ReadRefusal.{ReadRefusal}
 use Rattle.ps_parse.specs.declared.read_refusal.ReadRefusal.TheVariants as refusal
-use Rattle.ps_parse.specs.Causes.{words_at, is_declaration, declared_in, is_after_factor, count_of, rows_in, Level, atomic_block, levels_with, levels, opens_level, GivesRows, IsCauseAt, IsCause, HasCause, IsClean, rank, IsFirstCause}
+use Rattle.ps_parse.specs.Causes.{words_at, is_declaration, declared_in, is_after_factor, count_of, rows_passed, Level, atomic_block, levels_with, levels, opens_level, GivesRows, IsCauseAt, IsCause, HasCauseOf, IsClean, rank, IsFirstCause}
 use Rattle.ps_grammar.specs.Declarations.{most_globals, most_levels, most_locals, most_rows}
-use Rattle.ps_grammar.specs.Names.{Names, variable_of}
+use Rattle.ps_grammar.specs.Names.{Names, variable_of_name}
 use Rattle.ps_parse.specs.Reads.{refusal_place}
 use Rattle.ps_grammar.specs.Spelling.{Piece, Mark, pieces}
 use Rattle.ps_grammar.specs.Words.{Word}
-use Rattle.ps_parse.specs.Reading.{At, Read, is_kind, begins_with, place_of_next, word_from, word_at, after_word}
+use Rattle.ps_parse.specs.Reading.{WordsAhead, ReadWords, is_kind, begins_with, place_of_next, word_from, next_word, after_word}
 use Rattle.ps_lines.specs.Steps.{◌>>=◌}
 use Rattle.ps_parse.proofs.Steps.{one_kind, same_kind, Takes, takes_pieces, begins_piece, begins_pieces}
 use Rattle.ps_parse.proofs.Guards.{Keeps, keeps_bind, keeps_more}
@@ -28,12 +28,12 @@ pub record Whole : Type 0 where
 
 -- The words that were passed, the nearest first, and those ahead are the whole text; no word that was passed has a cause
 -- of a refusal; and the names are those that were declared.
-pub record In (t : Whole) (names : Names) (back : List Word) (at : At) : Type 0 where
+pub record In (t : Whole) (names : Names) (back : List Word) (at : WordsAhead) : Type 0 where
   pub whole : words_at back at.words ≡ t.words
   pub ends : at.end ≡ t.end
   pub clean : IsClean back at.words
-  pub known : (x : List ℕ) (v : Var) → variable_of names x ≡ Some v → Contains (declared_in back) x
-  pub unknown : (x : List ℕ) → variable_of names x ≡ None → ¬ Contains (declared_in back) x
+  pub known : (x : List ℕ) (v : Var) → variable_of_name names x ≡ Some v → Contains (declared_in back) x
+  pub unknown : (x : List ℕ) → variable_of_name names x ≡ None → ¬ Contains (declared_in back) x
 
 -- what a refusal promises
 abbrev pub Blamed : Whole → ReadRefusal → Type 0
@@ -63,7 +63,7 @@ pub record Allows (back : List Word) (w : Word) (ahead : List Word) : Type 0 whe
   pub globals : w.kind ≡ kind.Name → begins_with kind.Global back ≡ true → count_of kind.Global back ≤ most_globals
   pub locals : w.kind ≡ kind.Name → begins_with kind.Local back ≡ true → count_of kind.Local back ≤ most_locals
   pub loops : w.kind ≡ kind.While → ¬ Contains (levels back) atomic_block
-  pub rows : opens_item w.kind ≡ true → (rows : ℕ) → GivesRows (w ∷ ahead) rows → rows_in back + rows ≤ most_rows
+  pub rows : opens_item w.kind ≡ true → (rows : ℕ) → GivesRows (w ∷ ahead) rows → rows_passed back + rows ≤ most_rows
   pub depth : opens_level w.kind ≡ true → length (levels back) < most_levels
 
 pub no_cause : {back : List Word} {w : Word} {ahead : List Word} → Allows back w ahead → (other : ReadRefusal) → ¬ IsCauseAt back w ahead other
@@ -205,7 +205,7 @@ level_word w k back atomic ls e a h =
 -- ---- refusals
 
 pub blame : {t : Whole} {names : Names} {back ws : List Word} {end : Place} (e : ReadRefusal) → In t names back (record { words = ws; end = end }) → refusal_place e ≡ Some (place_of_next ws end)
-    → HasCause back ws e → ((other : ReadRefusal) → IsCause back ws other → rank e ≤ rank other) → Blamed t e
+    → HasCauseOf back ws e → ((other : ReadRefusal) → IsCause back ws other → rank e ≤ rank other) → Blamed t e
 blame {back = back} {ws = ws} e h place cause least = record {
   back = back;
   ahead = ws;
@@ -291,14 +291,14 @@ pub if_keeps : {A : Type 0} (t : Bool) (r s : Result A ReadRefusal) (Q : A → T
 if_keeps true r s Q R h k = h refl
 if_keeps false r s Q R h k = k refl
 
-pub after_keeps : {A : Type 0} (k : TokenKind) (read : Read A) (at : At) (Q : Word × At → Type 0) (Q' : A × At → Type 0) (R : ReadRefusal → Type 0) → Keeps (word_at k at) Q R → ((w : Word × At) → Q w → Keeps (read w.1) Q' R) → Keeps (after_word k read at) Q' R
+pub after_keeps : {A : Type 0} (k : TokenKind) (read : ReadWords A) (at : WordsAhead) (Q : Word × WordsAhead → Type 0) (Q' : A × WordsAhead → Type 0) (R : ReadRefusal → Type 0) → Keeps (next_word k at) Q R → ((w : Word × WordsAhead) → Q w → Keeps (read w.1) Q' R) → Keeps (after_word k read at) Q' R
 unfolding after_word
 after_keeps k read at Q Q' R h n = then_keeps _ _ Q Q' R h n
 
 -- a word of the kind stands next
-pub found_word : {t : Whole} {names : Names} {back : List Word} {at : At} (k : TokenKind) → In t names back at → Linear back at.words
-    → Keeps (word_at k at) (λ y. (y.0.kind ≡ k) × In t names back (record { words = y.0 ∷ y.1.words; end = y.1.end })) (Blamed t)
-unfolding word_at
+pub found_word : {t : Whole} {names : Names} {back : List Word} {at : WordsAhead} (k : TokenKind) → In t names back at → Linear back at.words
+    → Keeps (next_word k at) (λ y. (y.0.kind ≡ k) × In t names back (record { words = y.0 ∷ y.1.words; end = y.1.end })) (Blamed t)
+unfolding next_word
 found_word {t = t} {names = names} {back = back} {at = at} k h l = by_words at.words at.end h l
   where
     by_words : (ws : List Word) (end : Place) → In t names back (record { words = ws; end = end }) → Linear back ws → Keeps (word_from k ws end) (λ y. (y.0.kind ≡ k) × In t names back (record { words = y.0 ∷ y.1.words; end = y.1.end })) (Blamed t)
@@ -307,6 +307,6 @@ found_word {t = t} {names = names} {back = back} {at = at} k h l = by_words at.w
         if_keeps (is_kind w.kind k) _ _ _ _ (λ e. record { is = (one_kind w.kind k e, h) }) (λ e. record { is = grammar_blamed h l })
 
 -- the same, and it is passed
-pub word_keeps : {t : Whole} {names : Names} {back : List Word} {at : At} (k : TokenKind) → In t names back at → Linear back at.words → is_declaration back ≡ false → ((w : Word) (ahead : List Word) → w.kind ≡ k → Allows back w ahead)
-    → Keeps (word_at k at) (λ y. (y.0.kind ≡ k) × In t names (y.0 ∷ back) y.1) (Blamed t)
+pub word_keeps : {t : Whole} {names : Names} {back : List Word} {at : WordsAhead} (k : TokenKind) → In t names back at → Linear back at.words → is_declaration back ≡ false → ((w : Word) (ahead : List Word) → w.kind ≡ k → Allows back w ahead)
+    → Keeps (next_word k at) (λ y. (y.0.kind ≡ k) × In t names (y.0 ∷ back) y.1) (Blamed t)
 word_keeps k h l outside allows = keeps_more _ _ _ _ _ (found_word k h l) (λ y p. (p.0, stepped p.1 outside (allows y.0 y.1.words p.0))) (λ e b. b)

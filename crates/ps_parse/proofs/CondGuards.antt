@@ -10,7 +10,7 @@ use Rattle.ps_tree.specs.declared.limit_name.LimitName.TheVariants as limit
 use Rattle.ps_parse.specs.declared.read_refusal.ReadRefusal.TheVariants.{Limit}
 use Rattle.ps_grammar.specs.Grammar.{CondText, last_conj, last_unary, UnaryText, negation, in_parens, relation, TestText, either, condition}
 use Rattle.ps_grammar.specs.Words.{Word}
-use Rattle.ps_parse.specs.Reading.{At, Read, next_is, place_at, after_word}
+use Rattle.ps_parse.specs.Reading.{WordsAhead, ReadWords, next_is, place_at, after_word}
 use Rattle.ps_parse.specs.Sums.{sign_of, relation_at}
 use Rattle.ps_parse.specs.Conds.{one_or_all, members_at, conj_with, cond_with, opens_at, unary_at, cond_at, test_at, parens_at}
 use Rattle.ps_grammar.specs.Spelling.{Piece, Mark, relation_pieces, cond_pieces, conj_pieces, unary_pieces, test_pieces}
@@ -26,7 +26,7 @@ use Rattle.ps_parse.proofs.SumGuards.{Two, GuardsIn, all_always, relation_guards
 
 -- ---- members
 
-members_guards : {C : Type 0} (t : Two) (read : Read Cond) (read' : ℕ → Read Cond) (spell : C → List Piece) (follows : List Piece → Type 0) (all : List Cond → Cond) (between : TokenKind) → IsMark between → ((rest : List Piece) → follows (Mark between ∷ rest)) → Example spell Always
+members_guards : {C : Type 0} (t : Two) (read : ReadWords Cond) (read' : ℕ → ReadWords Cond) (spell : C → List Piece) (follows : List Piece → Type 0) (all : List Cond → Cond) (between : TokenKind) → IsMark between → ((rest : List Piece) → follows (Mark between ∷ rest)) → Example spell Always
     → GuardsIn t read read' spell Any follows → GuardsIn t (members_at all between read t.most) (λ i. members_at all between (read' i) (t.most' i)) (members_pieces between spell) Any (Ends (begins_piece between) follows)
 unfolding members_at
 members_guards {C = C} t read read' spell follows all between marked joins example g =
@@ -50,13 +50,13 @@ conj_example = record { text = last_unary unary_example.text; fine = tt; words =
 pub cond_example : Example cond_pieces Always
 cond_example = record { text = last_conj conj_example.text; fine = tt; words = conj_example.words; spelled = conj_example.spelled }
 
-conj_guards : (t : Two) (read : Read Cond) (read' : ℕ → Read Cond) → GuardsIn t read read' unary_pieces Any SumEnds → GuardsIn t (conj_with read t.most) (λ i. conj_with (read' i) (t.most' i)) conj_pieces Any ConjEnds
+conj_guards : (t : Two) (read : ReadWords Cond) (read' : ℕ → ReadWords Cond) → GuardsIn t read read' unary_pieces Any SumEnds → GuardsIn t (conj_with read t.most) (λ i. conj_with (read' i) (t.most' i)) conj_pieces Any ConjEnds
 unfolding conj_with
 conj_guards t read read' g =
     guards_as conj_pieces Always (λ c. conj_chain c.0 c.1) (λ c. (conj_first c, conj_rest c)) conj_back (λ c. conj_spelled c.0 c.1) (λ c h. tt) (λ c h. tt)
     (members_guards t read read' unary_pieces SumEnds cond.And kind.And (λ u. refl) (λ rest. (refl, refl)) unary_example g)
 
-cond_with_guards : (t : Two) (read : Read Cond) (read' : ℕ → Read Cond) → GuardsIn t read read' unary_pieces Any SumEnds → GuardsIn t (cond_with read t.most) (λ i. cond_with (read' i) (t.most' i)) cond_pieces Any CondEnds
+cond_with_guards : (t : Two) (read : ReadWords Cond) (read' : ℕ → ReadWords Cond) → GuardsIn t read read' unary_pieces Any SumEnds → GuardsIn t (cond_with read t.most) (λ i. cond_with (read' i) (t.most' i)) cond_pieces Any CondEnds
 unfolding cond_with
 cond_with_guards t read read' g =
     guards_as cond_pieces Always (λ c. cond_chain c.0 c.1) (λ c. (cond_first c, cond_rest c)) cond_back (λ c. cond_spelled c.0 c.1) (λ c h. tt) (λ c h. tt)
@@ -89,7 +89,7 @@ opens_test : IsTest opens_at
 unfolding opens_at
 opens_test = record { same = λ at at' h. ap (λ (t : Bool). t || next_is kind.OpenParen at) ((next_test kind.Not).same at at' h) ∙ ap (λ (t : Bool). next_is kind.Not at' || t) ((next_test kind.OpenParen).same at at' h) }
 
-opens_ahead : (n : ℕ) (at : At) (ps : List Piece) → Ahead n at ps → opens_at at ≡ begins_opening ps
+opens_ahead : (n : ℕ) (at : WordsAhead) (ps : List Piece) → Ahead n at ps → opens_at at ≡ begins_opening ps
 unfolding opens_at
 opens_ahead n at ps h = ap (λ (t : Bool). t || next_is kind.OpenParen at) (next_ahead kind.Not h) ∙ ap (λ (t : Bool). begins_piece kind.Not ps || t) (next_ahead kind.OpenParen h)
 
@@ -103,7 +103,7 @@ parens_example =
     let e : Example (λ c. Mark kind.OpenParen ∷ (cond_pieces c ++ Mark kind.CloseParen ∷ [])) Always = example_after kind.OpenParen (λ u. refl) (example_closed kind.CloseParen (λ u. refl) cond_example) in
     record { text = in_parens e.text; fine = tt; words = e.words; spelled = e.spelled }
 
-opening_resumed : (at : At) → opens_at at ≡ true → Resumed unary_pieces Always at.words (Limit (place_at at) limit.Depth)
+opening_resumed : (at : WordsAhead) → opens_at at ≡ true → Resumed unary_pieces Always at.words (Limit (place_at at) limit.Depth)
 unfolding opens_at not_example parens_example
 opening_resumed at h = by_test (next_is kind.Not at) refl
   where

@@ -9,7 +9,7 @@ use Rattle.ps_tree.specs.declared.cond.Cond.{Cond}
 use Rattle.ps_tree.specs.declared.cond.Cond.TheVariants as cond
 use Rattle.ps_tree.specs.declared.cond.Test.TheVariants as test
 use Rattle.ps_grammar.specs.Grammar.{CondText, last_conj, or_else, ConjText, last_unary, and_also, UnaryText, negation, in_parens, relation, TestText, either, condition}
-use Rattle.ps_parse.specs.Reading.{At, Read, next_is, after_word}
+use Rattle.ps_parse.specs.Reading.{WordsAhead, ReadWords, next_is, after_word}
 use Rattle.ps_grammar.specs.Names.{Names}
 use Rattle.ps_parse.specs.Sums.{sign_of, relation_at}
 use Rattle.ps_parse.specs.Conds.{one_or_all, members_at, conj_with, cond_with, opens_at, unary_at, cond_at, test_at, parens_at}
@@ -50,7 +50,7 @@ members_go_on between spell follows joins = record {
   some = λ c. omega arith;
 }
 
-members_exact : {C : Type 0} (n : ℕ) (read : Read Cond) (spell : C → List Piece) (fits : C → Type 0) (tree : C → Cond) (follows : List Piece → Type 0) (all : List Cond → Cond) (between : TokenKind)
+members_exact : {C : Type 0} (n : ℕ) (read : ReadWords Cond) (spell : C → List Piece) (fits : C → Type 0) (tree : C → Cond) (follows : List Piece → Type 0) (all : List Cond → Cond) (between : TokenKind)
     → IsMark between → ((rest : List Piece) → follows (Mark between ∷ rest)) → Exact n read spell fits (Is tree) follows
     → Exact n (members_at all between read n) (members_pieces between spell) (MembersFit fits) (Is (members_tree all tree)) (Ends (begins_piece between) follows)
 unfolding members_at
@@ -115,13 +115,13 @@ ConjEnds = Ends (begins_piece kind.And) SumEnds
 abbrev pub CondEnds : List Piece → Type 0
 CondEnds = Ends (begins_piece kind.Or) ConjEnds
 
-abbrev pub UnaryExact : ℕ → Names → ℕ → Read Cond → Type 0
+abbrev pub UnaryExact : ℕ → Names → ℕ → ReadWords Cond → Type 0
 UnaryExact n names levels read = Exact n read unary_pieces (UnaryFits names levels) (Is (unary_tree names)) SumEnds
 
-abbrev pub CondExact : ℕ → Names → ℕ → Read Cond → Type 0
+abbrev pub CondExact : ℕ → Names → ℕ → ReadWords Cond → Type 0
 CondExact n names levels read = Exact n read cond_pieces (CondFits names levels) (Is (cond_tree names)) CondEnds
 
-conj_exact : (n : ℕ) (names : Names) (levels : ℕ) (unary : Read Cond) → UnaryExact n names levels unary → Exact n (conj_with unary n) conj_pieces (ConjFits names levels) (Is (conj_tree names)) ConjEnds
+conj_exact : (n : ℕ) (names : Names) (levels : ℕ) (unary : ReadWords Cond) → UnaryExact n names levels unary → Exact n (conj_with unary n) conj_pieces (ConjFits names levels) (Is (conj_tree names)) ConjEnds
 unfolding conj_with
 conj_exact n names levels unary exact =
     exact_as conj_pieces (ConjFits names levels) (Is (conj_tree names)) (λ c. conj_chain c.0 c.1) (λ c. (conj_first c, conj_rest c)) conj_back (λ c. conj_spelled c.0 c.1) (λ c h. conj_fit names levels c.0 c.1 h.0 h.1) (conj_unfit names levels)
@@ -167,7 +167,7 @@ unfolding cond_chain
 cond_tree_is names u [] = refl
 cond_tree_is names u (v ∷ vs) = ap (λ (cs : List Cond). conj_tree names u ∷ cs) (cond_tree_is names v vs)
 
-cond_with_exact : (n : ℕ) (names : Names) (levels : ℕ) (unary : Read Cond) → UnaryExact n names levels unary → CondExact n names levels (cond_with unary n)
+cond_with_exact : (n : ℕ) (names : Names) (levels : ℕ) (unary : ReadWords Cond) → UnaryExact n names levels unary → CondExact n names levels (cond_with unary n)
 unfolding cond_with
 cond_with_exact n names levels unary exact =
     exact_as cond_pieces (CondFits names levels) (Is (cond_tree names)) (λ c. cond_chain c.0 c.1) (λ c. (cond_first c, cond_rest c)) cond_back (λ c. cond_spelled c.0 c.1) (λ c h. cond_fit names levels c.0 c.1 h.0 h.1) (cond_unfit names levels)
@@ -182,16 +182,16 @@ one_less levels = omega arith
 rel_exact : (n : ℕ) (names : Names) → Exact n (mapped cond.Rel (relation_at sign_of (Some names) n)) relation_pieces (RelationIn sign_of (Some names)) (Is (λ r. cond.Rel (relation_tree names r))) SumEnds
 rel_exact n names = mapped_exact _ cond.Rel (λ r ps y h. ap cond.Rel h.1) (relation_exact n sign_of all_signs (Some names))
 
-rel_found : (n : ℕ) (names : Names) (levels : ℕ) (at : At) → Finds (mapped cond.Rel (relation_at sign_of (Some names) n) at) (Spelled unary_pieces (UnaryFits names levels) (Is (unary_tree names)) at)
+rel_found : (n : ℕ) (names : Names) (levels : ℕ) (at : WordsAhead) → Finds (mapped cond.Rel (relation_at sign_of (Some names) n) at) (Spelled unary_pieces (UnaryFits names levels) (Is (unary_tree names)) at)
 rel_found n names levels at = found_more _ _ _ ((rel_exact n names).found at) (λ y p. record { text = relation p.text; taken = p.taken; fit = p.fit.0; is = p.is })
 
-not_exact : (n : ℕ) (names : Names) (levels : ℕ) (unary : Read Cond) → UnaryExact n names levels unary → Exact n (mapped cond.Not (after_word kind.Not unary)) (λ u. unary_pieces (negation u)) (UnaryFits names levels) (Is (λ u. unary_tree names (negation u))) SumEnds
+not_exact : (n : ℕ) (names : Names) (levels : ℕ) (unary : ReadWords Cond) → UnaryExact n names levels unary → Exact n (mapped cond.Not (after_word kind.Not unary)) (λ u. unary_pieces (negation u)) (UnaryFits names levels) (Is (λ u. unary_tree names (negation u))) SumEnds
 not_exact n names levels unary exact = mapped_exact _ cond.Not (λ c ps y h. ap cond.Not h) (after_exact kind.Not (λ t. refl) exact)
 
-in_parens_exact : (n : ℕ) (names : Names) (levels : ℕ) (unary : Read Cond) → UnaryExact n names levels unary → Exact n (closed kind.CloseParen (after_word kind.OpenParen (cond_with unary n))) (λ c. unary_pieces (in_parens c)) (CondFits names levels) (Is (cond_tree names)) Always
+in_parens_exact : (n : ℕ) (names : Names) (levels : ℕ) (unary : ReadWords Cond) → UnaryExact n names levels unary → Exact n (closed kind.CloseParen (after_word kind.OpenParen (cond_with unary n))) (λ c. unary_pieces (in_parens c)) (CondFits names levels) (Is (cond_tree names)) Always
 in_parens_exact n names levels unary exact = closed_exact kind.CloseParen (λ t. refl) (λ rest. (refl, (refl, (refl, refl)))) (after_exact kind.OpenParen (λ t. refl) (cond_with_exact n names levels unary exact))
 
-unary_found : (n : ℕ) (names : Names) (levels : ℕ) → UnaryExact n names levels (unary_at (Some names) n levels) → (at : At) → Finds (unary_at (Some names) n (suc levels) at) (Spelled unary_pieces (UnaryFits names (suc levels)) (Is (unary_tree names)) at)
+unary_found : (n : ℕ) (names : Names) (levels : ℕ) → UnaryExact n names levels (unary_at (Some names) n levels) → (at : WordsAhead) → Finds (unary_at (Some names) n (suc levels) at) (Spelled unary_pieces (UnaryFits names (suc levels)) (Is (unary_tree names)) at)
 unfolding unary_at
 unary_found n names levels exact at =
     found_if (next_is kind.Not at) _ _ _
@@ -210,7 +210,7 @@ unary_found n names levels exact at =
     }))
     (rel_found n names (suc levels) at))
 
-unary_again : (n : ℕ) (names : Names) (levels : ℕ) → UnaryExact n names levels (unary_at (Some names) n levels) → (at : At) (u : UnaryText) (rest : List Piece) → UnaryFits names (suc levels) u → Ahead n at (unary_pieces u ++ rest) → SumEnds rest → Gets (unary_at (Some names) n (suc levels) at) (λ y. (y.0 ≡ unary_tree names u) × Ahead n y.1 rest)
+unary_again : (n : ℕ) (names : Names) (levels : ℕ) → UnaryExact n names levels (unary_at (Some names) n levels) → (at : WordsAhead) (u : UnaryText) (rest : List Piece) → UnaryFits names (suc levels) u → Ahead n at (unary_pieces u ++ rest) → SumEnds rest → Gets (unary_at (Some names) n (suc levels) at) (λ y. (y.0 ≡ unary_tree names u) × Ahead n y.1 rest)
 unfolding unary_at
 unary_again n names levels exact at (negation u) rest fit h stop =
     gets_true (next_is kind.Not at) _ _ _ (next_ahead kind.Not h)
@@ -224,11 +224,11 @@ unary_again n names levels exact at (relation r) rest fit h stop =
     (gets_false (next_is kind.OpenParen at) _ _ _ (next_ahead kind.OpenParen h ∙ relation_begins kind.OpenParen refl refl refl r rest)
     ((rel_exact n names).again at r rest (fit, every_sign r.sign) h stop))
 
-last_found : (n : ℕ) (names : Names) (at : At) → Finds (unary_at (Some names) n zero at) (Spelled unary_pieces (UnaryFits names zero) (Is (unary_tree names)) at)
+last_found : (n : ℕ) (names : Names) (at : WordsAhead) → Finds (unary_at (Some names) n zero at) (Spelled unary_pieces (UnaryFits names zero) (Is (unary_tree names)) at)
 unfolding unary_at
 last_found n names at = found_if (opens_at at) _ _ _ (record { is = tt }) (rel_found n names zero at)
 
-last_again : (n : ℕ) (names : Names) (at : At) (u : UnaryText) (rest : List Piece) → UnaryFits names zero u → Ahead n at (unary_pieces u ++ rest) → SumEnds rest → Gets (unary_at (Some names) n zero at) (λ y. (y.0 ≡ unary_tree names u) × Ahead n y.1 rest)
+last_again : (n : ℕ) (names : Names) (at : WordsAhead) (u : UnaryText) (rest : List Piece) → UnaryFits names zero u → Ahead n at (unary_pieces u ++ rest) → SumEnds rest → Gets (unary_at (Some names) n zero at) (λ y. (y.0 ≡ unary_tree names u) × Ahead n y.1 rest)
 unfolding unary_at opens_at
 last_again n names at (negation u) rest fit h stop = absurd (omega (arith, fit.0))
 last_again n names at (in_parens c) rest fit h stop = absurd (omega (arith, fit.0))
@@ -268,7 +268,7 @@ pub cond_begins : (c : CondText) (rest : List Piece) → Not kind.Star (cond_pie
 cond_begins (last_conj c) rest = conj_begins c rest
 cond_begins (or_else c d) rest = subst (Not kind.Star) (sym (append_assoc (conj_pieces c) (Mark kind.Or ∷ cond_pieces d) rest)) (conj_begins c _)
 
-inner_found : (n : ℕ) (names : Names) (levels : ℕ) (at : At) → Finds (test_at (Some names) n levels at) (Spelled inner_pieces (InnerFits names levels) (Is (test_tree names)) at)
+inner_found : (n : ℕ) (names : Names) (levels : ℕ) (at : WordsAhead) → Finds (test_at (Some names) n levels at) (Spelled inner_pieces (InnerFits names levels) (Is (test_tree names)) at)
 unfolding test_at
 inner_found n names levels at =
     found_if (next_is kind.Star at) _ _ _
@@ -277,7 +277,7 @@ inner_found n names levels at =
     (found_bind _ _ _ _ ((cond_exact n names levels).found at) (λ c p.
     found_end _ _ (record { text = condition p.text; taken = p.taken; fit = p.fit; is = ap test.Cond p.is })))
 
-inner_again : (n : ℕ) (names : Names) (levels : ℕ) (at : At) (t : TestText) (rest : List Piece) → InnerFits names levels t → Ahead n at (inner_pieces t ++ rest) → CondEnds rest → Gets (test_at (Some names) n levels at) (λ y. (y.0 ≡ test_tree names t) × Ahead n y.1 rest)
+inner_again : (n : ℕ) (names : Names) (levels : ℕ) (at : WordsAhead) (t : TestText) (rest : List Piece) → InnerFits names levels t → Ahead n at (inner_pieces t ++ rest) → CondEnds rest → Gets (test_at (Some names) n levels at) (λ y. (y.0 ≡ test_tree names t) × Ahead n y.1 rest)
 unfolding test_at
 inner_again n names levels at either rest fit h stop =
     gets_true (next_is kind.Star at) _ _ _ (next_ahead kind.Star h)

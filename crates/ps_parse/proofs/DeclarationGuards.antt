@@ -16,13 +16,13 @@ use Rattle.ps_term.specs.declared.var.Var.{Var}
 use Rattle.ps_parse.specs.declared.read_refusal.ReadRefusal.TheVariants.{Limit, Twice}
 use Rattle.ps_grammar.specs.Grammar.{RelationText, ValueText, ItemText, global, local, init}
 use Rattle.ps_grammar.specs.Words.{Word}
-use Rattle.ps_parse.specs.Reading.{At, Read, next_is, place_at, word_at, after_word, while_at}
-use Rattle.ps_grammar.specs.Names.{Names, variable_of}
+use Rattle.ps_parse.specs.Reading.{WordsAhead, ReadWords, next_is, place_at, next_word, after_word, words_while}
+use Rattle.ps_grammar.specs.Names.{Names, variable_of_name}
 use Rattle.ps_grammar.specs.Numbers.{number_value}
 use Rattle.ps_parse.specs.Sums.{init_sign_of, relation_at}
 use Rattle.ps_parse.specs.Blocks.{ended_at}
 use Rattle.ps_grammar.specs.Declarations.{Declared, most_globals, most_locals, most_rows, nothing_declared, names_of}
-use Rattle.ps_parse.specs.Items.{is_declared, refused_name, new_name_at, number_at, value_at, global_at, local_at, init_at, item_rows, counted_item_at, with_rows, item_at, has_item}
+use Rattle.ps_parse.specs.Items.{is_some_variable, refused_name, new_name_at, signed_number_ahead, declared_value_ahead, global_at, local_at, init_at, item_rows, counted_item_at, with_rows, item_at, has_item}
 use Rattle.ps_grammar.specs.Spelling.{Piece, NamePiece, Mark, relation_pieces, value_pieces, item_pieces}
 use Rattle.ps_parse.specs.Reads.{HasInitSigns, refusal_place}
 use Rattle.ps_parse.proofs.Steps.{begins_piece, next_ahead, Not, Always, gets_bind, gets_end, gets_more}
@@ -39,8 +39,8 @@ use Rattle.ps_parse.proofs.StmtGuards.{ended_guards}
 
 -- ---- names
 
-abbrev free_name : Read (List ℕ)
-free_name = mapped (λ (w : Word). w.text) (word_at kind.Name)
+abbrev free_name : ReadWords (List ℕ)
+free_name = mapped (λ (w : Word). w.text) (next_word kind.Name)
 
 new_guards : (n : ℕ) (n' most : ℕ → ℕ) (d : Declared) (count limit' : ℕ) (what : LimitName) → Guards n n' most (new_name_at d count limit' what) (λ i. free_name) name_piece Always Any Always
 unfolding new_name_at
@@ -48,7 +48,7 @@ new_guards n n' most d count limit' what = record {
   never = λ i at x rest fine h _. lets_bind _ _ _ _ ((word_guards n n' most kind.Name).never i at x rest tt h tt) (λ w p. lets_end _ _ p);
   stuck = λ at room.
       keeps_bind _ _ _ _ _ _ (placed_word n n' most kind.Name at room)
-      (λ w p. by_tests at w p.0 p.1 (is_declared (variable_of (names_of d) w.0.text)) (nat_le limit' count))
+      (λ w p. by_tests at w p.0 p.1 (is_some_variable (variable_of_name (names_of d) w.0.text)) (nat_le limit' count))
       (λ e r. record {
         text = r.text;
         fine = tt;
@@ -63,7 +63,7 @@ new_guards n n' most d count limit' what = record {
       });
 }
   where
-    at_name : (at : At) (w : Word × At) (e : ReadRefusal) → Went n' (λ i. word_at kind.Name) name_piece Always Same at w → place_at at ≡ w.0.place → refusal_place e ≡ Some w.0.place → Lets {A = Var} (Err e) (λ _. ⊥) → Stood n' (λ i. free_name) name_piece Always at e
+    at_name : (at : WordsAhead) (w : Word × WordsAhead) (e : ReadRefusal) → Went n' (λ i. next_word kind.Name) name_piece Always Same at w → place_at at ≡ w.0.place → refusal_place e ≡ Some w.0.place → Lets {A = Var} (Err e) (λ _. ⊥) → Stood n' (λ i. free_name) name_piece Always at e
     at_name at w e p place is other = record {
       text = p.text;
       fine = tt;
@@ -77,7 +77,7 @@ new_guards n n' most d count limit' what = record {
       same = λ g i at' more room' s h. absurd (not_grammar e other g);
     }
 
-    by_tests : (at : At) (w : Word × At) → Went n' (λ i. word_at kind.Name) name_piece Always Same at w → place_at at ≡ w.0.place → (t u : Bool) → Keeps (refused_name t u what w) (Went n' (λ i. free_name) name_piece Always Any at) (Stood n' (λ i. free_name) name_piece Always at)
+    by_tests : (at : WordsAhead) (w : Word × WordsAhead) → Went n' (λ i. next_word kind.Name) name_piece Always Same at w → place_at at ≡ w.0.place → (t u : Bool) → Keeps (refused_name t u what w) (Went n' (λ i. free_name) name_piece Always Any at) (Stood n' (λ i. free_name) name_piece Always at)
     by_tests at w p place true u = record { is = at_name at w (Twice w.0.place) p place refl (record { is = tt }) }
     by_tests at w p place false true = record { is = at_name at w (Limit w.0.place what) p place refl (record { is = tt }) }
     by_tests at w p place false false = keeps_end _ _ _ (record {
@@ -96,8 +96,8 @@ number_sort : (negative : Bool) (digits : List ℕ) → OfSort (begins_piece kin
 number_sort true digits = inl (record { text = digits; fine = tt; same = refl; tells = λ rest h. refl })
 number_sort false digits = inr (record { text = digits; fine = tt; same = refl; tells = λ rest h. refl })
 
-number_guards : (n : ℕ) (n' most : ℕ → ℕ) → Guards n n' most number_at (λ i. number_at) number_pieces Always Any Always
-unfolding number_at
+number_guards : (n : ℕ) (n' most : ℕ → ℕ) → Guards n n' most signed_number_ahead (λ i. signed_number_ahead) number_pieces Always Any Always
+unfolding signed_number_ahead
 number_guards n n' most =
     choice_guards number_pieces Always Always (next_is kind.Minus) (begins_piece kind.Minus) (next_test kind.Minus) (λ k at ps h. next_ahead kind.Minus h)
     (λ d. record { negative = true; digits = d }) (λ d. refl) (λ d h. tt) (λ d. record { negative = false; digits = d }) (λ d. refl) (λ d h. tt)
@@ -112,8 +112,8 @@ value_sort : (v : Option ValueText) → Always v → OfSort (begins_piece kind.E
 value_sort None ok = inr (record { text = tt; fine = tt; same = refl; tells = λ rest h. h })
 value_sort (Some v) ok = inl (record { text = v; fine = tt; same = refl; tells = λ rest h. refl })
 
-value_guards : (n : ℕ) (n' most : ℕ → ℕ) → Guards n n' most value_at (λ i. value_at) value_pieces Always Any (Not kind.Equal)
-unfolding value_at
+value_guards : (n : ℕ) (n' most : ℕ → ℕ) → Guards n n' most declared_value_ahead (λ i. declared_value_ahead) value_pieces Always Any (Not kind.Equal)
+unfolding declared_value_ahead
 value_guards n n' most =
     choice_guards value_pieces Always (Not kind.Equal) (next_is kind.Equal) (begins_piece kind.Equal) (next_test kind.Equal) (λ k at ps h. next_ahead kind.Equal h)
     (λ v. Some v) (λ v. refl) (λ v h. tt) (λ (u : Unit {0}). None) (λ u. refl) (λ u h. tt) value_sort (λ rest h. tt) (λ rest h. tt)
@@ -125,19 +125,19 @@ value_example = record { text = None; fine = tt; words = record { kind = kind.Se
 
 -- ---- declarations
 
-abbrev free_global : Read Declared
-free_global = mapped (λ (p : List ℕ × Option ℤ). nothing_declared) (both pair_up (after_word kind.Global free_name) (ended_at value_at))
+abbrev free_global : ReadWords Declared
+free_global = mapped (λ (p : List ℕ × Option ℤ). nothing_declared) (both pair_up (after_word kind.Global free_name) (ended_at declared_value_ahead))
 
 global_guards : (n : ℕ) (n' most : ℕ → ℕ) (d : Declared) → Guards n n' most (global_at d) (λ i. free_global) (λ (c : List ℕ × Option ValueText). item_pieces (global c.0 c.1)) Always Any Always
 unfolding global_at
 global_guards n n' most d =
     guards_as _ Always (λ c. c) (λ c. c) (λ c. refl) (λ c. refl) (λ c h. tt) (λ c h. (tt, tt))
-    (guards_same _ _ (paired (with_global d) (after_word kind.Global (new_name_at d (length d.globals) most_globals limit.Globals)) (ended_at value_at)) (λ i at. refl)
+    (guards_same _ _ (paired (with_global d) (after_word kind.Global (new_name_at d (length d.globals) most_globals limit.Globals)) (ended_at declared_value_ahead)) (λ i at. refl)
     (mapped_any (λ (p : List ℕ × Option ℤ). with_global d p.0 p.1) (λ (p : List ℕ × Option ℤ). nothing_declared)
     (both_guards {m = n} {m' = n'} Any pair_up (λ x y z w a b. tt) (after_guards {m = n} {m' = n'} kind.Global (λ u. refl) (omega arith) (λ i. omega arith) (new_guards n n' most d (length d.globals) most_globals limit.Globals) name_example)
     (λ c. omega arith) (λ i c. omega arith) (ended_guards (λ rest. refl) (value_guards n n' most)) value_example (λ v rest h. tt))))
 
-abbrev free_local : Read Declared
+abbrev free_local : ReadWords Declared
 free_local = mapped (λ (x : List ℕ). nothing_declared) (after_word kind.Local (ended_at free_name))
 
 local_guards : (n : ℕ) (n' most : ℕ → ℕ) (d : Declared) → Guards n n' most (local_at d) (λ i. free_local) (λ x. item_pieces (local x)) Always Any Always
@@ -156,8 +156,8 @@ beside n names = record { left = n; left' = λ i. i; most = n; most' = λ i. i; 
 abbrev InitOk : RelationText → Type 0
 InitOk r = SignIn init_sign_of r.sign
 
-abbrev free_init : ℕ → Read Declared
-free_init n = mapped (λ (p : Relation × List Relation). nothing_declared) (both pair_up (after_word kind.Init (relation_at init_sign_of None n)) (ended_at (while_at (next_is kind.And) (after_word kind.And (relation_at init_sign_of None n)) n)))
+abbrev free_init : ℕ → ReadWords Declared
+free_init n = mapped (λ (p : Relation × List Relation). nothing_declared) (both pair_up (after_word kind.Init (relation_at init_sign_of None n)) (ended_at (words_while (next_is kind.And) (after_word kind.And (relation_at init_sign_of None n)) n)))
 
 init_relation_guards : (n : ℕ) (names : Names) → Guards n (λ i. i) (λ i. i) (relation_at init_sign_of (Some names) n) (λ i. relation_at init_sign_of None i) relation_pieces InitOk Any SumEnds
 init_relation_guards n names = loosen (relation_guards (beside n names) init_sign_of init_signs refl)
@@ -191,7 +191,7 @@ init_guards n d =
     (λ c. ap (λ (ps : List Piece). Mark kind.Init ∷ (relation_pieces c.0 ++ (ps ++ Mark kind.Semicolon ∷ []))) (more_is c.1))
     (λ c h. All-from_recursion IsInitSign (c.0 ∷ c.1) (no_init_sign c.0.sign h.0, each c.1 h.1))
     (λ c h. (every_init_sign c.0.sign (All-head IsInitSign c.0 c.1 h), back c.1 (All-tail IsInitSign c.0 c.1 h)))
-    (guards_same _ _ (paired (with_inits d) (after_word kind.Init (relation_at init_sign_of (Some (names_of d)) n)) (ended_at (while_at (next_is kind.And) (after_word kind.And (relation_at init_sign_of (Some (names_of d)) n)) n))) (λ i at. refl)
+    (guards_same _ _ (paired (with_inits d) (after_word kind.Init (relation_at init_sign_of (Some (names_of d)) n)) (ended_at (words_while (next_is kind.And) (after_word kind.And (relation_at init_sign_of (Some (names_of d)) n)) n))) (λ i at. refl)
     (mapped_any (λ (p : Relation × List Relation). with_inits d p.0 p.1) (λ (p : Relation × List Relation). nothing_declared)
     (both_guards {m = n} {m' = λ i. i} Any pair_up (λ x y z w a b. tt) (after_guards {m = n} {m' = λ i. i} kind.Init (λ u. refl) (omega arith) (λ i. omega arith) (init_relation_guards n (names_of d)) init_example)
     (λ c. omega arith) (λ i c. omega arith)
@@ -209,7 +209,7 @@ init_guards n d =
 
 -- ---- items
 
-abbrev pub free_item : ℕ → Read Declared
+abbrev pub free_item : ℕ → ReadWords Declared
 free_item n at = if next_is kind.Global at then free_global at else (if next_is kind.Local at then free_local at else free_init n at)
 
 -- it isn't a global
@@ -262,7 +262,7 @@ init_item =
     record { text = init e.text []; fine = All-from_recursion IsInitSign (e.text ∷ []) (no_init_sign e.text.sign e.fine, tt); words = e.words; spelled = e.spelled }
 
 -- an item that begins as the one that is refused
-item_resumed : (at : At) (refused : ReadRefusal) → has_item at ≡ true → Resumed item_pieces HasInitSigns at.words refused
+item_resumed : (at : WordsAhead) (refused : ReadRefusal) → has_item at ≡ true → Resumed item_pieces HasInitSigns at.words refused
 unfolding global_item local_item init_item
 item_resumed at refused h = by_global (next_is kind.Global at) refl
   where
@@ -283,7 +283,7 @@ item_guards n d = record {
   stuck = λ at room on. by_test at room on (nat_lt most_rows (d.rows + item_rows n at));
 }
   where
-    by_test : (at : At) → length at.words < suc n → has_item at ≡ true → (t : Bool)
+    by_test : (at : WordsAhead) → length at.words < suc n → has_item at ≡ true → (t : Bool)
         → Keeps (if t then Err (Limit (place_at at) limit.Init) else counted_item_at (with_rows (d.rows + item_rows n at) d) n at) (Went (λ i. suc i) free_item item_pieces HasInitSigns Any at) (Stood (λ i. suc i) free_item item_pieces HasInitSigns at)
     by_test at room on true =
         let r : Resumed item_pieces HasInitSigns at.words (Limit (place_at at) limit.Init) = item_resumed at (Limit (place_at at) limit.Init) on in

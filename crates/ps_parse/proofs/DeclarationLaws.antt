@@ -14,14 +14,14 @@ use Rattle.ps_tree.specs.declared.relation.Relation.{Relation}
 use Rattle.ps_tree.specs.declared.relation.Sign.TheVariants as sign
 use Rattle.ps_grammar.specs.Grammar.{RelationText, ValueText, ItemText, global, local, init}
 use Rattle.ps_grammar.specs.Words.{Word}
-use Rattle.ps_parse.specs.Reading.{At, next_is, word_at, after_word}
-use Rattle.ps_grammar.specs.Names.{Names, variable_of}
+use Rattle.ps_parse.specs.Reading.{WordsAhead, next_is, next_word, after_word}
+use Rattle.ps_grammar.specs.Names.{Names, variable_of_name}
 use Rattle.ps_grammar.specs.Numbers.{number_value, signed}
 use Rattle.ps_parse.specs.Sums.{init_sign_of, relation_at}
 use Rattle.ps_grammar.specs.Declarations.{Declared, most_globals, most_locals, names_of}
-use Rattle.ps_parse.specs.Items.{is_declared, refused_name, new_name_at, number_at, value_at, global_at, local_at, init_at, counted_item_at, with_rows}
+use Rattle.ps_parse.specs.Items.{is_some_variable, refused_name, new_name_at, signed_number_ahead, declared_value_ahead, global_at, local_at, init_at, counted_item_at, with_rows}
 use Rattle.ps_grammar.specs.Spelling.{Piece, NumberPiece, Mark, minus_pieces, relation_pieces, value_pieces, more_relations, item_pieces}
-use Rattle.ps_grammar.specs.Trees.{relation_tree, value_of, with_item}
+use Rattle.ps_grammar.specs.Trees.{relation_tree, declared_value, with_item}
 use Rattle.ps_grammar.specs.Fits.{RelationFits, IsNew}
 use Rattle.ps_parse.proofs.Steps.{places, Takes, takes_none, takes_so, Ahead, begins_piece, next_ahead, Not, Always, Finds, Gets, found_bind, found_end, found_if, found_more, gets_bind, gets_end, gets_true, gets_false, Spelled, Exact}
 use Rattle.ps_parse.proofs.Sequences.{word_exact, exact_as, mapped, mapped_exact, after_exact, both_exact, ListSays, GoesOn, while_exact}
@@ -36,17 +36,17 @@ use Rattle.ps_parse.proofs.StmtLaws.{ended_exact, found_as}
 abbrev NewFits : Declared → ℕ → ℕ → List ℕ → Type 0
 NewFits d count most x = IsNew d x × (count < most)
 
-not_declared : (o : Option Var) → is_declared o ≡ false → o ≡ None
+not_declared : (o : Option Var) → is_some_variable o ≡ false → o ≡ None
 not_declared None h = refl
 not_declared (Some v) h = absurd cc
 
-refused_found : (d : Declared) (count most : ℕ) (what : LimitName) (w : Word × At) → Finds (refused_name (is_declared (variable_of (names_of d) w.0.text)) (nat_le most count) what w) (λ y. NewFits d count most w.0.text × (y ≡ (w.0.text, w.1)))
-refused_found d count most what w = by_tests (is_declared (variable_of (names_of d) w.0.text)) (nat_le most count) refl refl
+refused_found : (d : Declared) (count most : ℕ) (what : LimitName) (w : Word × WordsAhead) → Finds (refused_name (is_some_variable (variable_of_name (names_of d) w.0.text)) (nat_le most count) what w) (λ y. NewFits d count most w.0.text × (y ≡ (w.0.text, w.1)))
+refused_found d count most what w = by_tests (is_some_variable (variable_of_name (names_of d) w.0.text)) (nat_le most count) refl refl
   where
-    by_tests : (t u : Bool) → is_declared (variable_of (names_of d) w.0.text) ≡ t → nat_le most count ≡ u → Finds (refused_name t u what w) (λ y. NewFits d count most w.0.text × (y ≡ (w.0.text, w.1)))
+    by_tests : (t u : Bool) → is_some_variable (variable_of_name (names_of d) w.0.text) ≡ t → nat_le most count ≡ u → Finds (refused_name t u what w) (λ y. NewFits d count most w.0.text × (y ≡ (w.0.text, w.1)))
     by_tests true u a b = record { is = tt }
     by_tests false true a b = record { is = tt }
-    by_tests false false a b = record { is = ((not_declared (variable_of (names_of d) w.0.text) a, leb-false most count b), refl) }
+    by_tests false false a b = record { is = ((not_declared (variable_of_name (names_of d) w.0.text) a, leb-false most count b), refl) }
 
 new_exact : (n : ℕ) (d : Declared) (count most : ℕ) (what : LimitName) → Exact n (new_name_at d count most what) name_piece (NewFits d count most) (Is (λ x. x)) Always
 unfolding new_name_at
@@ -55,15 +55,15 @@ new_exact n d count most what = record {
       found_bind _ _ _ _ ((word_exact n kind.Name).found at) (λ w p.
       found_more _ _ _ (refused_found d count most what w) (λ y q. record {
         text = w.0.text;
-        taken = subst (λ (v : List ℕ × At). Takes at.words (name_piece w.0.text) v.1.words) (sym q.1) (takes_so (ap name_piece (sym p.is)) p.taken);
+        taken = subst (λ (v : List ℕ × WordsAhead). Takes at.words (name_piece w.0.text) v.1.words) (sym q.1) (takes_so (ap name_piece (sym p.is)) p.taken);
         fit = q.0;
-        is = ap (λ (v : List ℕ × At). v.0) q.1;
+        is = ap (λ (v : List ℕ × WordsAhead). v.0) q.1;
       }));
   again = λ at x rest fit h _.
       gets_bind _ _ _ _ ((word_exact n kind.Name).again at x rest tt h tt) (λ w p.
-      let fresh : variable_of (names_of d) w.0.text ≡ None = ap (variable_of (names_of d)) p.0 ∙ fit.0 in
-      let passes : refused_name (is_declared (variable_of (names_of d) w.0.text)) (nat_le most count) what w ≡ Ok (w.0.text, w.1) =
-      ap (λ (o : Option Var). refused_name (is_declared o) (nat_le most count) what w) fresh ∙ ap (λ (t : Bool). refused_name false t what w) (lt-leb most count fit.1) in
+      let fresh : variable_of_name (names_of d) w.0.text ≡ None = ap (variable_of_name (names_of d)) p.0 ∙ fit.0 in
+      let passes : refused_name (is_some_variable (variable_of_name (names_of d) w.0.text)) (nat_le most count) what w ≡ Ok (w.0.text, w.1) =
+      ap (λ (o : Option Var). refused_name (is_some_variable o) (nat_le most count) what w) fresh ∙ ap (λ (t : Bool). refused_name false t what w) (lt-leb most count fit.1) in
       record { value = (w.0.text, w.1); ok = passes; is = (p.0, p.1) });
 }
 
@@ -78,20 +78,20 @@ value_number v = (signed v.negative (number_value v.digits, None)).0
 abbrev pub negated : Word → ℤ
 negated w = (signed true (number_value w.text, None)).0
 
-digits_exact : (n : ℕ) (of : List ℕ → ℤ) → Exact n (mapped (λ (w : Word). of w.text) (word_at kind.Number)) (λ t. NumberPiece t ∷ []) Always (Is of) Always
+digits_exact : (n : ℕ) (of : List ℕ → ℤ) → Exact n (mapped (λ (w : Word). of w.text) (next_word kind.Number)) (λ t. NumberPiece t ∷ []) Always (Is of) Always
 digits_exact n of = mapped_exact _ (λ (w : Word). of w.text) (λ t ps w h. ap of h) (word_exact n kind.Number)
 
-minus_exact : (n : ℕ) → Exact n (mapped negated (after_word kind.Minus (word_at kind.Number))) (λ t. Mark kind.Minus ∷ NumberPiece t ∷ []) Always (Is (λ t. (signed true (number_value t, None)).0)) Always
+minus_exact : (n : ℕ) → Exact n (mapped negated (after_word kind.Minus (next_word kind.Number))) (λ t. Mark kind.Minus ∷ NumberPiece t ∷ []) Always (Is (λ t. (signed true (number_value t, None)).0)) Always
 minus_exact n = mapped_exact _ negated (λ t ps w h. ap (λ (d : List ℕ). (signed true (number_value d, None)).0) h) (after_exact kind.Minus (λ t. refl) (word_exact n kind.Number))
 
-number_again : (n : ℕ) (at : At) (negative : Bool) (digits : List ℕ) (rest : List Piece) → Ahead n at (number_pieces (record { negative = negative; digits = digits }) ++ rest)
-    → Gets (number_at at) (λ y. (y.0 ≡ value_number (record { negative = negative; digits = digits })) × Ahead n y.1 rest)
-unfolding number_at
+number_again : (n : ℕ) (at : WordsAhead) (negative : Bool) (digits : List ℕ) (rest : List Piece) → Ahead n at (number_pieces (record { negative = negative; digits = digits }) ++ rest)
+    → Gets (signed_number_ahead at) (λ y. (y.0 ≡ value_number (record { negative = negative; digits = digits })) × Ahead n y.1 rest)
+unfolding signed_number_ahead
 number_again n at true digits rest h = gets_true (next_is kind.Minus at) _ _ _ (next_ahead kind.Minus h) ((minus_exact n).again at digits rest tt h tt)
 number_again n at false digits rest h = gets_false (next_is kind.Minus at) _ _ _ (next_ahead kind.Minus h) ((digits_exact n number_value).again at digits rest tt h tt)
 
-number_exact : (n : ℕ) → Exact n number_at number_pieces Always (Is value_number) Always
-unfolding number_at
+number_exact : (n : ℕ) → Exact n signed_number_ahead number_pieces Always (Is value_number) Always
+unfolding signed_number_ahead
 number_exact n = record {
   found = λ at.
       found_if (next_is kind.Minus at) _ _ _
@@ -100,16 +100,16 @@ number_exact n = record {
   again = λ at v rest fit h _. number_again n at v.negative v.digits rest h;
 }
 
-pub some_exact : (n : ℕ) → Exact n (mapped Some (after_word kind.Equal number_at)) (λ v. value_pieces (Some v)) Always (Is (λ v. value_of (Some v))) Always
+pub some_exact : (n : ℕ) → Exact n (mapped Some (after_word kind.Equal signed_number_ahead)) (λ v. value_pieces (Some v)) Always (Is (λ v. declared_value (Some v))) Always
 some_exact n = mapped_exact _ Some (λ v ps y h. ap (λ (z : ℤ). Some z) h) (after_exact kind.Equal (λ t. refl) (number_exact n))
 
-value_again : (n : ℕ) (at : At) (v : Option ValueText) (rest : List Piece) → Ahead n at (value_pieces v ++ rest) → Not kind.Equal rest → Gets (value_at at) (λ y. (y.0 ≡ value_of v) × Ahead n y.1 rest)
-unfolding value_at
+value_again : (n : ℕ) (at : WordsAhead) (v : Option ValueText) (rest : List Piece) → Ahead n at (value_pieces v ++ rest) → Not kind.Equal rest → Gets (declared_value_ahead at) (λ y. (y.0 ≡ declared_value v) × Ahead n y.1 rest)
+unfolding declared_value_ahead
 value_again n at None rest h stop = gets_false (next_is kind.Equal at) _ _ _ (next_ahead kind.Equal h ∙ stop) (gets_end _ _ (refl, h))
 value_again n at (Some v) rest h stop = gets_true (next_is kind.Equal at) _ _ _ (next_ahead kind.Equal h) ((some_exact n).again at v rest tt h tt)
 
-pub value_exact : (n : ℕ) → Exact n value_at value_pieces Always (Is value_of) (Not kind.Equal)
-unfolding value_at
+pub value_exact : (n : ℕ) → Exact n declared_value_ahead value_pieces Always (Is declared_value) (Not kind.Equal)
+unfolding declared_value_ahead
 value_exact n = record {
   found = λ at.
       found_if (next_is kind.Equal at) _ _ _
@@ -196,14 +196,14 @@ init_exact n d =
     (ended_exact (λ rest. (refl, (refl, refl))) (while_exact (next_is kind.And) (begins_piece kind.And) relations_go_on (after_exact kind.And (λ t. refl) (init_relation n d))))
     (λ rs rest fit stop. relations_join rs rest))
 
-item_found : (n : ℕ) (d : Declared) (at : At) → Finds (counted_item_at d n at) (Spelled item_pieces (DeclaredFits d) (Declares d) at)
+item_found : (n : ℕ) (d : Declared) (at : WordsAhead) → Finds (counted_item_at d n at) (Spelled item_pieces (DeclaredFits d) (Declares d) at)
 unfolding counted_item_at
 item_found n d at =
     found_if (next_is kind.Global at) _ _ _ (found_as item_pieces (DeclaredFits d) (Declares d) (λ c. global c.0 c.1) (λ c. refl) (λ c h. h) (λ c ps y h. h) at _ ((global_exact n d).found at))
     (found_if (next_is kind.Local at) _ _ _ (found_as item_pieces (DeclaredFits d) (Declares d) local (λ c. refl) (λ c h. h) (λ c ps y h. h) at _ ((local_exact n d).found at))
     (found_as item_pieces (DeclaredFits d) (Declares d) (λ c. init c.0 c.1) (λ c. refl) (λ c h. h) (λ c ps y h. h) at _ ((init_exact n d).found at)))
 
-item_again : (n : ℕ) (d : Declared) (at : At) (i : ItemText) (rest : List Piece) → DeclaredFits d i → Ahead n at (item_pieces i ++ rest) → Gets (counted_item_at d n at) (λ y. Declares d i (places at.words) y.0 × Ahead n y.1 rest)
+item_again : (n : ℕ) (d : Declared) (at : WordsAhead) (i : ItemText) (rest : List Piece) → DeclaredFits d i → Ahead n at (item_pieces i ++ rest) → Gets (counted_item_at d n at) (λ y. Declares d i (places at.words) y.0 × Ahead n y.1 rest)
 unfolding counted_item_at
 item_again n d at (global x v) rest fit h = gets_true (next_is kind.Global at) _ _ _ (next_ahead kind.Global h) ((global_exact n d).again at (x, v) rest fit h tt)
 item_again n d at (local x) rest fit h =

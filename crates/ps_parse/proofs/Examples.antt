@@ -6,10 +6,10 @@ use Rattle.ps_grammar.specs.Words.{Word}
 use Rattle.ps_parse.specs.Blocks.{block_at, kind_at, skip_at, stmt_at}
 use Rattle.ps_parse.specs.Causes.{GivesRows}
 use Rattle.ps_parse.specs.Examples.{CausesStand, FaultStandsAtBrace, ItemsGiveNoMore, ItemsGiveRows, TextIsRead, mark, mark_at, quadratic, unequal, unfinished, valueless, x, y, zero}
-use Rattle.ps_parse.specs.Items.{item_rows, items_at, number_at, program_at, program_of, rows_from, value_at}
-use Rattle.ps_parse.specs.Reading.{At, after_word, while_at, word_at}
+use Rattle.ps_parse.specs.Items.{item_rows, items_at, signed_number_ahead, program_at, program_in, rows_from, declared_value_ahead}
+use Rattle.ps_parse.specs.Reading.{WordsAhead, after_word, words_while, next_word}
 use Rattle.ps_lines.specs.Steps.{and_then}
-use Rattle.ps_parse.specs.Sums.{factor_at, first_product_at, further_product_at, name_product_at, number_product_at, product_at, relation_at, sign_at, sum_at}
+use Rattle.ps_parse.specs.Sums.{factor_at, first_product_at, further_product_at, name_product_at, number_product_at, product_at, relation_at, sign_ahead, sum_at}
 use Rattle.ps_parse.specs.Variables.{variable_at}
 use Rattle.ps_parse.specs.declared.read_refusal.ReadRefusal.TheVariants.{Grammar}
 use Rattle.ps_term.specs.declared.var.Var.TheVariants.{Global}
@@ -36,8 +36,8 @@ text_is_read = record {
 abbrev cut_words : List Word
 cut_words = mark_at kind.Thread 1 ∷ mark_at kind.OpenBrace 2 ∷ mark_at kind.Skip 3 ∷ mark_at kind.CloseBrace 4 ∷ []
 
-is_refused : program_of cut_words (record { line = 1; column = 5 }) ≡ Err (Grammar (record { line = 1; column = 4 }))
-unfolding program_at items_at block_at stmt_at kind_at skip_at after_word word_at while_at and_then
+is_refused : program_in cut_words (record { line = 1; column = 5 }) ≡ Err (Grammar (record { line = 1; column = 4 }))
+unfolding program_at items_at block_at stmt_at kind_at skip_at after_word next_word words_while and_then
 is_refused = refl
 
 pub fault_stands : FaultStandsAtBrace
@@ -95,14 +95,14 @@ gives_value = inl (
 pub items_give : ItemsGiveRows
 items_give = (gives_one, gives_two, gives_value)
 
-abbrev at_words : List Word → At
+abbrev at_words : List Word → WordsAhead
 at_words ws = record { words = ws; end = x.place }
 
 abbrev rows_counted_of : List Word → ℕ
 rows_counted_of ws = item_rows (length ws) (at_words ws)
 
 are_counted : (rows_counted_of quadratic ≡ 0) × (rows_counted_of unequal ≡ 0) × (rows_counted_of unfinished ≡ 2) × (rows_counted_of valueless ≡ 0)
-unfolding item_rows rows_from number_at value_at relation_at sign_at sum_at first_product_at further_product_at product_at number_product_at name_product_at factor_at variable_at word_at after_word while_at and_then
+unfolding item_rows rows_from signed_number_ahead declared_value_ahead relation_at sign_ahead sum_at first_product_at further_product_at product_at number_product_at name_product_at factor_at variable_at next_word after_word words_while and_then
 are_counted = (refl, refl, refl, refl)
 
 no_more : (ws : List Word) (rows most : ℕ) → rows_counted_of ws ≡ most → GivesRows ws rows → rows ≤ most

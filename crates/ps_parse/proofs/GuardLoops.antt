@@ -6,7 +6,7 @@ use Rattle.std.proofs.lemmas.List.{append-nil}
 use Rattle.ps_token.specs.declared.place.Place.{Place}
 use Rattle.ps_parse.specs.declared.read_refusal.ReadRefusal.{ReadRefusal}
 use Rattle.ps_grammar.specs.Words.{Word}
-use Rattle.ps_parse.specs.Reading.{At, Read, place_of_next, while_at}
+use Rattle.ps_parse.specs.Reading.{WordsAhead, ReadWords, place_of_next, words_while}
 use Rattle.ps_lines.specs.Steps.{◌>>=◌}
 use Rattle.ps_grammar.specs.Spelling.{Piece, pieces}
 use Rattle.ps_parse.specs.Reads.{BeginAlike}
@@ -16,21 +16,21 @@ use Rattle.ps_parse.proofs.Guards.{Refused, Lets, Keeps, refused_bind, refused_a
 use Rattle.ps_parse.proofs.GuardSteps.{alike_two}
 
 -- one turn
-turn : {A : Type 0} → (At → Bool) → Read A → ℕ → Read (List A)
-turn goes read m at = if goes at then (read at >>= λ x. while_at goes read m x.1 >>= λ xs. Ok (x.0 ∷ xs.0, xs.1)) else Ok ([], at)
+turn : {A : Type 0} → (WordsAhead → Bool) → ReadWords A → ℕ → ReadWords (List A)
+turn goes read m at = if goes at then (read at >>= λ x. words_while goes read m x.1 >>= λ xs. Ok (x.0 ∷ xs.0, xs.1)) else Ok ([], at)
 
-pub turned : {A : Type 0} (goes : At → Bool) (read : Read A) (m : ℕ) (at : At) → 1 ≤ m → while_at goes read m at ≡ (if goes at then (read at >>= λ x. while_at goes read (m - 1) x.1 >>= λ xs. Ok (x.0 ∷ xs.0, xs.1)) else Ok ([], at))
-unfolding while_at turn
+pub turned : {A : Type 0} (goes : WordsAhead → Bool) (read : ReadWords A) (m : ℕ) (at : WordsAhead) → 1 ≤ m → words_while goes read m at ≡ (if goes at then (read at >>= λ x. words_while goes read (m - 1) x.1 >>= λ xs. Ok (x.0 ∷ xs.0, xs.1)) else Ok ([], at))
+unfolding words_while turn
 turned goes read zero at h = absurd (omega (arith, h))
 turned goes read (suc m) at h =
     let e : m ≡ suc m - 1 = omega arith in
     ap (λ (k : ℕ). turn goes read k at) e
 
-while_never : {C A : Type 0} {n : ℕ} {n' most : ℕ → ℕ} {read : Read A} {read' : ℕ → Read A} {spell : C → List Piece} {okay : C → Type 0} {alike : A → A → Type 0} {follows : List Piece → Type 0}
-    (goes : At → Bool) (begins : List Piece → Bool) → GoesOn goes begins spell follows → Guards n n' most read read' spell okay alike follows
-    → (i : ℕ) (cs : List C) (m : ℕ) (at : At) (rest : List Piece) → length cs ≤ m → AllByRecursion okay cs → Ahead (most i) at (flat_map spell cs ++ rest) → Ends begins follows rest
-    → Lets (while_at goes (read' i) m at) (λ y. Ahead (most i) y.1 rest)
-unfolding while_at
+while_never : {C A : Type 0} {n : ℕ} {n' most : ℕ → ℕ} {read : ReadWords A} {read' : ℕ → ReadWords A} {spell : C → List Piece} {okay : C → Type 0} {alike : A → A → Type 0} {follows : List Piece → Type 0}
+    (goes : WordsAhead → Bool) (begins : List Piece → Bool) → GoesOn goes begins spell follows → Guards n n' most read read' spell okay alike follows
+    → (i : ℕ) (cs : List C) (m : ℕ) (at : WordsAhead) (rest : List Piece) → length cs ≤ m → AllByRecursion okay cs → Ahead (most i) at (flat_map spell cs ++ rest) → Ends begins follows rest
+    → Lets (words_while goes (read' i) m at) (λ y. Ahead (most i) y.1 rest)
+unfolding words_while
 while_never {most = most} goes begins on g i [] zero at rest le fine h stop = lets_end _ _ h
 while_never {most = most} goes begins on g i [] (suc m) at rest le fine h stop = lets_false (goes at) _ _ _ (on.same (most i) at rest h ∙ stop.0) (lets_end _ _ h)
 while_never goes begins on g i (c ∷ cs) zero at rest le fine h stop = absurd (omega (arith, le))
@@ -46,9 +46,9 @@ while_never {C = C} {most = most} {spell = spell} {follows = follows} goes begin
     next (d ∷ ds) = subst follows (sym (append_assoc (spell d) (flat_map spell ds) rest)) (on.joins d (flat_map spell ds ++ rest))
 
 -- the first turn failed, with its place
-turn_fails : {C A : Type 0} {n : ℕ} {n' most : ℕ → ℕ} {read : Read A} {read' : ℕ → Read A} {spell : C → List Piece} {okay : C → Type 0} {alike : A → A → Type 0} {follows : List Piece → Type 0}
-    (goes : At → Bool) → IsTest goes → Guards n n' most read read' spell okay alike follows → (m' l' : ℕ → ℕ) → ((i : ℕ) → l' i ≤ m' i) → ((i : ℕ) → l' i ≤ n' i) → (at : At) → goes at ≡ true → (p : ReadRefusal)
-    → Stood n' read' spell okay at p → Stood l' (λ i. while_at goes (read' i) (m' i)) (flat_map spell) (AllByRecursion okay) at p
+turn_fails : {C A : Type 0} {n : ℕ} {n' most : ℕ → ℕ} {read : ReadWords A} {read' : ℕ → ReadWords A} {spell : C → List Piece} {okay : C → Type 0} {alike : A → A → Type 0} {follows : List Piece → Type 0}
+    (goes : WordsAhead → Bool) → IsTest goes → Guards n n' most read read' spell okay alike follows → (m' l' : ℕ → ℕ) → ((i : ℕ) → l' i ≤ m' i) → ((i : ℕ) → l' i ≤ n' i) → (at : WordsAhead) → goes at ≡ true → (p : ReadRefusal)
+    → Stood n' read' spell okay at p → Stood l' (λ i. words_while goes (read' i) (m' i)) (flat_map spell) (AllByRecursion okay) at p
 turn_fails {read' = read'} {spell = spell} goes test g m' l' a' b' at e p q = record {
   text = q.text ∷ [];
   fine = (q.fine, tt);
@@ -66,11 +66,11 @@ turn_fails {read' = read'} {spell = spell} goes test g m' l' a' b' at e p q = re
 }
 
 -- after the first turn, what the others do
-turn_goes : {C A : Type 0} {n : ℕ} {n' most : ℕ → ℕ} {read : Read A} {read' : ℕ → Read A} {spell : C → List Piece} {okay : C → Type 0} {alike : A → A → Type 0} {follows : List Piece → Type 0}
-    (goes : At → Bool) → IsTest goes → ((c : C) → 1 ≤ length (spell c)) → Guards n n' most read read' spell okay alike follows → (m' l' : ℕ → ℕ) → ((i : ℕ) → l' i ≤ m' i) → ((i : ℕ) → l' i ≤ n' i) → (at : At) → goes at ≡ true
-    → (x : A × At) → Went n' read' spell okay alike at x → (r : Result (List A × At) ReadRefusal)
-    → Keeps r (Went (λ i. l' i - 1) (λ i. while_at goes (read' i) (m' i - 1)) (flat_map spell) (AllByRecursion okay) Any x.1) (Stood (λ i. l' i - 1) (λ i. while_at goes (read' i) (m' i - 1)) (flat_map spell) (AllByRecursion okay) x.1)
-    → Keeps (r >>= λ xs. Ok (x.0 ∷ xs.0, xs.1)) (Went l' (λ i. while_at goes (read' i) (m' i)) (flat_map spell) (AllByRecursion okay) Any at) (Stood l' (λ i. while_at goes (read' i) (m' i)) (flat_map spell) (AllByRecursion okay) at)
+turn_goes : {C A : Type 0} {n : ℕ} {n' most : ℕ → ℕ} {read : ReadWords A} {read' : ℕ → ReadWords A} {spell : C → List Piece} {okay : C → Type 0} {alike : A → A → Type 0} {follows : List Piece → Type 0}
+    (goes : WordsAhead → Bool) → IsTest goes → ((c : C) → 1 ≤ length (spell c)) → Guards n n' most read read' spell okay alike follows → (m' l' : ℕ → ℕ) → ((i : ℕ) → l' i ≤ m' i) → ((i : ℕ) → l' i ≤ n' i) → (at : WordsAhead) → goes at ≡ true
+    → (x : A × WordsAhead) → Went n' read' spell okay alike at x → (r : Result (List A × WordsAhead) ReadRefusal)
+    → Keeps r (Went (λ i. l' i - 1) (λ i. words_while goes (read' i) (m' i - 1)) (flat_map spell) (AllByRecursion okay) Any x.1) (Stood (λ i. l' i - 1) (λ i. words_while goes (read' i) (m' i - 1)) (flat_map spell) (AllByRecursion okay) x.1)
+    → Keeps (r >>= λ xs. Ok (x.0 ∷ xs.0, xs.1)) (Went l' (λ i. words_while goes (read' i) (m' i)) (flat_map spell) (AllByRecursion okay) Any at) (Stood l' (λ i. words_while goes (read' i) (m' i)) (flat_map spell) (AllByRecursion okay) at)
 turn_goes {n' = n'} {read' = read'} {spell = spell} goes test some g m' l' a' b' at e x p r h =
     keeps_bind _ _ _ _ _ _ h
     (λ y q. keeps_end _ _ _ (record {
@@ -111,8 +111,8 @@ turn_goes {n' = n'} {read' = read'} {spell = spell} goes test some g m' l' a' b'
     })
 
 -- where it doesn't go on, neither does the other
-turn_stops : {C A : Type 0} (read' : ℕ → Read A) (spell : C → List Piece) (okay : C → Type 0) (goes : At → Bool) → IsTest goes → (m' l' : ℕ → ℕ) → ((i : ℕ) → l' i ≤ m' i) → (at : At) → goes at ≡ false
-    → Went l' (λ i. while_at goes (read' i) (m' i)) (flat_map spell) (AllByRecursion okay) Any at ([], at)
+turn_stops : {C A : Type 0} (read' : ℕ → ReadWords A) (spell : C → List Piece) (okay : C → Type 0) (goes : WordsAhead → Bool) → IsTest goes → (m' l' : ℕ → ℕ) → ((i : ℕ) → l' i ≤ m' i) → (at : WordsAhead) → goes at ≡ false
+    → Went l' (λ i. words_while goes (read' i) (m' i)) (flat_map spell) (AllByRecursion okay) Any at ([], at)
 turn_stops read' spell okay goes test m' l' a' at e = record {
   text = [];
   fine = tt;
@@ -126,28 +126,28 @@ turn_stops read' spell okay goes test m' l' a' at e = record {
       (gets_false (goes at') _ _ _ off (gets_end _ _ (tt, k)));
 }
 
-while_stuck : {C A : Type 0} {n : ℕ} {n' most : ℕ → ℕ} {read : Read A} {read' : ℕ → Read A} {spell : C → List Piece} {okay : C → Type 0} {alike : A → A → Type 0} {follows : List Piece → Type 0}
-    (goes : At → Bool) → IsTest goes → ((c : C) → 1 ≤ length (spell c)) → Guards n n' most read read' spell okay alike follows
-    → (m l : ℕ) (m' l' : ℕ → ℕ) → l ≤ m → ((i : ℕ) → l' i ≤ m' i) → l ≤ n → ((i : ℕ) → l' i ≤ n' i) → (at : At) → length at.words < l
-    → Keeps (while_at goes read m at) (Went l' (λ i. while_at goes (read' i) (m' i)) (flat_map spell) (AllByRecursion okay) Any at) (Stood l' (λ i. while_at goes (read' i) (m' i)) (flat_map spell) (AllByRecursion okay) at)
-unfolding while_at
+while_stuck : {C A : Type 0} {n : ℕ} {n' most : ℕ → ℕ} {read : ReadWords A} {read' : ℕ → ReadWords A} {spell : C → List Piece} {okay : C → Type 0} {alike : A → A → Type 0} {follows : List Piece → Type 0}
+    (goes : WordsAhead → Bool) → IsTest goes → ((c : C) → 1 ≤ length (spell c)) → Guards n n' most read read' spell okay alike follows
+    → (m l : ℕ) (m' l' : ℕ → ℕ) → l ≤ m → ((i : ℕ) → l' i ≤ m' i) → l ≤ n → ((i : ℕ) → l' i ≤ n' i) → (at : WordsAhead) → length at.words < l
+    → Keeps (words_while goes read m at) (Went l' (λ i. words_while goes (read' i) (m' i)) (flat_map spell) (AllByRecursion okay) Any at) (Stood l' (λ i. words_while goes (read' i) (m' i)) (flat_map spell) (AllByRecursion okay) at)
+unfolding words_while
 while_stuck goes test some g zero l m' l' a a' b b' at room = absurd (omega (arith, a, room))
 while_stuck {A = A} {n = n} {n' = n'} {read = read} {read' = read'} {spell = spell} {okay = okay} goes test some g (suc m) l m' l' a a' b b' at room =
     by_test (goes at) refl (λ mid short. while_stuck goes test some g m (l - 1) (λ i. m' i - 1) (λ i. l' i - 1) (omega (arith, a)) (λ i. omega (arith, a' i)) (omega (arith, b)) (λ i. omega (arith, b' i)) mid short)
   where
     by_test : (t : Bool) → goes at ≡ t
-        → ((mid : At) → length mid.words < l - 1 → Keeps (while_at goes read m mid) (Went (λ i. l' i - 1) (λ i. while_at goes (read' i) (m' i - 1)) (flat_map spell) (AllByRecursion okay) Any mid) (Stood (λ i. l' i - 1) (λ i. while_at goes (read' i) (m' i - 1)) (flat_map spell) (AllByRecursion okay) mid))
-        → Keeps {A = List A × At} (if t then (read at >>= λ x. while_at goes read m x.1 >>= λ xs. Ok (x.0 ∷ xs.0, xs.1)) else Ok ([], at))
-        (Went l' (λ i. while_at goes (read' i) (m' i)) (flat_map spell) (AllByRecursion okay) Any at) (Stood l' (λ i. while_at goes (read' i) (m' i)) (flat_map spell) (AllByRecursion okay) at)
+        → ((mid : WordsAhead) → length mid.words < l - 1 → Keeps (words_while goes read m mid) (Went (λ i. l' i - 1) (λ i. words_while goes (read' i) (m' i - 1)) (flat_map spell) (AllByRecursion okay) Any mid) (Stood (λ i. l' i - 1) (λ i. words_while goes (read' i) (m' i - 1)) (flat_map spell) (AllByRecursion okay) mid))
+        → Keeps {A = List A × WordsAhead} (if t then (read at >>= λ x. words_while goes read m x.1 >>= λ xs. Ok (x.0 ∷ xs.0, xs.1)) else Ok ([], at))
+        (Went l' (λ i. words_while goes (read' i) (m' i)) (flat_map spell) (AllByRecursion okay) Any at) (Stood l' (λ i. words_while goes (read' i) (m' i)) (flat_map spell) (AllByRecursion okay) at)
     by_test true e more =
         keeps_bind _ _ _ _ _ _ (g.stuck at (omega (arith, room, b)))
         (λ x p. turn_goes goes test some g m' l' a' b' at e x p _ (more x.1 (room_left l (l - 1) at.words p.front x.1.words (spell p.text) room p.split p.spelled (omega (arith, some p.text, room)))))
         (λ p q. turn_fails goes test g m' l' a' b' at e p q)
     by_test false e more = keeps_end _ _ _ (turn_stops read' spell okay goes test m' l' a' at e)
 
-pub while_guards : {C A : Type 0} {n m : ℕ} {n' m' : ℕ → ℕ} {read : Read A} {read' : ℕ → Read A} {spell : C → List Piece} {okay : C → Type 0} {alike : A → A → Type 0} {follows : List Piece → Type 0}
-    (goes : At → Bool) (begins : List Piece → Bool) → IsTest goes → GoesOn goes begins spell follows → n ≤ m → ((i : ℕ) → n' i ≤ m' i) → Guards n n' m' read read' spell okay alike follows
-    → Guards n n' m' (while_at goes read m) (λ i. while_at goes (read' i) (m' i)) (flat_map spell) (AllByRecursion okay) Any (Ends begins follows)
+pub while_guards : {C A : Type 0} {n m : ℕ} {n' m' : ℕ → ℕ} {read : ReadWords A} {read' : ℕ → ReadWords A} {spell : C → List Piece} {okay : C → Type 0} {alike : A → A → Type 0} {follows : List Piece → Type 0}
+    (goes : WordsAhead → Bool) (begins : List Piece → Bool) → IsTest goes → GoesOn goes begins spell follows → n ≤ m → ((i : ℕ) → n' i ≤ m' i) → Guards n n' m' read read' spell okay alike follows
+    → Guards n n' m' (words_while goes read m) (λ i. words_while goes (read' i) (m' i)) (flat_map spell) (AllByRecursion okay) Any (Ends begins follows)
 while_guards {n = n} {m = m} {n' = n'} {m' = m'} {spell = spell} goes begins test on low low' g = record {
   never = λ i at cs rest fine h stop.
       let le : length cs ≤ length (flat_map spell cs ++ rest) = few spell on.some cs rest in

@@ -6,7 +6,7 @@ use Rattle.ps_token.specs.declared.token_kind.TokenKind.{TokenKind}
 use Rattle.ps_parse.specs.declared.read_refusal.ReadRefusal.{ReadRefusal}
 use Rattle.ps_parse.specs.declared.read_refusal.ReadRefusal.TheVariants.{Grammar}
 use Rattle.ps_grammar.specs.Words.{Word}
-use Rattle.ps_parse.specs.Reading.{At, Read, next_is, place_of_next, place_at, word_at, after_word}
+use Rattle.ps_parse.specs.Reading.{WordsAhead, ReadWords, next_is, place_of_next, place_at, next_word, after_word}
 use Rattle.ps_lines.specs.Steps.{and_then, ◌>>=◌}
 use Rattle.ps_grammar.specs.Spelling.{Piece, Mark, pieces}
 use Rattle.ps_parse.specs.Reads.{BeginAlike, refusal_place}
@@ -16,8 +16,8 @@ use Rattle.ps_parse.proofs.Guards.{not_grammar, placed_word, Refused, Lets, Keep
 
 -- ---- the same function, and the same texts otherwise
 
-pub guards_same : {C A : Type 0} {n : ℕ} {n' most : ℕ → ℕ} {read : Read A} {read' : ℕ → Read A} {spell : C → List Piece} {okay : C → Type 0} {alike : A → A → Type 0} {follows : List Piece → Type 0}
-    (other : Read A) (other' : ℕ → Read A) → ((at : At) → read at ≡ other at) → ((i : ℕ) (at : At) → read' i at ≡ other' i at) → Guards n n' most read read' spell okay alike follows → Guards n n' most other other' spell okay alike follows
+pub guards_same : {C A : Type 0} {n : ℕ} {n' most : ℕ → ℕ} {read : ReadWords A} {read' : ℕ → ReadWords A} {spell : C → List Piece} {okay : C → Type 0} {alike : A → A → Type 0} {follows : List Piece → Type 0}
+    (other : ReadWords A) (other' : ℕ → ReadWords A) → ((at : WordsAhead) → read at ≡ other at) → ((i : ℕ) (at : WordsAhead) → read' i at ≡ other' i at) → Guards n n' most read read' spell okay alike follows → Guards n n' most other other' spell okay alike follows
 guards_same {n' = n'} {most = most} {spell = spell} {okay = okay} {alike = alike} other other' e e' g = record {
   never = λ i at c rest fine h stop. subst (λ r. Lets r (λ y. Ahead (most i) y.1 rest)) (e' i at) (g.never i at c rest fine h stop);
   stuck = λ at room. subst (λ r. Keeps r (Went n' other' spell okay alike at) (Stood n' other' spell okay at)) (e at)
@@ -45,15 +45,15 @@ guards_same {n' = n'} {most = most} {spell = spell} {okay = okay} {alike = alike
       }));
 }
 
-went_as : {C D A : Type 0} {n' : ℕ → ℕ} {read' : ℕ → Read A} {spell : C → List Piece} {okay : C → Type 0} {alike : A → A → Type 0} (spell' : D → List Piece) (okay' : D → Type 0) (f : C → D) → ((c : C) → spell c ≡ spell' (f c)) → ((c : C) → okay c → okay' (f c))
-    → (at : At) (y : A × At) → Went n' read' spell okay alike at y → Went n' read' spell' okay' alike at y
+went_as : {C D A : Type 0} {n' : ℕ → ℕ} {read' : ℕ → ReadWords A} {spell : C → List Piece} {okay : C → Type 0} {alike : A → A → Type 0} (spell' : D → List Piece) (okay' : D → Type 0) (f : C → D) → ((c : C) → spell c ≡ spell' (f c)) → ((c : C) → okay c → okay' (f c))
+    → (at : WordsAhead) (y : A × WordsAhead) → Went n' read' spell okay alike at y → Went n' read' spell' okay' alike at y
 went_as spell' okay' f spelled fine at y p = record { text = f p.text; fine = fine p.text p.fine; front = p.front; split = p.split; ends = p.ends; spelled = p.spelled ∙ spelled p.text; same = p.same }
 
-stood_as : {C D A : Type 0} {n' : ℕ → ℕ} {read' : ℕ → Read A} {spell : C → List Piece} {okay : C → Type 0} (spell' : D → List Piece) (okay' : D → Type 0) (f : C → D) → ((c : C) → spell c ≡ spell' (f c)) → ((c : C) → okay c → okay' (f c))
-    → (at : At) (p : ReadRefusal) → Stood n' read' spell okay at p → Stood n' read' spell' okay' at p
+stood_as : {C D A : Type 0} {n' : ℕ → ℕ} {read' : ℕ → ReadWords A} {spell : C → List Piece} {okay : C → Type 0} (spell' : D → List Piece) (okay' : D → Type 0) (f : C → D) → ((c : C) → spell c ≡ spell' (f c)) → ((c : C) → okay c → okay' (f c))
+    → (at : WordsAhead) (p : ReadRefusal) → Stood n' read' spell okay at p → Stood n' read' spell' okay' at p
 stood_as spell' okay' f spelled fine at p q = record { text = f q.text; fine = fine q.text q.fine; front = q.front; rest = q.rest; more = q.more; next = q.next; split = q.split; place = q.place; spelled = q.spelled ∙ spelled q.text; same = q.same }
 
-pub guards_as : {C D A : Type 0} {n : ℕ} {n' most : ℕ → ℕ} {read : Read A} {read' : ℕ → Read A} {spell : C → List Piece} {okay : C → Type 0} {alike : A → A → Type 0} {follows : List Piece → Type 0}
+pub guards_as : {C D A : Type 0} {n : ℕ} {n' most : ℕ → ℕ} {read : ReadWords A} {read' : ℕ → ReadWords A} {spell : C → List Piece} {okay : C → Type 0} {alike : A → A → Type 0} {follows : List Piece → Type 0}
     (spell' : D → List Piece) (okay' : D → Type 0) (f : C → D) (g : D → C) → ((d : D) → f (g d) ≡ d) → ((c : C) → spell c ≡ spell' (f c)) → ((c : C) → okay c → okay' (f c)) → ((d : D) → okay' d → okay (g d))
     → Guards n n' most read read' spell okay alike follows → Guards n n' most read read' spell' okay' alike follows
 guards_as spell' okay' f g back spelled fine unfine guards = record {
@@ -61,7 +61,7 @@ guards_as spell' okay' f g back spelled fine unfine guards = record {
   stuck = λ at room. keeps_more _ _ _ _ _ (guards.stuck at room) (λ y p. went_as spell' okay' f spelled fine at y p) (λ p q. stood_as spell' okay' f spelled fine at p q);
 }
 
-pub mapped_guards : {C A B : Type 0} {n : ℕ} {n' most : ℕ → ℕ} {read : Read A} {read' : ℕ → Read A} {spell : C → List Piece} {okay : C → Type 0} {alike : A → A → Type 0} {follows : List Piece → Type 0}
+pub mapped_guards : {C A B : Type 0} {n : ℕ} {n' most : ℕ → ℕ} {read : ReadWords A} {read' : ℕ → ReadWords A} {spell : C → List Piece} {okay : C → Type 0} {alike : A → A → Type 0} {follows : List Piece → Type 0}
     (alike' : B → B → Type 0) (of : A → B) → ((x y : A) → alike x y → alike' (of x) (of y)) → Guards n n' most read read' spell okay alike follows → Guards n n' most (mapped of read) (λ i. mapped of (read' i)) spell okay alike' follows
 mapped_guards alike' of liked g = record {
   never = λ i at c rest fine h stop. lets_bind _ _ _ _ (g.never i at c rest fine h stop) (λ y p. lets_end _ _ p);
@@ -91,8 +91,8 @@ mapped_guards alike' of liked g = record {
 }
 
 -- a refusal at the next word, which passes a test, that is no fault of the grammar
-pub refusing_guards : {C A : Type 0} (goes : At → Bool) (n : ℕ) (n' most : ℕ → ℕ) (why : At → ReadRefusal) (spell : C → List Piece) (okay : C → Type 0) (alike : A → A → Type 0) (follows : List Piece → Type 0)
-    → ((at : At) → Lets {A = A × At} (Err (why at)) (λ _. ⊥)) → ((at : At) → refusal_place (why at) ≡ Some (place_at at)) → ((at : At) → goes at ≡ true → Resumed spell okay at.words (why at))
+pub refusing_guards : {C A : Type 0} (goes : WordsAhead → Bool) (n : ℕ) (n' most : ℕ → ℕ) (why : WordsAhead → ReadRefusal) (spell : C → List Piece) (okay : C → Type 0) (alike : A → A → Type 0) (follows : List Piece → Type 0)
+    → ((at : WordsAhead) → Lets {A = A × WordsAhead} (Err (why at)) (λ _. ⊥)) → ((at : WordsAhead) → refusal_place (why at) ≡ Some (place_at at)) → ((at : WordsAhead) → goes at ≡ true → Resumed spell okay at.words (why at))
     → GuardsWhere {A = A} goes n n' most (λ at. Err (why at)) (λ i at. Err (why at)) spell okay alike follows
 refusing_guards goes n n' most why spell okay alike follows other place resumed = record {
   never = λ i at c rest fine h stop. lets_other (why at) _ _ (other at);
@@ -125,7 +125,7 @@ nothing_guards n n' most x alike liked follows = record {
 
 -- ---- one and then another
 
-pub both_guards : {C D A B X : Type 0} {n m : ℕ} {n' m' most : ℕ → ℕ} {one : Read A} {one' : ℕ → Read A} {two : Read B} {two' : ℕ → Read B} {spell : C → List Piece} {spell' : D → List Piece} {okay : C → Type 0} {okay' : D → Type 0} {alike : A → A → Type 0} {alike' : B → B → Type 0} {follows follows' : List Piece → Type 0}
+pub both_guards : {C D A B X : Type 0} {n m : ℕ} {n' m' most : ℕ → ℕ} {one : ReadWords A} {one' : ℕ → ReadWords A} {two : ReadWords B} {two' : ℕ → ReadWords B} {spell : C → List Piece} {spell' : D → List Piece} {okay : C → Type 0} {okay' : D → Type 0} {alike : A → A → Type 0} {alike' : B → B → Type 0} {follows follows' : List Piece → Type 0}
     (alike'' : X → X → Type 0) (of : A → B → X) → ((x y : A) (z w : B) → alike x y → alike' z w → alike'' (of x z) (of y w))
     → Guards n n' most one one' spell okay alike follows → ((c : C) → n ≤ length (spell c) + m) → ((i : ℕ) (c : C) → n' i ≤ length (spell c) + m' i) → Guards m m' most two two' spell' okay' alike' follows' → Example spell' okay' → ((d : D) (rest : List Piece) → follows' rest → follows (spell' d ++ rest))
     → Guards n n' most (both of one two) (λ i. both of (one' i) (two' i)) (λ (c : C × D). spell c.0 ++ spell' c.1) (λ (c : C × D). okay c.0 × okay' c.1) alike'' follows'
@@ -177,7 +177,7 @@ both_guards {n = n} {m = m} {n' = n'} {m' = m'} {one' = one'} {two' = two'} {spe
 }
 
 -- three steps
-abbrev pub three : {A B C X : Type 0} → (A → B → C → X) → Read A → Read B → Read C → Read X
+abbrev pub three : {A B C X : Type 0} → (A → B → C → X) → ReadWords A → ReadWords B → ReadWords C → ReadWords X
 three of a b c at = a at >>= λ x. b x.1 >>= λ y. c y.1 >>= λ z. Ok (of x.0 y.0 z.0, z.1)
 
 abbrev pub pair_up : {B C : Type 0} → B → C → B × C
@@ -200,7 +200,7 @@ pub bind_end : {A B : Type 0} (x : A) (f : A → Result B ReadRefusal) → (Ok x
 unfolding and_then
 bind_end x f = refl
 
-pub three_is : {A B C X : Type 0} (of : A → B → C → X) (a : Read A) (b : Read B) (c : Read C) (at : At) → both (of_pair of) a (both pair_up b c) at ≡ three of a b c at
+pub three_is : {A B C X : Type 0} (of : A → B → C → X) (a : ReadWords A) (b : ReadWords B) (c : ReadWords C) (at : WordsAhead) → both (of_pair of) a (both pair_up b c) at ≡ three of a b c at
 three_is of a b c at =
     bind_same (a at) _ _ (λ x. bind_bind (b x.1) _ _ ∙ bind_same (b x.1) _ _ (λ y. bind_bind (c y.1) _ _ ∙ bind_same (c y.1) _ _ (λ z. bind_end ((y.0, z.0), z.1) _)))
 
@@ -214,9 +214,9 @@ example_after k marked e = record {
   spelled = ap (λ (p : Piece). p ∷ pieces e.words) (marked []) ∙ ap (λ (ps : List Piece). Mark k ∷ ps) e.spelled;
 }
 
-pub word_then_guards : {C A : Type 0} {n m : ℕ} {n' m' most : ℕ → ℕ} {read : Word → Read A} {read' : ℕ → Word → Read A} {spell : C → List Piece} {okay : C → Type 0} {alike : A → A → Type 0} {follows : List Piece → Type 0}
+pub word_then_guards : {C A : Type 0} {n m : ℕ} {n' m' most : ℕ → ℕ} {read : Word → ReadWords A} {read' : ℕ → Word → ReadWords A} {spell : C → List Piece} {okay : C → Type 0} {alike : A → A → Type 0} {follows : List Piece → Type 0}
     (k : TokenKind) → IsMark k → n ≤ suc m → ((i : ℕ) → n' i ≤ suc (m' i)) → ((w : Word) → Guards m m' most (read w) (λ i. read' i w) spell okay alike follows) → Example spell okay
-    → Guards n n' most (λ at. word_at k at >>= λ w. read w.0 w.1) (λ i at. word_at k at >>= λ w. read' i w.0 w.1) (λ c. Mark k ∷ spell c) okay alike follows
+    → Guards n n' most (λ at. next_word k at >>= λ w. read w.0 w.1) (λ i at. next_word k at >>= λ w. read' i w.0 w.1) (λ c. Mark k ∷ spell c) okay alike follows
 word_then_guards {n = n} {m = m} {n' = n'} {m' = m'} {most = most} {read' = read'} {spell = spell} {alike = alike} k marked low low' g example = record {
   never = λ i at c rest fine h stop.
       lets_bind _ _ _ _ ((word_guards n n' most k).never i at [] (spell c ++ rest) tt (ahead_so (ap (λ (p : Piece). p ∷ (spell c ++ rest)) (sym (marked []))) h) tt) (λ w p. (g w.0).never i w.1 c rest fine p stop);
@@ -266,7 +266,7 @@ word_then_guards {n = n} {m = m} {n' = n'} {m' = m'} {most = most} {read' = read
       });
 }
 
-pub after_guards : {C A : Type 0} {n m : ℕ} {n' m' most : ℕ → ℕ} {read : Read A} {read' : ℕ → Read A} {spell : C → List Piece} {okay : C → Type 0} {alike : A → A → Type 0} {follows : List Piece → Type 0}
+pub after_guards : {C A : Type 0} {n m : ℕ} {n' m' most : ℕ → ℕ} {read : ReadWords A} {read' : ℕ → ReadWords A} {spell : C → List Piece} {okay : C → Type 0} {alike : A → A → Type 0} {follows : List Piece → Type 0}
     (k : TokenKind) → IsMark k → n ≤ suc m → ((i : ℕ) → n' i ≤ suc (m' i)) → Guards m m' most read read' spell okay alike follows → Example spell okay
     → Guards n n' most (after_word k read) (λ i. after_word k (read' i)) (λ c. Mark k ∷ spell c) okay alike follows
 unfolding after_word
@@ -274,8 +274,8 @@ after_guards k marked low low' g example = word_then_guards k marked low low' (�
 
 -- a word, and then a refusal at it that is no fault of the grammar
 pub word_refused_guards : {C A : Type 0} (n : ℕ) (n' most : ℕ → ℕ) (k : TokenKind) (why : Word → ReadRefusal) (spell : C → List Piece) (okay : C → Type 0) (alike : A → A → Type 0) (follows : List Piece → Type 0) → IsMark k
-    → ((w : Word) → Lets {A = A × At} (Err (why w)) (λ _. ⊥)) → ((w : Word) → refusal_place (why w) ≡ Some w.place) → Example spell okay
-    → Guards {A = A} n n' most (λ at. word_at k at >>= λ w. Err (why w.0)) (λ i at. word_at k at >>= λ w. Err (why w.0)) (λ c. Mark k ∷ spell c) okay alike follows
+    → ((w : Word) → Lets {A = A × WordsAhead} (Err (why w)) (λ _. ⊥)) → ((w : Word) → refusal_place (why w) ≡ Some w.place) → Example spell okay
+    → Guards {A = A} n n' most (λ at. next_word k at >>= λ w. Err (why w.0)) (λ i at. next_word k at >>= λ w. Err (why w.0)) (λ c. Mark k ∷ spell c) okay alike follows
 word_refused_guards {A = A} n n' most k why spell okay alike follows marked other place example = record {
   never = λ i at c rest fine h stop.
       lets_bind _ _ _ _ ((word_guards n n' most k).never i at [] (spell c ++ rest) tt (ahead_so (ap (λ (p : Piece). p ∷ (spell c ++ rest)) (sym (marked []))) h) tt) (λ w p. lets_other (why w.0) _ _ (other w.0));
@@ -314,13 +314,13 @@ word_refused_guards {A = A} n n' most k why spell okay alike follows marked othe
     lets_other e Q R h = record { is = tt }
 
 -- a word alone
-pub word_alone : (n : ℕ) (n' most : ℕ → ℕ) (k : TokenKind) → IsMark k → Guards n n' most (word_at k) (λ i. word_at k) (λ (u : Unit {0}). Mark k ∷ []) Always Same Always
+pub word_alone : (n : ℕ) (n' most : ℕ → ℕ) (k : TokenKind) → IsMark k → Guards n n' most (next_word k) (λ i. next_word k) (λ (u : Unit {0}). Mark k ∷ []) Always Same Always
 word_alone n n' most k marked = guards_as _ _ (λ t. tt) (λ u. []) (λ u. refl) (λ t. ap (λ (p : Piece). p ∷ []) (marked t)) (λ t h. tt) (λ u h. tt) (word_guards n n' most k)
 
 pub mark_example : (k : TokenKind) → IsMark k → Example (λ (u : Unit {0}). Mark k ∷ []) Always
 mark_example k marked = record { text = tt; fine = tt; words = record { kind = k; text = []; place = record { line = 0; column = 0 } } ∷ []; spelled = ap (λ (p : Piece). p ∷ []) (marked []) }
 
-pub closed_guards : {C A : Type 0} {n : ℕ} {n' most : ℕ → ℕ} {read : Read A} {read' : ℕ → Read A} {spell : C → List Piece} {okay : C → Type 0} {alike : A → A → Type 0} {follows : List Piece → Type 0}
+pub closed_guards : {C A : Type 0} {n : ℕ} {n' most : ℕ → ℕ} {read : ReadWords A} {read' : ℕ → ReadWords A} {spell : C → List Piece} {okay : C → Type 0} {alike : A → A → Type 0} {follows : List Piece → Type 0}
     (k : TokenKind) → IsMark k → ((rest : List Piece) → follows (Mark k ∷ rest)) → Guards n n' most read read' spell okay alike follows
     → Guards n n' most (closed k read) (λ i. closed k (read' i)) (λ c. spell c ++ Mark k ∷ []) okay alike Always
 closed_guards {n = n} {n' = n'} {most = most} {spell = spell} {okay = okay} {alike = alike} k marked ends g =
@@ -348,8 +348,8 @@ pub alike_two : (ws vs front rest other : List Word) → ws ≡ front ++ rest �
 alike_two ws vs front rest other e h s = subst (λ (us : List Word). BeginAlike us vs) (sym e) (subst (λ (us : List Word). BeginAlike (front ++ rest) us) (sym h) (alike_after front rest other s))
 
 -- a choice by a test on which the first reading may rest
-pub choosing_guards : {C D E A : Type 0} {n : ℕ} {n' most : ℕ → ℕ} {one two : Read A} {one' two' : ℕ → Read A} {spell : C → List Piece} {spell' : D → List Piece} {okay : C → Type 0} {okay' : D → Type 0} {alike : A → A → Type 0} {follows follows' : List Piece → Type 0}
-    (spell'' : E → List Piece) (okay'' : E → Type 0) (follows'' : List Piece → Type 0) (goes : At → Bool) (begins : List Piece → Bool) → IsTest goes → ((k : ℕ) (at : At) (ps : List Piece) → Ahead k at ps → goes at ≡ begins ps)
+pub choosing_guards : {C D E A : Type 0} {n : ℕ} {n' most : ℕ → ℕ} {one two : ReadWords A} {one' two' : ℕ → ReadWords A} {spell : C → List Piece} {spell' : D → List Piece} {okay : C → Type 0} {okay' : D → Type 0} {alike : A → A → Type 0} {follows follows' : List Piece → Type 0}
+    (spell'' : E → List Piece) (okay'' : E → Type 0) (follows'' : List Piece → Type 0) (goes : WordsAhead → Bool) (begins : List Piece → Bool) → IsTest goes → ((k : ℕ) (at : WordsAhead) (ps : List Piece) → Ahead k at ps → goes at ≡ begins ps)
     → (f : C → E) → ((c : C) → spell c ≡ spell'' (f c)) → ((c : C) → okay c → okay'' (f c)) → (g : D → E) → ((d : D) → spell' d ≡ spell'' (g d)) → ((d : D) → okay' d → okay'' (g d))
     → ((e : E) → okay'' e → OfSort begins true spell okay follows'' (spell'' e) ⊎ OfSort begins false spell' okay' follows'' (spell'' e))
     → ((rest : List Piece) → follows'' rest → follows rest) → ((rest : List Piece) → follows'' rest → follows' rest)
@@ -364,7 +364,7 @@ choosing_guards {n = n} {n' = n'} {most = most} {one = one} {two = two} {one' = 
   stuck = λ at room. by_test at room (goes at) refl;
 }
   where
-    by_test : (at : At) → length at.words < n → (t : Bool) → goes at ≡ t
+    by_test : (at : WordsAhead) → length at.words < n → (t : Bool) → goes at ≡ t
         → Keeps (if t then one at else two at) (Went n' (λ i at'. if goes at' then one' i at' else two' i at') spell'' okay'' alike at) (Stood n' (λ i at'. if goes at' then one' i at' else two' i at') spell'' okay'' at)
     by_test at room true e =
         keeps_more _ _ _ _ _ (a.stuck at room e)
@@ -414,8 +414,8 @@ choosing_guards {n = n} {n' = n'} {most = most} {one = one} {two = two} {one' = 
         })
 
 -- the same where it doesn't
-pub choice_guards : {C D E A : Type 0} {n : ℕ} {n' most : ℕ → ℕ} {one two : Read A} {one' two' : ℕ → Read A} {spell : C → List Piece} {spell' : D → List Piece} {okay : C → Type 0} {okay' : D → Type 0} {alike : A → A → Type 0} {follows follows' : List Piece → Type 0}
-    (spell'' : E → List Piece) (okay'' : E → Type 0) (follows'' : List Piece → Type 0) (goes : At → Bool) (begins : List Piece → Bool) → IsTest goes → ((k : ℕ) (at : At) (ps : List Piece) → Ahead k at ps → goes at ≡ begins ps)
+pub choice_guards : {C D E A : Type 0} {n : ℕ} {n' most : ℕ → ℕ} {one two : ReadWords A} {one' two' : ℕ → ReadWords A} {spell : C → List Piece} {spell' : D → List Piece} {okay : C → Type 0} {okay' : D → Type 0} {alike : A → A → Type 0} {follows follows' : List Piece → Type 0}
+    (spell'' : E → List Piece) (okay'' : E → Type 0) (follows'' : List Piece → Type 0) (goes : WordsAhead → Bool) (begins : List Piece → Bool) → IsTest goes → ((k : ℕ) (at : WordsAhead) (ps : List Piece) → Ahead k at ps → goes at ≡ begins ps)
     → (f : C → E) → ((c : C) → spell c ≡ spell'' (f c)) → ((c : C) → okay c → okay'' (f c)) → (g : D → E) → ((d : D) → spell' d ≡ spell'' (g d)) → ((d : D) → okay' d → okay'' (g d))
     → ((e : E) → okay'' e → OfSort begins true spell okay follows'' (spell'' e) ⊎ OfSort begins false spell' okay' follows'' (spell'' e))
     → ((rest : List Piece) → follows'' rest → follows rest) → ((rest : List Piece) → follows'' rest → follows' rest)
@@ -425,7 +425,7 @@ choice_guards spell'' okay'' follows'' goes begins test ahead f spelled fine g s
     choosing_guards spell'' okay'' follows'' goes begins test ahead f spelled fine g spelled' fine' sort stops stops' (guards_where goes a) b
 
 -- a last sort: where the next word isn't its own, that is a fault
-pub last_guards : {C A : Type 0} {n : ℕ} {n' most : ℕ → ℕ} {one : Read A} {one' : ℕ → Read A} {spell : C → List Piece} {okay : C → Type 0} {alike : A → A → Type 0} {follows : List Piece → Type 0}
+pub last_guards : {C A : Type 0} {n : ℕ} {n' most : ℕ → ℕ} {one : ReadWords A} {one' : ℕ → ReadWords A} {spell : C → List Piece} {okay : C → Type 0} {alike : A → A → Type 0} {follows : List Piece → Type 0}
     (k : TokenKind) → ((c : C) (rest : List Piece) → okay c → begins_piece k (spell c ++ rest) ≡ true) → Example spell okay → GuardsWhere (next_is k) n n' most one one' spell okay alike follows
     → Guards n n' most (λ at. if next_is k at then one at else Err (Grammar (place_at at))) (λ i at. if next_is k at then one' i at else Err (Grammar (place_at at))) spell okay alike follows
 last_guards {n = n} {n' = n'} {one = one} {one' = one'} {spell = spell} {okay = okay} {alike = alike} k starts example a = record {
@@ -433,7 +433,7 @@ last_guards {n = n} {n' = n'} {one = one} {one' = one'} {spell = spell} {okay = 
   stuck = λ at room. by_test at room (next_is k at) refl;
 }
   where
-    by_test : (at : At) → length at.words < n → (t : Bool) → next_is k at ≡ t
+    by_test : (at : WordsAhead) → length at.words < n → (t : Bool) → next_is k at ≡ t
         → Keeps (if t then one at else Err (Grammar (place_at at))) (Went n' (λ i at'. if next_is k at' then one' i at' else Err (Grammar (place_at at'))) spell okay alike at) (Stood n' (λ i at'. if next_is k at' then one' i at' else Err (Grammar (place_at at'))) spell okay at)
     by_test at room true e =
         keeps_more _ _ _ _ _ (a.stuck at room e)
@@ -474,8 +474,8 @@ last_guards {n = n} {n' = n'} {one = one} {one' = one'} {spell = spell} {okay = 
     }
 
 -- the same with a value of the place and of what was read
-pub placed_guards : {C A B : Type 0} {n : ℕ} {n' most : ℕ → ℕ} {read : Read A} {read' : ℕ → Read A} {spell : C → List Piece} {okay : C → Type 0} {alike : A → A → Type 0} {follows : List Piece → Type 0}
-    (of : At → A → B) → Guards n n' most read read' spell okay alike follows → Guards n n' most (λ at. read at >>= λ x. Ok (of at x.0, x.1)) (λ i at. read' i at >>= λ x. Ok (of at x.0, x.1)) spell okay Any follows
+pub placed_guards : {C A B : Type 0} {n : ℕ} {n' most : ℕ → ℕ} {read : ReadWords A} {read' : ℕ → ReadWords A} {spell : C → List Piece} {okay : C → Type 0} {alike : A → A → Type 0} {follows : List Piece → Type 0}
+    (of : WordsAhead → A → B) → Guards n n' most read read' spell okay alike follows → Guards n n' most (λ at. read at >>= λ x. Ok (of at x.0, x.1)) (λ i at. read' i at >>= λ x. Ok (of at x.0, x.1)) spell okay Any follows
 placed_guards of g = record {
   never = λ i at c rest fine h stop. lets_bind _ _ _ _ (g.never i at c rest fine h stop) (λ y p. lets_end _ _ p);
   stuck = λ at room.
@@ -504,7 +504,7 @@ placed_guards of g = record {
 }
 
 -- another value of what was read, and any
-pub mapped_any : {C A B : Type 0} {n : ℕ} {n' most : ℕ → ℕ} {read : Read A} {read' : ℕ → Read A} {spell : C → List Piece} {okay : C → Type 0} {alike : A → A → Type 0} {follows : List Piece → Type 0}
+pub mapped_any : {C A B : Type 0} {n : ℕ} {n' most : ℕ → ℕ} {read : ReadWords A} {read' : ℕ → ReadWords A} {spell : C → List Piece} {okay : C → Type 0} {alike : A → A → Type 0} {follows : List Piece → Type 0}
     (of of' : A → B) → Guards n n' most read read' spell okay alike follows → Guards n n' most (mapped of read) (λ i. mapped of' (read' i)) spell okay Any follows
 mapped_any of of' g = record {
   never = λ i at c rest fine h stop. lets_bind _ _ _ _ (g.never i at c rest fine h stop) (λ y p. lets_end _ _ p);
@@ -533,5 +533,5 @@ mapped_any of of' g = record {
       });
 }
 
-pub paired : {A B X : Type 0} (of : A → B → X) (a : Read A) (b : Read B) (at : At) → mapped (λ (p : A × B). of p.0 p.1) (both pair_up a b) at ≡ both of a b at
+pub paired : {A B X : Type 0} (of : A → B → X) (a : ReadWords A) (b : ReadWords B) (at : WordsAhead) → mapped (λ (p : A × B). of p.0 p.1) (both pair_up a b) at ≡ both of a b at
 paired of a b at = bind_bind (a at) _ _ ∙ bind_same (a at) _ _ (λ x. bind_bind (b x.1) _ _ ∙ bind_same (b x.1) _ _ (λ y. bind_end ((x.0, y.0), y.1) _))

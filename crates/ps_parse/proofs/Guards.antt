@@ -9,7 +9,7 @@ use Rattle.ps_token.specs.declared.token_kind.TokenKind.{TokenKind}
 use Rattle.ps_parse.specs.declared.read_refusal.ReadRefusal.{ReadRefusal}
 use Rattle.ps_parse.specs.declared.read_refusal.ReadRefusal.TheVariants.{Grammar}
 use Rattle.ps_grammar.specs.Words.{Word}
-use Rattle.ps_parse.specs.Reading.{At, Read, is_kind, begins_with, next_is, place_of_next, word_from, word_at}
+use Rattle.ps_parse.specs.Reading.{WordsAhead, ReadWords, is_kind, begins_with, next_is, place_of_next, word_from, next_word}
 use Rattle.ps_lines.specs.Steps.{and_then, ◌>>=◌}
 use Rattle.ps_grammar.specs.Spelling.{Piece, Mark, piece_of_kind, pieces}
 use Rattle.ps_parse.specs.Reads.{BeginAlike, PassesGrammar, refusal_place}
@@ -112,8 +112,8 @@ alike_after [] ws vs h = h
 alike_after (w ∷ front) ws vs h = refl
 
 -- a test that the next word decides
-pub record IsTest (goes : At → Bool) : Type 0 where
-  pub same : (at at' : At) → BeginAlike at.words at'.words → goes at ≡ goes at'
+pub record IsTest (goes : WordsAhead → Bool) : Type 0 where
+  pub same : (at at' : WordsAhead) → BeginAlike at.words at'.words → goes at ≡ goes at'
 
 alike_begins : (k : TokenKind) (ws vs : List Word) → BeginAlike ws vs → begins_with k ws ≡ begins_with k vs
 alike_begins k [] [] h = refl
@@ -161,18 +161,18 @@ resumes_mark k marked (w ∷ ws) (v ∷ vs) e h = record { is = mark_of w e ∙ 
 -- ---- the laws
 
 -- What was read is spelled so, and is read alike of other words that begin so and go on alike.
-pub record Went {C A : Type 0} (n' : ℕ → ℕ) (read' : ℕ → Read A) (spell : C → List Piece) (okay : C → Type 0) (alike : A → A → Type 0) (at : At) (y : A × At) : Type 0 where
+pub record Went {C A : Type 0} (n' : ℕ → ℕ) (read' : ℕ → ReadWords A) (spell : C → List Piece) (okay : C → Type 0) (alike : A → A → Type 0) (at : WordsAhead) (y : A × WordsAhead) : Type 0 where
   pub text : C
   pub fine : okay text
   pub front : List Word
   pub split : at.words ≡ front ++ y.1.words
   pub ends : y.1.end ≡ at.end
   pub spelled : pieces front ≡ spell text
-  pub same : (i : ℕ) (at' : At) (other : List Word) → length at'.words < n' i → BeginAlike y.1.words other → at'.words ≡ front ++ other → Gets (read' i at') (λ z. alike y.0 z.0 × (z.1.words ≡ other))
+  pub same : (i : ℕ) (at' : WordsAhead) (other : List Word) → length at'.words < n' i → BeginAlike y.1.words other → at'.words ≡ front ++ other → Gets (read' i at') (λ z. alike y.0 z.0 × (z.1.words ≡ other))
 
 -- Where a refusal stands, the words before it go on as some text, and with the refused word too where no fault of the
 -- grammar stands there; and a fault of the grammar have others too that begin so and go on alike.
-pub record Stood {C A : Type 0} (n' : ℕ → ℕ) (read' : ℕ → Read A) (spell : C → List Piece) (okay : C → Type 0) (at : At) (refused : ReadRefusal) : Type 0 where
+pub record Stood {C A : Type 0} (n' : ℕ → ℕ) (read' : ℕ → ReadWords A) (spell : C → List Piece) (okay : C → Type 0) (at : WordsAhead) (refused : ReadRefusal) : Type 0 where
   pub text : C
   pub fine : okay text
   pub front : List Word
@@ -182,21 +182,21 @@ pub record Stood {C A : Type 0} (n' : ℕ → ℕ) (read' : ℕ → Read A) (spe
   pub place : refusal_place refused ≡ Some (place_of_next rest at.end)
   pub spelled : pieces (front ++ more) ≡ spell text
   pub next : PassesGrammar refused → Resumes rest more
-  pub same : IsGrammar refused → (i : ℕ) (at' : At) (other : List Word) → length at'.words < n' i → BeginAlike rest other → at'.words ≡ front ++ other → Refused (read' i at')
+  pub same : IsGrammar refused → (i : ℕ) (at' : WordsAhead) (other : List Word) → length at'.words < n' i → BeginAlike rest other → at'.words ≡ front ++ other → Refused (read' i at')
 
 -- The laws of a reading function, and of one that is like it with another bound, where fewer words are left than those
 -- numbers, and at most so many: one like it for each number.
-pub record Guards {C A : Type 0} (n : ℕ) (n' most : ℕ → ℕ) (read : Read A) (read' : ℕ → Read A) (spell : C → List Piece) (okay : C → Type 0) (alike : A → A → Type 0) (follows : List Piece → Type 0) : Type 0 where
-  pub never : (i : ℕ) (at : At) (c : C) (rest : List Piece) → okay c → Ahead (most i) at (spell c ++ rest) → follows rest → Lets (read' i at) (λ y. Ahead (most i) y.1 rest)
-  pub stuck : (at : At) → length at.words < n → Keeps (read at) (Went n' read' spell okay alike at) (Stood n' read' spell okay at)
+pub record Guards {C A : Type 0} (n : ℕ) (n' most : ℕ → ℕ) (read : ReadWords A) (read' : ℕ → ReadWords A) (spell : C → List Piece) (okay : C → Type 0) (alike : A → A → Type 0) (follows : List Piece → Type 0) : Type 0 where
+  pub never : (i : ℕ) (at : WordsAhead) (c : C) (rest : List Piece) → okay c → Ahead (most i) at (spell c ++ rest) → follows rest → Lets (read' i at) (λ y. Ahead (most i) y.1 rest)
+  pub stuck : (at : WordsAhead) → length at.words < n → Keeps (read at) (Went n' read' spell okay alike at) (Stood n' read' spell okay at)
 
 -- The same where the next word passes a test.
-pub record GuardsWhere {C A : Type 0} (goes : At → Bool) (n : ℕ) (n' most : ℕ → ℕ) (read : Read A) (read' : ℕ → Read A) (spell : C → List Piece) (okay : C → Type 0) (alike : A → A → Type 0) (follows : List Piece → Type 0) : Type 0 where
-  pub never : (i : ℕ) (at : At) (c : C) (rest : List Piece) → okay c → Ahead (most i) at (spell c ++ rest) → follows rest → Lets (read' i at) (λ y. Ahead (most i) y.1 rest)
-  pub stuck : (at : At) → length at.words < n → goes at ≡ true → Keeps (read at) (Went n' read' spell okay alike at) (Stood n' read' spell okay at)
+pub record GuardsWhere {C A : Type 0} (goes : WordsAhead → Bool) (n : ℕ) (n' most : ℕ → ℕ) (read : ReadWords A) (read' : ℕ → ReadWords A) (spell : C → List Piece) (okay : C → Type 0) (alike : A → A → Type 0) (follows : List Piece → Type 0) : Type 0 where
+  pub never : (i : ℕ) (at : WordsAhead) (c : C) (rest : List Piece) → okay c → Ahead (most i) at (spell c ++ rest) → follows rest → Lets (read' i at) (λ y. Ahead (most i) y.1 rest)
+  pub stuck : (at : WordsAhead) → length at.words < n → goes at ≡ true → Keeps (read at) (Went n' read' spell okay alike at) (Stood n' read' spell okay at)
 
-pub guards_where : {C A : Type 0} {n : ℕ} {n' most : ℕ → ℕ} {read : Read A} {read' : ℕ → Read A} {spell : C → List Piece} {okay : C → Type 0} {alike : A → A → Type 0} {follows : List Piece → Type 0}
-    (goes : At → Bool) → Guards n n' most read read' spell okay alike follows → GuardsWhere goes n n' most read read' spell okay alike follows
+pub guards_where : {C A : Type 0} {n : ℕ} {n' most : ℕ → ℕ} {read : ReadWords A} {read' : ℕ → ReadWords A} {spell : C → List Piece} {okay : C → Type 0} {alike : A → A → Type 0} {follows : List Piece → Type 0}
+    (goes : WordsAhead → Bool) → Guards n n' most read read' spell okay alike follows → GuardsWhere goes n n' most read read' spell okay alike follows
 guards_where goes g = record { never = g.never; stuck = λ at room e. g.stuck at room }
 
 abbrev pub Any : {A : Type 0} → A → A → Type 0
@@ -251,7 +251,7 @@ abbrev pub piece_list : TokenKind → List ℕ → List Piece
 piece_list k t = piece_of_kind k t ∷ []
 
 word_stuck : (n' : ℕ → ℕ) (k : TokenKind) (ws : List Word) (end : Place)
-    → Keeps (word_from k ws end) (Went n' (λ i at. word_from k at.words at.end) (piece_list k) Always Same (record { words = ws; end = end })) (Stood n' (λ (i : ℕ) (at : At). word_from k at.words at.end) (piece_list k) Always (record { words = ws; end = end }))
+    → Keeps (word_from k ws end) (Went n' (λ i at. word_from k at.words at.end) (piece_list k) Always Same (record { words = ws; end = end })) (Stood n' (λ (i : ℕ) (at : WordsAhead). word_from k at.words at.end) (piece_list k) Always (record { words = ws; end = end }))
 unfolding word_of
 word_stuck n' k [] end = record {
   is = record {
@@ -270,7 +270,7 @@ word_stuck n' k [] end = record {
 word_stuck n' k (w ∷ ws) end = by_test (is_kind w.kind k) refl
   where
     by_test : (t : Bool) → is_kind w.kind k ≡ t
-        → Keeps (if t then Ok (w, record { words = ws; end = end }) else Err (Grammar w.place)) (Went n' (λ i at. word_from k at.words at.end) (piece_list k) Always Same (record { words = w ∷ ws; end = end })) (Stood n' (λ (i : ℕ) (at : At). word_from k at.words at.end) (piece_list k) Always (record { words = w ∷ ws; end = end }))
+        → Keeps (if t then Ok (w, record { words = ws; end = end }) else Err (Grammar w.place)) (Went n' (λ i at. word_from k at.words at.end) (piece_list k) Always Same (record { words = w ∷ ws; end = end })) (Stood n' (λ (i : ℕ) (at : WordsAhead). word_from k at.words at.end) (piece_list k) Always (record { words = w ∷ ws; end = end }))
     by_test true e = record {
       is = record {
         text = w.text;
@@ -298,8 +298,8 @@ word_stuck n' k (w ∷ ws) end = by_test (is_kind w.kind k) refl
       };
     }
 
-pub word_guards : (n : ℕ) (n' most : ℕ → ℕ) (k : TokenKind) → Guards n n' most (word_at k) (λ i. word_at k) (piece_list k) Always Same Always
-unfolding word_at
+pub word_guards : (n : ℕ) (n' most : ℕ → ℕ) (k : TokenKind) → Guards n n' most (next_word k) (λ i. next_word k) (piece_list k) Always Same Always
+unfolding next_word
 word_guards n n' most k = record {
   never = λ i at t rest fine h _. lets_gets _ _ _ ((word_exact (most i) k).again at t rest tt h tt) (λ y p. p.1);
   stuck = λ at room. word_stuck n' k at.words at.end;
@@ -310,7 +310,7 @@ place_found k [] end = record { is = tt }
 place_found k (w ∷ ws) end = found_if (is_kind w.kind k) _ _ _ (record { is = refl }) (record { is = tt })
 
 -- the word with its place
-pub placed_word : (n : ℕ) (n' most : ℕ → ℕ) (k : TokenKind) (at : At) → length at.words < n
-    → Keeps (word_at k at) (λ w. Went n' (λ i. word_at k) (piece_list k) Always Same at w × (place_of_next at.words at.end ≡ w.0.place)) (Stood n' (λ i. word_at k) (piece_list k) Always at)
-unfolding word_at
+pub placed_word : (n : ℕ) (n' most : ℕ → ℕ) (k : TokenKind) (at : WordsAhead) → length at.words < n
+    → Keeps (next_word k at) (λ w. Went n' (λ i. next_word k) (piece_list k) Always Same at w × (place_of_next at.words at.end ≡ w.0.place)) (Stood n' (λ i. next_word k) (piece_list k) Always at)
+unfolding next_word
 placed_word n n' most k at room = keeps_found _ _ _ _ ((word_guards n n' most k).stuck at room) (place_found k at.words at.end)

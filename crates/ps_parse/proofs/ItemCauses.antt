@@ -14,13 +14,13 @@ use Rattle.ps_tree.specs.declared.limit_name.LimitName.TheVariants as limit
 use Rattle.ps_parse.specs.declared.read_refusal.ReadRefusal.{ReadRefusal}
 use Rattle.ps_parse.specs.declared.read_refusal.ReadRefusal.TheVariants as refusal
 use Rattle.ps_parse.specs.Blocks.{ended_at}
-use Rattle.ps_parse.specs.Causes.{words_at, is_declaration, declared_in, is_after_factor, count_of, rows_in, levels_with, levels, opens_level, GivesRows, IsCauseAt, rank}
+use Rattle.ps_parse.specs.Causes.{words_at, is_declaration, declared_in, is_after_factor, count_of, rows_passed, levels_with, levels, opens_level, GivesRows, IsCauseAt, rank}
 use Rattle.ps_grammar.specs.Declarations.{Declared, most_globals, most_locals, most_rows, nothing_declared, names_of}
-use Rattle.ps_parse.specs.Items.{is_declared, refused_name, new_name_at, number_at, value_at, item_rows, global_at, local_at, init_at, counted_item_at, with_rows, item_at, has_item, items_at}
-use Rattle.ps_grammar.specs.Names.{Names, variable_of}
+use Rattle.ps_parse.specs.Items.{is_some_variable, refused_name, new_name_at, signed_number_ahead, declared_value_ahead, item_rows, global_at, local_at, init_at, counted_item_at, with_rows, item_at, has_item, items_at}
+use Rattle.ps_grammar.specs.Names.{Names, variable_of_name}
 use Rattle.ps_parse.specs.Sums.{init_sign_of, relation_at}
 use Rattle.ps_grammar.specs.Words.{Word}
-use Rattle.ps_parse.specs.Reading.{At, Read, is_kind, begins_with, next_is, place_of_next, word_from, word_at, after_word, while_at}
+use Rattle.ps_parse.specs.Reading.{WordsAhead, ReadWords, is_kind, begins_with, next_is, place_of_next, word_from, next_word, after_word, words_while}
 use Rattle.ps_parse.proofs.Steps.{Finds, found_if}
 use Rattle.ps_parse.proofs.RelationLaws.{init_signs}
 use Rattle.ps_parse.proofs.DeclarationLaws.{with_global}
@@ -34,26 +34,26 @@ use Rattle.ps_parse.proofs.SumCauses.{Past, LevelsAre, mark_keeps, while_keeps, 
 -- ---- between two words
 
 -- No level is open, and nothing hangs on the nearest word.
-pub record Stands (t : Whole) (names : Names) (back : List Word) (at : At) : Type 0 where
+pub record Stands (t : Whole) (names : Names) (back : List Word) (at : WordsAhead) : Type 0 where
   pub inside : In t names back at
   pub fresh : Fresh false back
   pub level : levels back ≡ []
 
 -- the same, after some words
-pub record Reaches (t : Whole) (names : Names) (at : At) : Type 0 where
+pub record Reaches (t : Whole) (names : Names) (at : WordsAhead) : Type 0 where
   pub back : List Word
   pub stands : Stands t names back at
 
 -- between the two ways to say so
-reached : {A : Type 0} {t : Whole} {names : Names} (y : A × At) → Past t names (LevelsAre []) y → Reaches t names y.1
+reached : {A : Type 0} {t : Whole} {names : Names} (y : A × WordsAhead) → Past t names (LevelsAre []) y → Reaches t names y.1
 reached y p = record { back = p.back; stands = record { inside = p.here; fresh = p.fresh; level = p.so } }
 
-past_of : {A : Type 0} {t : Whole} {names : Names} (y : A × At) → Reaches t names y.1 → Past t names (LevelsAre []) y
+past_of : {A : Type 0} {t : Whole} {names : Names} (y : A × WordsAhead) → Reaches t names y.1 → Past t names (LevelsAre []) y
 past_of y r = record { back = r.back; here = r.stands.inside; fresh = r.stands.fresh; so = r.stands.level }
 
 -- A reading function goes on from there to there.
-pub record Passes {A : Type 0} (t : Whole) (names : Names) (read : Read A) : Type 0 where
-  pub law : (at : At) → Reaches t names at → Keeps (read at) (λ y. Reaches t names y.1) (Blamed t)
+pub record Passes {A : Type 0} (t : Whole) (names : Names) (read : ReadWords A) : Type 0 where
+  pub law : (at : WordsAhead) → Reaches t names at → Keeps (read at) (λ y. Reaches t names y.1) (Blamed t)
 
 -- a word that no refusal has a cause at, and on which nothing hangs
 record IsPlain (k : TokenKind) : Type 0 where
@@ -62,19 +62,19 @@ record IsPlain (k : TokenKind) : Type 0 where
   pub atomic : is_kind k kind.Atomic ≡ false
   pub level : levels_with false k [] ≡ []
 
-passes_word : {t : Whole} {names : Names} (k : TokenKind) → IsPlain k → Passes t names (word_at k)
+passes_word : {t : Whole} {names : Names} (k : TokenKind) → IsPlain k → Passes t names (next_word k)
 passes_word k p = record {
   law = λ at r.
       keeps_more _ _ _ _ _ (mark_keeps k p.causes p.joins p.atomic r.stands.inside r.stands.fresh r.stands.level)
       (λ y q. reached y (record { back = q.back; here = q.here; fresh = q.fresh; so = q.so ∙ p.level })) (λ e b. b);
 }
 
-passes_after : {A : Type 0} {t : Whole} {names : Names} {read : Read A} (k : TokenKind) → IsPlain k → Passes t names read → Passes t names (after_word k read)
+passes_after : {A : Type 0} {t : Whole} {names : Names} {read : ReadWords A} (k : TokenKind) → IsPlain k → Passes t names read → Passes t names (after_word k read)
 passes_after {t = t} {names = names} {read = read} k p h = record {
   law = λ at r. after_keeps k read at (λ y. Reaches t names y.1) (λ y. Reaches t names y.1) (Blamed t) ((passes_word k p).law at r) (λ w q. h.law w.1 q);
 }
 
-passes_ended : {A : Type 0} {t : Whole} {names : Names} {read : Read A} → Passes t names read → Passes t names (ended_at read)
+passes_ended : {A : Type 0} {t : Whole} {names : Names} {read : ReadWords A} → Passes t names read → Passes t names (ended_at read)
 unfolding ended_at
 passes_ended h = record {
   law = λ at r.
@@ -82,7 +82,7 @@ passes_ended h = record {
       then_keeps _ _ _ _ _ ((passes_word kind.Semicolon (record { causes = refl; joins = refl; atomic = refl; level = refl })).law x.1 p) (λ w q. keeps_end _ _ _ q));
 }
 
-passes_while : {A : Type 0} {t : Whole} {names : Names} {read : Read A} (goes : At → Bool) (m : ℕ) → Passes t names read → Passes t names (while_at goes read m)
+passes_while : {A : Type 0} {t : Whole} {names : Names} {read : ReadWords A} (goes : WordsAhead → Bool) (m : ℕ) → Passes t names read → Passes t names (words_while goes read m)
 passes_while {t = t} {names = names} {read = read} goes m h = record {
   law = λ at r.
       keeps_more _ _ _ _ _
@@ -96,8 +96,8 @@ passes_while {t = t} {names = names} {read = read} goes m h = record {
 number_plain : IsPlain kind.Number
 number_plain = record { causes = refl; joins = refl; atomic = refl; level = refl }
 
-passes_number : (t : Whole) (names : Names) → Passes t names number_at
-unfolding number_at
+passes_number : (t : Whole) (names : Names) → Passes t names signed_number_ahead
+unfolding signed_number_ahead
 passes_number t names = record {
   law = λ at r.
       if_keeps (next_is kind.Minus at) _ _ _ _
@@ -105,8 +105,8 @@ passes_number t names = record {
       (λ e. then_keeps _ _ _ _ _ ((passes_word kind.Number number_plain).law at r) (λ w q. keeps_end _ _ _ q));
 }
 
-passes_value : (t : Whole) (names : Names) → Passes t names value_at
-unfolding value_at
+passes_value : (t : Whole) (names : Names) → Passes t names declared_value_ahead
+unfolding declared_value_ahead
 passes_value t names = record {
   law = λ at r.
       if_keeps (next_is kind.Equal at) _ _ _ _
@@ -116,19 +116,19 @@ passes_value t names = record {
 
 -- ---- declared names
 
-knows_in : {t : Whole} {names : Names} {back : List Word} {at : At} → In t names back at → Knows names (declared_in back)
-knows_in {names = names} {back = back} h = record { same = λ y. by_variable y (variable_of names y) refl }
+knows_in : {t : Whole} {names : Names} {back : List Word} {at : WordsAhead} → In t names back at → Knows names (declared_in back)
+knows_in {names = names} {back = back} h = record { same = λ y. by_variable y (variable_of_name names y) refl }
   where
     by_list : (y : List ℕ) → ¬ Contains (declared_in back) y → (b : Bool) → has_name y (declared_in back) ≡ b → false ≡ b
     by_list y none true e = absurd (none (contains_named y (declared_in back) e))
     by_list y none false e = refl
 
-    by_variable : (y : List ℕ) (o : Option Var) → variable_of names y ≡ o → is_declared o ≡ has_name y (declared_in back)
+    by_variable : (y : List ℕ) (o : Option Var) → variable_of_name names y ≡ o → is_some_variable o ≡ has_name y (declared_in back)
     by_variable y None e = by_list y (h.unknown y e) (has_name y (declared_in back)) refl
     by_variable y (Some v) e = sym (named_contains y (declared_in back) (h.known y v e))
 
 -- after `global` or `local`
-record Declaring (t : Whole) (names : Names) (back : List Word) (at : At) : Type 0 where
+record Declaring (t : Whole) (names : Names) (back : List Word) (at : WordsAhead) : Type 0 where
   pub inside : In t names back at
   pub declares : is_declaration back ≡ true
   pub factor : is_after_factor back ≡ false
@@ -160,7 +160,7 @@ record HasRoom (back : List Word) : Type 0 where
   pub locals : begins_with kind.Local back ≡ true → count_of kind.Local back ≤ most_locals
 
 -- a name that was read where one is declared
-record IsNamed (t : Whole) (names : Names) (back : List Word) (y : List ℕ × At) : Type 0 where
+record IsNamed (t : Whole) (names : Names) (back : List Word) (y : List ℕ × WordsAhead) : Type 0 where
   pub word : Word
   pub kind_is : word.kind ≡ kind.Name
   pub text : y.0 ≡ word.text
@@ -183,14 +183,14 @@ new_allows back w ahead e declares factor new room = record {
 abbrev IsFull : List Word → LimitName → Type 0
 IsFull back what = (w : Word) (ws : List Word) → w.kind ≡ kind.Name → IsCauseAt back w ws (refusal.Limit w.place what)
 
-new_keeps : (t : Whole) (d : Declared) (count most : ℕ) (what : LimitName) (back : List Word) (at : At) → Declaring t (names_of d) back at → (most ≤ count → IsFull back what) → (count < most → HasRoom back)
+new_keeps : (t : Whole) (d : Declared) (count most : ℕ) (what : LimitName) (back : List Word) (at : WordsAhead) → Declaring t (names_of d) back at → (most ≤ count → IsFull back what) → (count < most → HasRoom back)
     → Keeps (new_name_at d count most what at) (IsNamed t (names_of d) back) (Blamed t)
 unfolding new_name_at
 new_keeps t d count most what back at h full room =
     then_keeps _ _ _ _ _ (found_word kind.Name h.inside (ap (λ (b : Bool). b && begins_with kind.Name at.words) h.factor)) (λ w p.
-    by_tests w p.0 p.1 (is_declared (variable_of (names_of d) w.0.text)) (nat_le most count) refl refl)
+    by_tests w p.0 p.1 (is_some_variable (variable_of_name (names_of d) w.0.text)) (nat_le most count) refl refl)
   where
-    by_tests : (w : Word × At) → w.0.kind ≡ kind.Name → In t (names_of d) back (record { words = w.0 ∷ w.1.words; end = w.1.end }) → (a b : Bool) → is_declared (variable_of (names_of d) w.0.text) ≡ a → nat_le most count ≡ b
+    by_tests : (w : Word × WordsAhead) → w.0.kind ≡ kind.Name → In t (names_of d) back (record { words = w.0 ∷ w.1.words; end = w.1.end }) → (a b : Bool) → is_some_variable (variable_of_name (names_of d) w.0.text) ≡ a → nat_le most count ≡ b
         → Keeps (refused_name a b what w) (IsNamed t (names_of d) back) (Blamed t)
     by_tests w e i true b f g = record {
       is = blame (refusal.Twice w.0.place) i refl (e, h.declares, contains_known (names_of d) (declared_in back) w.0.text (knows_in i) f) (least_twice back w.0 w.1.words h.declares h.factor);
@@ -209,7 +209,7 @@ new_keeps t d count most what back at h full room =
     }
 
 -- the word declares its name
-declared_step : {t : Whole} {names : Names} {back : List Word} {at : At} (names' : Names) (y : List ℕ × At) → Declaring t names back at → IsNamed t names back y → (Knows names (declared_in back) → Knows names' (y.0 ∷ declared_in back)) → Reaches t names' y.1
+declared_step : {t : Whole} {names : Names} {back : List Word} {at : WordsAhead} (names' : Names) (y : List ℕ × WordsAhead) → Declaring t names back at → IsNamed t names back y → (Knows names (declared_in back) → Knows names' (y.0 ∷ declared_in back)) → Reaches t names' y.1
 declared_step {names = names} {back = back} names' y h n more =
     let list : declared_in (n.word ∷ back) ≡ y.0 ∷ declared_in back = cond-true _ _ _ h.declares ∙ ap (λ (x : List ℕ). x ∷ declared_in back) (sym n.text) in
     let knows : Knows names' (declared_in (n.word ∷ back)) = subst (Knows names') (sym list) (more (knows_in h.inside)) in
@@ -220,8 +220,8 @@ declared_step {names = names} {back = back} names' y h n more =
           whole = n.inside.whole;
           ends = n.inside.ends;
           clean = (no_cause n.allows, n.inside.clean);
-          known = λ x v e. contains_known names' (declared_in (n.word ∷ back)) x knows (ap is_declared e);
-          unknown = λ x e c. not_contains names' (declared_in (n.word ∷ back)) x knows (ap is_declared e) c;
+          known = λ x v e. contains_known names' (declared_in (n.word ∷ back)) x knows (ap is_some_variable e);
+          unknown = λ x e c. not_contains names' (declared_in (n.word ∷ back)) x knows (ap is_some_variable e) c;
         };
         fresh = fresh_word kind.Name back refl n.kind_is;
         level = level_word n.word kind.Name back (begins_with kind.Atomic back) [] n.kind_is refl h.level;
@@ -237,7 +237,7 @@ word_is k (w ∷ ws) end = found_if (is_kind w.kind k) _ _ _ (record { is = refl
 
 -- whatever rows the words ahead give, they are within the limit
 record RowsFit (back ws : List Word) : Type 0 where
-  pub is : (rows : ℕ) → GivesRows ws rows → rows_in back + rows ≤ most_rows
+  pub is : (rows : ℕ) → GivesRows ws rows → rows_passed back + rows ≤ most_rows
 
 item_allows : (back : List Word) (w : Word) (ahead : List Word) (k : TokenKind) → (is_kind k kind.Name || (is_kind k kind.While || opens_level k)) ≡ false → RowsFit back (w ∷ ahead) → w.kind ≡ k → Allows back w ahead
 item_allows back w ahead k h fit e =
@@ -254,17 +254,17 @@ item_allows back w ahead k h fit e =
       depth = λ i. test_clash w opens_level e b.1 i;
     }
 
-item_word : {t : Whole} {names : Names} {back : List Word} {at : At} (k : TokenKind) → (is_kind k kind.Name || (is_kind k kind.While || opens_level k)) ≡ false → Stands t names back at → RowsFit back at.words
-    → Keeps (word_at k at) (λ y. (y.0.kind ≡ k) × In t names (y.0 ∷ back) y.1) (Blamed t)
-unfolding word_at
+item_word : {t : Whole} {names : Names} {back : List Word} {at : WordsAhead} (k : TokenKind) → (is_kind k kind.Name || (is_kind k kind.While || opens_level k)) ≡ false → Stands t names back at → RowsFit back at.words
+    → Keeps (next_word k at) (λ y. (y.0.kind ≡ k) × In t names (y.0 ∷ back) y.1) (Blamed t)
+unfolding next_word
 item_word {back = back} {at = at} k h s fit =
     keeps_more _ _ _ _ _ (keeps_found _ _ _ _ (found_word k s.inside (fresh_linear at.words s.fresh)) (word_is k at.words at.end))
     (λ y p. (p.0.0, stepped p.0.1 s.fresh.declaration (item_allows back y.0 y.1.words k h (subst (RowsFit back) p.1 fit) p.0.0)))
     (λ e b. b)
 
 -- `global` or `local`, and then a name is declared
-item_declares : {t : Whole} {names : Names} {back : List Word} {at : At} {w : Word} (k : TokenKind) → (is_kind k kind.Global || is_kind k kind.Local) ≡ true → is_kind k kind.Star ≡ false → levels_with false k [] ≡ []
-    → Stands t names back at → (after : At) → w.kind ≡ k → In t names (w ∷ back) after → Declaring t names (w ∷ back) after
+item_declares : {t : Whole} {names : Names} {back : List Word} {at : WordsAhead} {w : Word} (k : TokenKind) → (is_kind k kind.Global || is_kind k kind.Local) ≡ true → is_kind k kind.Star ≡ false → levels_with false k [] ≡ []
+    → Stands t names back at → (after : WordsAhead) → w.kind ≡ k → In t names (w ∷ back) after → Declaring t names (w ∷ back) after
 item_declares {back = back} {w = w} k d f l s after e i = record {
   inside = i;
   declares = ap (λ (j : TokenKind). is_kind j kind.Global || is_kind j kind.Local) e ∙ d;
@@ -286,7 +286,7 @@ not_begins w back k j e no' h = absurd (true≢false (sym h ∙ ap (λ (i : Toke
 -- ---- items
 
 -- Some items were read: their names, rows and counts are those of the words that were passed.
-pub record Declares (t : Whole) (d : Declared) (at : At) : Type 0 where
+pub record Declares (t : Whole) (d : Declared) (at : WordsAhead) : Type 0 where
   pub back : List Word
   pub stands : Stands t (names_of d) back at
   pub tallies : Tallies d back
@@ -301,7 +301,7 @@ one_local d x = record { globals = (names_of d).globals; locals = d.locals ++ x 
 global_names : (d : Declared) (x : List ℕ) (v : Option ℤ) → names_of (with_global d x v) ≡ one_global d x
 global_names d x v = ap (λ (xs : List (List ℕ)). record { globals = xs; locals = d.locals }) (map-append (λ (g : GlobalDecl). g.name) d.globals (record { name = x; value = v } ∷ []))
 
-global_keeps : (t : Whole) (d : Declared) (back : List Word) (at : At) → Stands t (names_of d) back at → length d.globals ≡ count_of kind.Global back → RowsFit back at.words → Keeps (global_at d at) (λ y. Reaches t (names_of y.0) y.1) (Blamed t)
+global_keeps : (t : Whole) (d : Declared) (back : List Word) (at : WordsAhead) → Stands t (names_of d) back at → length d.globals ≡ count_of kind.Global back → RowsFit back at.words → Keeps (global_at d at) (λ y. Reaches t (names_of y.0) y.1) (Blamed t)
 unfolding global_at
 global_keeps t d back at s counted fit =
     then_keeps _ _ (λ y. Reaches t (one_global d y.0) y.1) _ _
@@ -317,7 +317,7 @@ global_keeps t d back at s counted fit =
     (λ x p. then_keeps _ _ _ _ _ ((passes_ended (passes_value t (one_global d x.0))).law x.1 p)
     (λ v q. keeps_end _ _ _ (subst (λ (names : Names). Reaches t names v.1) (sym (global_names d x.0 v.0)) q)))
 
-local_keeps : (t : Whole) (d : Declared) (back : List Word) (at : At) → Stands t (names_of d) back at → length d.locals ≡ count_of kind.Local back → RowsFit back at.words → Keeps (local_at d at) (λ y. Reaches t (names_of y.0) y.1) (Blamed t)
+local_keeps : (t : Whole) (d : Declared) (back : List Word) (at : WordsAhead) → Stands t (names_of d) back at → length d.locals ≡ count_of kind.Local back → RowsFit back at.words → Keeps (local_at d at) (λ y. Reaches t (names_of y.0) y.1) (Blamed t)
 unfolding local_at ended_at
 local_keeps t d back at s counted fit =
     then_keeps _ _ _ _ _
@@ -338,7 +338,7 @@ local_keeps t d back at s counted fit =
 passes_relation : (t : Whole) (names : Names) (n : ℕ) → Passes t names (relation_at init_sign_of (Some names) n)
 passes_relation t names n = record { law = λ at r. keeps_more _ _ _ _ _ (relation_keeps init_sign_of init_signs n r.stands.inside r.stands.fresh r.stands.level) (λ y p. reached y p) (λ e b. b) }
 
-init_keeps : (t : Whole) (n : ℕ) (d : Declared) (back : List Word) (at : At) → Stands t (names_of d) back at → RowsFit back at.words → Keeps (init_at d n at) (λ y. Reaches t (names_of y.0) y.1) (Blamed t)
+init_keeps : (t : Whole) (n : ℕ) (d : Declared) (back : List Word) (at : WordsAhead) → Stands t (names_of d) back at → RowsFit back at.words → Keeps (init_at d n at) (λ y. Reaches t (names_of y.0) y.1) (Blamed t)
 unfolding init_at
 init_keeps t n d back at s fit =
     then_keeps _ _ _ _ _
@@ -355,7 +355,7 @@ init_keeps t n d back at s fit =
     ((passes_ended (passes_while (next_is kind.And) n (passes_after kind.And (record { causes = refl; joins = refl; atomic = refl; level = refl }) (passes_relation t (names_of d) n)))).law r.1 p)
     (λ rs q. keeps_end _ _ _ q))
 
-counted_keeps : (t : Whole) (n : ℕ) (d : Declared) (back : List Word) (at : At) → Stands t (names_of d) back at → length d.globals ≡ count_of kind.Global back → length d.locals ≡ count_of kind.Local back → RowsFit back at.words
+counted_keeps : (t : Whole) (n : ℕ) (d : Declared) (back : List Word) (at : WordsAhead) → Stands t (names_of d) back at → length d.globals ≡ count_of kind.Global back → length d.locals ≡ count_of kind.Local back → RowsFit back at.words
     → Keeps (counted_item_at d n at) (λ y. Reaches t (names_of y.0) y.1) (Blamed t)
 unfolding counted_item_at
 counted_keeps t n d back at s globals locals fit =
@@ -370,7 +370,7 @@ item_kind k h = absurd (true≢false (sym h))
 
 -- the rows of an item pass the limit
 rows_blamed : (t : Whole) (names : Names) (back ws : List Word) (end : Place) (rows : ℕ) → In t names back (record { words = ws; end = end }) → has_item (record { words = ws; end = end }) ≡ true
-    → GivesRows ws rows → most_rows < rows_in back + rows → Blamed t (refusal.Limit (place_of_next ws end) limit.Init)
+    → GivesRows ws rows → most_rows < rows_passed back + rows → Blamed t (refusal.Limit (place_of_next ws end) limit.Init)
 rows_blamed t names back [] end rows h item gives many = absurd (true≢false (sym item))
 rows_blamed t names back (w ∷ ws) end rows h item gives many = blame (refusal.Limit w.place limit.Init) h refl (rows, gives, many) (least_limit back w ws w.kind refl (item_kind w.kind item))
 
@@ -378,11 +378,11 @@ length_ahead : (back ws : List Word) → length ws ≤ length (words_at back ws)
 length_ahead [] ws = omega arith
 length_ahead (w ∷ back) ws = let h : length (w ∷ ws) ≤ length (words_at back (w ∷ ws)) = length_ahead back (w ∷ ws) in omega (arith, h)
 
-read_keeps : (t : Whole) (d : Declared) (at : At) → length at.words ≤ length t.words → has_item at ≡ true → Declares t d at → Keeps (item_at d (length t.words) at) (λ y. Reaches t (names_of y.0) y.1) (Blamed t)
+read_keeps : (t : Whole) (d : Declared) (at : WordsAhead) → length at.words ≤ length t.words → has_item at ≡ true → Declares t d at → Keeps (item_at d (length t.words) at) (λ y. Reaches t (names_of y.0) y.1) (Blamed t)
 unfolding item_at
 read_keeps t d at room item s =
     let n : ℕ = length t.words in
-    let same : d.rows ≡ rows_in s.back = s.tallies.rows in
+    let same : d.rows ≡ rows_passed s.back = s.tallies.rows in
     let within : d.rows ≤ most_rows = s.tallies.within in
     if_keeps (nat_lt most_rows (d.rows + item_rows n at)) _ _ _ _
     (λ e.
@@ -393,7 +393,7 @@ read_keeps t d at room item s =
     counted_keeps t n (with_rows (d.rows + item_rows n at) d) s.back at s.stands s.tallies.globals s.tallies.locals
     (record { is = λ rows g. let counted : rows ≤ item_rows n at = rows_counted n at rows room g in omega (arith, few, same, counted) }))
 
-item_keeps : (t : Whole) (d : Declared) (at : At) → has_item at ≡ true → Declares t d at → Keeps (item_at d (length t.words) at) (λ y. Declares t y.0 y.1) (Blamed t)
+item_keeps : (t : Whole) (d : Declared) (at : WordsAhead) → has_item at ≡ true → Declares t d at → Keeps (item_at d (length t.words) at) (λ y. Declares t y.0 y.1) (Blamed t)
 item_keeps t d at item s =
     let inside : In t (names_of d) s.back at = s.stands.inside in
     let room : length at.words ≤ length t.words = omega (arith, length_ahead s.back at.words, ap (λ (ws : List Word). length ws) inside.whole) in
@@ -401,7 +401,7 @@ item_keeps t d at item s =
     (λ y p. record { back = p.0.back; stands = p.0.stands; tallies = p.1 p.0.back (p.0.stands.inside.whole ∙ sym inside.whole) })
     (λ e b. b)
 
-pub items_keeps : (t : Whole) (m : ℕ) (d : Declared) (at : At) → Declares t d at → Keeps (items_at (length t.words) d m at) (λ y. Declares t y.0 y.1) (Blamed t)
+pub items_keeps : (t : Whole) (m : ℕ) (d : Declared) (at : WordsAhead) → Declares t d at → Keeps (items_at (length t.words) d m at) (λ y. Declares t y.0 y.1) (Blamed t)
 unfolding items_at
 items_keeps t zero d at s = keeps_end _ _ _ s
 items_keeps t (suc m) d at s =
@@ -416,8 +416,8 @@ declares_none t = record {
       whole = refl;
       ends = refl;
       clean = tt;
-      known = λ x v e. contains_known (names_of nothing_declared) [] x knows_none (ap is_declared e);
-      unknown = λ x e c. not_contains (names_of nothing_declared) [] x knows_none (ap is_declared e) c;
+      known = λ x v e. contains_known (names_of nothing_declared) [] x knows_none (ap is_some_variable e);
+      unknown = λ x e c. not_contains (names_of nothing_declared) [] x knows_none (ap is_some_variable e) c;
     };
     fresh = record { declaration = refl; factor = refl; atomic = refl };
     level = refl;

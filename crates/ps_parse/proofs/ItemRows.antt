@@ -9,14 +9,14 @@ use Rattle.ps_tree.specs.declared.limit_name.LimitName.TheVariants as limit
 use Rattle.ps_tree.specs.declared.relation.Sign.{Sign}
 use Rattle.ps_tree.specs.declared.relation.Sign.TheVariants as sign
 use Rattle.ps_parse.specs.declared.read_refusal.ReadRefusal.TheVariants.{Limit}
-use Rattle.ps_parse.specs.Causes.{words_at, count_of, rows_in}
+use Rattle.ps_parse.specs.Causes.{words_at, count_of, rows_passed}
 use Rattle.ps_grammar.specs.Grammar.{ProductText, number, name, number_name, name_number, SumText, RelationText, ValueText, ItemText, global, local, init}
 use Rattle.ps_grammar.specs.Declarations.{Declared, most_rows, rows_of_sign, rows_of_value}
 use Rattle.ps_parse.specs.Items.{item_rows, counted_item_at, with_rows, item_at}
 use Rattle.ps_grammar.specs.Spelling.{Piece, NumberPiece, Mark, piece_of_kind, pieces, product_pieces, minus_pieces, plus_or_minus, further_pieces, sum_pieces, sign_kind, relation_pieces, value_pieces, more_relations, item_pieces}
-use Rattle.ps_grammar.specs.Trees.{value_of, rows_of_relations, with_item}
+use Rattle.ps_grammar.specs.Trees.{declared_value, rows_of_relations, with_item}
 use Rattle.ps_grammar.specs.Words.{Word}
-use Rattle.ps_parse.specs.Reading.{At, is_kind, place_at}
+use Rattle.ps_parse.specs.Reading.{WordsAhead, is_kind, place_at}
 use Rattle.ps_parse.proofs.Steps.{kind_of, kind_of_piece, takes_pieces, ahead_so, Finds, found_more}
 use Rattle.ps_parse.proofs.DeclarationLaws.{declaration_exact}
 use Rattle.ps_parse.proofs.ProgramLaws.{rows_of_item, item_rows_again, signs_of, room_of}
@@ -90,7 +90,7 @@ weights_add (w ∷ back) =
     let h : (2 * weight (ones kind.Equal) back) + (weight (ones kind.Init) back + (weight (ones kind.And) back + weight (ones kind.EqualEqual) back)) ≡ weight row_weight back = weights_add back in
     omega (arith, h, rows_of_kind w.kind)
 
-pub rows_in_weight : (back : List Word) → rows_in back ≡ weight row_weight back
+pub rows_in_weight : (back : List Word) → rows_passed back ≡ weight row_weight back
 rows_in_weight back =
     let a : count_of kind.Equal back ≡ weight (ones kind.Equal) back = count_of_weight kind.Equal back in
     let b : count_of kind.Init back ≡ weight (ones kind.Init) back = count_of_weight kind.Init back in
@@ -174,7 +174,7 @@ more_rows : (rs : List RelationText) → weigh_signs row_weight rs ≡ rows_of_r
 more_rows [] = refl
 more_rows (r ∷ rs) = omega (arith, sign_rows r.sign, more_rows rs)
 
-value_rows : (v : Option ValueText) → weigh row_weight (value_pieces v) ≡ rows_of_value (value_of v)
+value_rows : (v : Option ValueText) → weigh row_weight (value_pieces v) ≡ rows_of_value (declared_value v)
 value_rows None = refl
 value_rows (Some v) = weigh_value row_weight row_sparse v
 
@@ -224,7 +224,7 @@ value_local None = refl
 value_local (Some v) = weigh_value (ones kind.Local) local_sparse v
 
 weigh_globals : (d : Declared) (i : ItemText) → length (with_item d i).globals ≡ length d.globals + weigh (ones kind.Global) (item_pieces i)
-weigh_globals d (global x v) = omega (arith, weigh_global (ones kind.Global) global_sparse refl x v, value_global v, length-append d.globals (record { name = x; value = value_of v } ∷ []))
+weigh_globals d (global x v) = omega (arith, weigh_global (ones kind.Global) global_sparse refl x v, value_global v, length-append d.globals (record { name = x; value = declared_value v } ∷ []))
 weigh_globals d (local x) = omega (arith, weigh_local (ones kind.Global) global_sparse refl x)
 weigh_globals d (init r rs) = omega (arith, weigh_init (ones kind.Global) global_sparse refl r rs, sign_global r.sign, no_globals rs)
 
@@ -237,13 +237,13 @@ weigh_locals d (init r rs) = omega (arith, weigh_init (ones kind.Local) local_sp
 
 -- The declarations have as many rows, globals and locals as the words that were passed, and no more rows than may be.
 pub record Tallies (d : Declared) (back : List Word) : Type 0 where
-  pub rows : d.rows ≡ rows_in back
+  pub rows : d.rows ≡ rows_passed back
   pub within : d.rows ≤ most_rows
   pub globals : length d.globals ≡ count_of kind.Global back
   pub locals : length d.locals ≡ count_of kind.Local back
 
 -- An item that was read after its rows were counted.
-pub item_tallies : (n : ℕ) (d : Declared) (at : At) (back : List Word) → length at.words ≤ n → Tallies d back
+pub item_tallies : (n : ℕ) (d : Declared) (at : WordsAhead) (back : List Word) → length at.words ≤ n → Tallies d back
     → Finds (item_at d n at) (λ y. (back' : List Word) → words_at back' y.1.words ≡ words_at back at.words → Tallies y.0 back')
 unfolding item_at
 item_tallies n d at back room h = by_test (nat_lt most_rows (d.rows + item_rows n at)) refl

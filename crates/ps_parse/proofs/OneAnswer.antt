@@ -15,7 +15,7 @@ use Rattle.ps_grammar.specs.Declarations.{Declared, names_of, nothing_declared}
 use Rattle.ps_grammar.specs.Trees.{with_item}
 use Rattle.ps_grammar.specs.Fits.{RelationFits, ItemFits, ItemsFit}
 use Rattle.ps_grammar.specs.Programs.{IsProgramText}
-use Rattle.ps_parse.specs.Reads.{HasInitSigns, IsText, BeginAlike, IsFirstFault, PassesGrammar, StandsInText}
+use Rattle.ps_parse.specs.Reads.{HasInitSigns, IsText, BeginAlike, IsFirstGrammarFault, PassesGrammar, StandsInText}
 use Rattle.ps_parse.proofs.ProgramLaws.{program_of_again}
 use Rattle.ps_parse.proofs.Guards.{alike_itself}
 
@@ -63,12 +63,12 @@ same_front : (a b r s : List Word) → a ++ r ≡ b ++ s → r ≡ s → a ≡ b
 same_front a b r s e h = append_cancel_right a b s (ap (λ (ws : List Word). a ++ ws) (sym h) ∙ e)
 
 -- the words before a fault don't stop before it
-not_longer : (words : List Word) (end p q : Place) (f : IsFirstFault words end p) (g : IsFirstFault words end q) → Longer f.before g.before f.rest g.rest → ⊥
+not_longer : (words : List Word) (end p q : Place) (f : IsFirstGrammarFault words end p) (g : IsFirstGrammarFault words end q) → Longer f.before g.before f.rest g.rest → ⊥
 not_longer words end p q f g h =
     let joined : g.before ++ g.others ≡ f.before ++ (h.word ∷ (h.tail ++ g.others)) = ap (λ (ws : List Word). ws ++ g.others) h.is ∙ append_assoc f.before (h.word ∷ h.tail) g.others in
     f.stops (h.word ∷ (h.tail ++ g.others)) (subst (λ (ws : List Word). BeginAlike ws (h.word ∷ (h.tail ++ g.others))) (sym h.left) refl) (subst IsText joined g.goes_on)
 
-pub one_fault : (words : List Word) (end p q : Place) → IsFirstFault words end p → IsFirstFault words end q → p ≡ q
+pub one_fault : (words : List Word) (end p q : Place) → IsFirstGrammarFault words end p → IsFirstGrammarFault words end q → p ≡ q
 one_fault words end p q f g =
     elim (compare f.before g.before f.rest g.rest (sym f.split ∙ g.split)) [
       | inl h ↦ f.place_is ∙ ap (λ (ws : List Word). place_of_next ws end) h.left ∙ sym g.place_is
@@ -79,7 +79,7 @@ one_fault words end p q f g =
     ]
 
 -- A front that goes on as some text doesn't pass a fault.
-pub not_after : (words : List Word) (end p : Place) (f : IsFirstFault words end p) (before rest others : List Word) → words ≡ before ++ rest → IsText (before ++ others) → (tail : List Word) × (f.before ≡ before ++ tail)
+pub not_after : (words : List Word) (end p : Place) (f : IsFirstGrammarFault words end p) (before rest others : List Word) → words ≡ before ++ rest → IsText (before ++ others) → (tail : List Word) × (f.before ≡ before ++ tail)
 not_after words end p f before rest others split text =
     elim (compare f.before before f.rest rest (sym f.split ∙ split)) [
       | inl h ↦ ([], same_front f.before before f.rest rest (sym f.split ∙ split) h.left ∙ sym (append-nil before))
@@ -91,11 +91,11 @@ not_after words end p f before rest others split text =
     ]
 
 -- No other refusal stands after a fault of the grammar.
-pub not_after_fault : (words : List Word) (end p : Place) (f : IsFirstFault words end p) (e : ReadRefusal) (s : StandsInText words end e) → (tail : List Word) × (f.before ≡ s.before ++ tail)
+pub not_after_fault : (words : List Word) (end p : Place) (f : IsFirstGrammarFault words end p) (e : ReadRefusal) (s : StandsInText words end e) → (tail : List Word) × (f.before ≡ s.before ++ tail)
 not_after_fault words end p f e s = not_after words end p f s.before s.rest s.others s.split s.goes_on
 
 -- Nor does one stand at it, but for a second name of a product.
-pub not_at_fault : (words : List Word) (end p : Place) (f : IsFirstFault words end p) (e : ReadRefusal) (s : StandsInText words end e) → PassesGrammar e → f.before ≡ s.before → ⊥
+pub not_at_fault : (words : List Word) (end p : Place) (f : IsFirstGrammarFault words end p) (e : ReadRefusal) (s : StandsInText words end e) → PassesGrammar e → f.before ≡ s.before → ⊥
 not_at_fault words end p f e s g same =
     let left : f.rest ≡ s.rest = append_cancel_left f.before f.rest s.rest (sym f.split ∙ s.split ∙ ap (λ (ws : List Word). ws ++ s.rest) (sym same)) in
     f.stops s.others (subst (λ (ws : List Word). BeginAlike ws s.others) (sym left) (s.next g)) (subst (λ (ws : List Word). IsText (ws ++ s.others)) (sym same) s.goes_on)
@@ -118,5 +118,5 @@ items_signs d (i ∷ is) h = (item_signs d i h.0, items_signs (with_item d i) is
 pub program_is_text : (words : List Word) (p : Program) → IsProgramText words p → IsText words
 program_is_text words p h = record { text = h.text; spelled = h.spelled; signs = All-from_recursion HasInitSigns h.text.items (items_signs nothing_declared h.text.items h.fits.items) }
 
-pub no_program : (words : List Word) (end place : Place) (p : Program) → IsFirstFault words end place → IsProgramText words p → ⊥
+pub no_program : (words : List Word) (end place : Place) (p : Program) → IsFirstGrammarFault words end place → IsProgramText words p → ⊥
 no_program words end place p f h = f.stops f.rest (alike_itself f.rest) (subst IsText f.split (program_is_text words p h))

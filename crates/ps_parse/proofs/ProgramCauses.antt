@@ -6,10 +6,10 @@ use Rattle.ps_parse.specs.declared.read_refusal.ReadRefusal.{ReadRefusal}
 use Rattle.ps_parse.specs.Blocks.{block_at}
 use Rattle.ps_parse.specs.Causes.{IsFirstCause}
 use Rattle.ps_grammar.specs.Declarations.{most_levels, names_of, nothing_declared}
-use Rattle.ps_parse.specs.Items.{program_at, program_of}
+use Rattle.ps_parse.specs.Items.{program_at, program_in}
 use Rattle.ps_grammar.specs.Names.{Names}
 use Rattle.ps_grammar.specs.Words.{Word}
-use Rattle.ps_parse.specs.Reading.{end_from}
+use Rattle.ps_parse.specs.Reading.{words_end_from}
 use Rattle.ps_parse.proofs.Guards.{Keeps, keeps_end}
 use Rattle.ps_parse.proofs.ProgramGuards.{refused_is}
 use Rattle.ps_parse.proofs.CauseSteps.{Whole, In, Blamed, Fresh, fresh_linear, grammar_blamed, then_keeps, after_keeps}
@@ -18,7 +18,7 @@ use Rattle.ps_parse.proofs.StmtCauses.{outside, block_keeps}
 use Rattle.ps_parse.proofs.ItemCauses.{declares_none, items_keeps}
 
 -- where the text ends
-end_keeps : {t : Whole} {names : Names} {back : List Word} (ws : List Word) (end : Place) → In t names back (record { words = ws; end = end }) → Fresh false back → Keeps (end_from ws) (λ u. Unit {0}) (Blamed t)
+end_keeps : {t : Whole} {names : Names} {back : List Word} (ws : List Word) (end : Place) → In t names back (record { words = ws; end = end }) → Fresh false back → Keeps (words_end_from ws) (λ u. Unit {0}) (Blamed t)
 end_keeps [] end h f = keeps_end _ _ _ tt
 end_keeps (w ∷ ws) end h f = record { is = grammar_blamed h (fresh_linear (w ∷ ws) f) }
 
@@ -32,8 +32,8 @@ program_keeps t =
     then_keeps _ _ _ _ _ (end_keeps b.1.words b.1.end q.here q.fresh) (λ u v. keeps_end _ _ _ tt)))
 
 -- A refusal stands at the first word that has a cause of one.
-pub program_of_first : (words : List Word) (end : Place) (e : ReadRefusal) → program_of words end ≡ Err e → IsFirstCause words end e
-program_of_first words end e h = refused_is (program_of words end) (λ p. Unit {0}) (Blamed t) e (program_keeps t) h
+pub program_of_first : (words : List Word) (end : Place) (e : ReadRefusal) → program_in words end ≡ Err e → IsFirstCause words end e
+program_of_first words end e h = refused_is (program_in words end) (λ p. Unit {0}) (Blamed t) e (program_keeps t) h
   where
     t : Whole
     t = record { words = words; end = end }

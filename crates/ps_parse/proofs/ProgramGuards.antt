@@ -13,14 +13,14 @@ use Rattle.ps_parse.specs.declared.read_refusal.ReadRefusal.{ReadRefusal}
 use Rattle.ps_parse.specs.declared.read_refusal.ReadRefusal.TheVariants.{Grammar}
 use Rattle.ps_grammar.specs.Grammar.{ItemText, BlockText, ProgramText}
 use Rattle.ps_grammar.specs.Words.{Word}
-use Rattle.ps_parse.specs.Reading.{At, Read, next_is, place_of_next, after_word, end_from, end_at}
+use Rattle.ps_parse.specs.Reading.{WordsAhead, ReadWords, next_is, place_of_next, after_word, words_end_from, words_end}
 use Rattle.ps_lines.specs.Steps.{◌>>=◌}
 use Rattle.ps_grammar.specs.Names.{Names}
 use Rattle.ps_parse.specs.Blocks.{block_at}
 use Rattle.ps_grammar.specs.Declarations.{Declared, most_levels, nothing_declared, names_of}
-use Rattle.ps_parse.specs.Items.{item_at, has_item, items_at, program_at, program_of}
+use Rattle.ps_parse.specs.Items.{item_at, has_item, items_at, program_at, program_in}
 use Rattle.ps_grammar.specs.Spelling.{Piece, Mark, piece_of_kind, pieces, item_pieces, block_pieces, program_pieces}
-use Rattle.ps_parse.specs.Reads.{HasInitSigns, IsText, BeginAlike, IsFirstFault, refusal_place, PassesGrammar, StandsInText}
+use Rattle.ps_parse.specs.Reads.{HasInitSigns, IsText, BeginAlike, IsFirstGrammarFault, refusal_place, PassesGrammar, StandsInText}
 use Rattle.ps_parse.proofs.Steps.{Ahead, ahead_so, Always, Gets, gets_bind}
 use Rattle.ps_parse.proofs.ProgramLaws.{items_pieces, begins_item, item_ahead, item_begins, few_items, item_some, end_again}
 use Rattle.ps_parse.proofs.Guards.{IsGrammar, Refused, Lets, Keeps, refused_bind, refused_after, lets_bind, lets_end, lets_true, lets_false, keeps_bind, keeps_end, keeps_more, alike_after, Resumes, resumes_more, resumes_alike, IsTest, next_test, Went, Stood, Guards, Any, Example, pieces_are, room_left}
@@ -31,15 +31,15 @@ use Rattle.ps_parse.proofs.DeclarationGuards.{beside, free_item, item_guards}
 -- ---- reading that asks nothing of names and limits
 
 -- at most so many items
-free_items : ℕ → ℕ → Read Declared
+free_items : ℕ → ℕ → ReadWords Declared
 free_items n zero at = Ok (nothing_declared, at)
 free_items n (suc m) at = if has_item at then (free_item n at >>= λ x. free_items n m x.1) else Ok (nothing_declared, at)
 
-abbrev free_block : ℕ → Read (List Stmt)
+abbrev free_block : ℕ → ReadWords (List Stmt)
 free_block n = after_word kind.Thread (block_at None n most_levels false)
 
-free_program : ℕ → At → Result (Unit {0}) ReadRefusal
-free_program n at = free_items n n at >>= λ d. free_block n d.1 >>= λ b. end_at b.1
+free_program : ℕ → WordsAhead → Result (Unit {0}) ReadRefusal
+free_program n at = free_items n n at >>= λ d. free_block n d.1 >>= λ b. words_end b.1
 
 item_test : IsTest has_item
 item_test = record {
@@ -57,15 +57,15 @@ an_item : (ws : List Word) (end : Place) → has_item (record { words = ws; end 
 an_item [] end h = absurd cc
 an_item (w ∷ ws) end h = omega arith
 
-free_stops : (n m : ℕ) (at : At) → has_item at ≡ false → free_items n m at ≡ Ok (nothing_declared, at)
+free_stops : (n m : ℕ) (at : WordsAhead) → has_item at ≡ false → free_items n m at ≡ Ok (nothing_declared, at)
 unfolding free_items
 free_stops n zero at h = refl
 free_stops n (suc m) at h = cond-false _ _ _ h
 
-free_turn : ℕ → ℕ → Read Declared
+free_turn : ℕ → ℕ → ReadWords Declared
 free_turn n m at = free_item n at >>= λ x. free_items n m x.1
 
-free_goes : (n m : ℕ) (at : At) → has_item at ≡ true → 1 ≤ m → free_items n m at ≡ (free_item n at >>= λ x. free_items n (m - 1) x.1)
+free_goes : (n m : ℕ) (at : WordsAhead) → has_item at ≡ true → 1 ≤ m → free_items n m at ≡ (free_item n at >>= λ x. free_items n (m - 1) x.1)
 unfolding free_items free_turn
 free_goes n zero at h le = absurd (omega (arith, le))
 free_goes n (suc m) at h le =
@@ -74,13 +74,13 @@ free_goes n (suc m) at h le =
 
 -- ---- items
 
-abbrev ItemsWent : (ℕ → ℕ) → (ℕ → ℕ) → At → Declared × At → Type 0
+abbrev ItemsWent : (ℕ → ℕ) → (ℕ → ℕ) → WordsAhead → Declared × WordsAhead → Type 0
 ItemsWent m' l' = Went l' (λ i. free_items i (m' i)) items_pieces (AllByRecursion HasInitSigns) Any
 
-abbrev ItemsStood : (ℕ → ℕ) → (ℕ → ℕ) → At → ReadRefusal → Type 0
+abbrev ItemsStood : (ℕ → ℕ) → (ℕ → ℕ) → WordsAhead → ReadRefusal → Type 0
 ItemsStood m' l' = Stood l' (λ i. free_items i (m' i)) items_pieces (AllByRecursion HasInitSigns)
 
-items_none : (m' l' : ℕ → ℕ) (d : Declared) (at : At) → has_item at ≡ false → ItemsWent m' l' at (d, at)
+items_none : (m' l' : ℕ → ℕ) (d : Declared) (at : WordsAhead) → has_item at ≡ false → ItemsWent m' l' at (d, at)
 items_none m' l' d at e = record {
   text = [];
   fine = tt;
@@ -93,7 +93,7 @@ items_none m' l' d at e = record {
       record { value = (nothing_declared, at'); ok = free_stops i (m' i) at' off; is = (tt, h) };
 }
 
-items_fail : (m' l' : ℕ → ℕ) → ((i : ℕ) → l' i ≤ suc (m' i)) → ((i : ℕ) → l' i ≤ suc i) → (at : At) → has_item at ≡ true → (p : ReadRefusal) → Stood (λ i. suc i) free_item item_pieces HasInitSigns at p → ItemsStood m' l' at p
+items_fail : (m' l' : ℕ → ℕ) → ((i : ℕ) → l' i ≤ suc (m' i)) → ((i : ℕ) → l' i ≤ suc i) → (at : WordsAhead) → has_item at ≡ true → (p : ReadRefusal) → Stood (λ i. suc i) free_item item_pieces HasInitSigns at p → ItemsStood m' l' at p
 items_fail m' l' a b at e p q = record {
   text = q.text ∷ [];
   fine = (q.fine, tt);
@@ -110,8 +110,8 @@ items_fail m' l' a b at e p q = record {
       subst Refused (sym (free_goes i (m' i) at' on (omega (arith, room', a i, some)))) (refused_bind _ _ (q.same g i at' other (omega (arith, room', b i)) s h));
 }
 
-items_turn : (m' l' : ℕ → ℕ) → ((i : ℕ) → l' i ≤ suc (m' i)) → ((i : ℕ) → l' i ≤ suc i) → (at : At) → has_item at ≡ true
-    → (x : Declared × At) → Went (λ i. suc i) free_item item_pieces HasInitSigns Any at x → (r : Result (Declared × At) ReadRefusal)
+items_turn : (m' l' : ℕ → ℕ) → ((i : ℕ) → l' i ≤ suc (m' i)) → ((i : ℕ) → l' i ≤ suc i) → (at : WordsAhead) → has_item at ≡ true
+    → (x : Declared × WordsAhead) → Went (λ i. suc i) free_item item_pieces HasInitSigns Any at x → (r : Result (Declared × WordsAhead) ReadRefusal)
     → Keeps r (ItemsWent (λ i. m' i - 1) (λ i. l' i - 1) x.1) (ItemsStood (λ i. m' i - 1) (λ i. l' i - 1) x.1) → Keeps r (ItemsWent m' l' at) (ItemsStood m' l' at)
 items_turn m' l' a b at e x p r h =
     keeps_more _ _ _ _ _ h
@@ -151,7 +151,7 @@ items_turn m' l' a b at e x p r h =
           q.same g i x'.1 other (room_left (l' i) (l' i - 1) at'.words p.front x'.1.words (item_pieces p.text) room' (joined ∙ ap (λ (ws : List Word). p.front ++ ws) (sym c.1)) p.spelled (omega (arith, item_some p.text, room'))) s c.1));
     })
 
-items_stuck : (n m l : ℕ) (m' l' : ℕ → ℕ) (d : Declared) → l ≤ suc m → l ≤ suc n → ((i : ℕ) → l' i ≤ suc (m' i)) → ((i : ℕ) → l' i ≤ suc i) → (at : At) → length at.words < l
+items_stuck : (n m l : ℕ) (m' l' : ℕ → ℕ) (d : Declared) → l ≤ suc m → l ≤ suc n → ((i : ℕ) → l' i ≤ suc (m' i)) → ((i : ℕ) → l' i ≤ suc i) → (at : WordsAhead) → length at.words < l
     → Keeps (items_at n d m at) (ItemsWent m' l' at) (ItemsStood m' l' at)
 unfolding items_at
 items_stuck n zero l m' l' d a b a' b' at room = keeps_end _ _ _ (items_none m' l' d at (no_item at.words at.end (omega (arith, room, a))))
@@ -165,7 +165,7 @@ items_stuck n (suc m) l m' l' d a b a' b' at room =
     less' i = omega (arith, b' i)
 
     by_test : (t : Bool) → has_item at ≡ t
-        → ((e : Declared) (mid : At) → length mid.words < l - 1 → Keeps (items_at n e m mid) (ItemsWent (λ i. m' i - 1) (λ i. l' i - 1) mid) (ItemsStood (λ i. m' i - 1) (λ i. l' i - 1) mid))
+        → ((e : Declared) (mid : WordsAhead) → length mid.words < l - 1 → Keeps (items_at n e m mid) (ItemsWent (λ i. m' i - 1) (λ i. l' i - 1) mid) (ItemsStood (λ i. m' i - 1) (λ i. l' i - 1) mid))
         → Keeps (if t then (item_at d n at >>= λ x. items_at n x.0 m x.1) else Ok (d, at)) (ItemsWent m' l' at) (ItemsStood m' l' at)
     by_test true e more =
         keeps_bind _ _ _ _ _ _ ((item_guards n d).stuck at (omega (arith, room, b)) e)
@@ -173,7 +173,7 @@ items_stuck n (suc m) l m' l' d a b a' b' at room =
         (λ p q. items_fail m' l' a' b' at e p q)
     by_test false e more = keeps_end _ _ _ (items_none m' l' d at e)
 
-items_never : (i : ℕ) (is : List ItemText) (m : ℕ) (at : At) (rest : List Piece) → length is ≤ m → AllByRecursion HasInitSigns is → Ahead i at (items_pieces is ++ rest) → begins_item rest ≡ false → Lets (free_items i m at) (λ y. Ahead i y.1 rest)
+items_never : (i : ℕ) (is : List ItemText) (m : ℕ) (at : WordsAhead) (rest : List Piece) → length is ≤ m → AllByRecursion HasInitSigns is → Ahead i at (items_pieces is ++ rest) → begins_item rest ≡ false → Lets (free_items i m at) (λ y. Ahead i y.1 rest)
 unfolding free_items
 items_never i [] zero at rest le fine h stop = lets_end _ _ h
 items_never i [] (suc m) at rest le fine h stop = lets_false (has_item at) _ _ _ (item_ahead i at rest h ∙ stop) (lets_end _ _ h)
@@ -192,7 +192,7 @@ thread_guards n names = after_guards {m = n} {m' = λ i. i} kind.Thread (λ u. r
 thread_example : Example (λ b. Mark kind.Thread ∷ block_pieces b) Always
 thread_example = example_after kind.Thread (λ u. refl) block_example
 
-free_never : (i : ℕ) (at : At) (t : ProgramText) → AllByRecursion HasInitSigns t.items → Ahead i at (program_pieces t) → Lets (free_program i at) (λ u. Unit {0})
+free_never : (i : ℕ) (at : WordsAhead) (t : ProgramText) → AllByRecursion HasInitSigns t.items → Ahead i at (program_pieces t) → Lets (free_program i at) (λ u. Unit {0})
 unfolding free_program
 free_never i at t fine h =
     let body : List Piece = Mark kind.Thread ∷ block_pieces t.body in
@@ -201,7 +201,7 @@ free_never i at t fine h =
     subst (λ r. Lets r (λ u. Unit {0})) (sym (end_again b.1.words q.is)) (record { is = tt })))
 
 -- a refusal with its place, where a fault of the grammar is one of the reading that asks less too
-record Fault (at : At) (refused : ReadRefusal) : Type 0 where
+record Fault (at : WordsAhead) (refused : ReadRefusal) : Type 0 where
   pub front : List Word
   pub rest : List Word
   pub more : List Word
@@ -209,12 +209,12 @@ record Fault (at : At) (refused : ReadRefusal) : Type 0 where
   pub place : refusal_place refused ≡ Some (place_of_next rest at.end)
   pub goes : IsText (front ++ more)
   pub next : PassesGrammar refused → Resumes rest more
-  pub same : IsGrammar refused → (i : ℕ) (at' : At) (other : List Word) → length at'.words < suc i → BeginAlike rest other → at'.words ≡ front ++ other → Refused (free_program i at')
+  pub same : IsGrammar refused → (i : ℕ) (at' : WordsAhead) (other : List Word) → length at'.words < suc i → BeginAlike rest other → at'.words ≡ front ++ other → Refused (free_program i at')
 
 is_text : (is : List ItemText) (b : BlockText) (words : List Word) → AllByRecursion HasInitSigns is → pieces words ≡ items_pieces is ++ Mark kind.Thread ∷ block_pieces b → IsText words
 is_text is b words signs e = record { text = record { items = is; body = b }; spelled = e; signs = All-from_recursion HasInitSigns is signs }
 
-end_refused : (ws : List Word) → 1 ≤ length ws → Refused (end_from ws)
+end_refused : (ws : List Word) → 1 ≤ length ws → Refused (words_end_from ws)
 end_refused [] h = absurd (omega (arith, h))
 end_refused (w ∷ ws) h = record { is = tt }
 
@@ -222,7 +222,7 @@ alike_some : (w : Word) (ws vs : List Word) → BeginAlike (w ∷ ws) vs → 1 �
 alike_some w ws [] h = absurd h
 alike_some w ws (v ∷ vs) h = omega arith
 
-program_stuck : (n : ℕ) (at : At) → length at.words < suc n → Keeps (program_at n at) (λ p. Unit {0}) (Fault at)
+program_stuck : (n : ℕ) (at : WordsAhead) → length at.words < suc n → Keeps (program_at n at) (λ p. Unit {0}) (Fault at)
 unfolding program_at free_program
 program_stuck n at room =
     keeps_bind _ _ _ _ _ _ (items_stuck n n (suc n) (λ i. i) (λ i. suc i) nothing_declared (omega arith) (omega arith) (λ i. omega arith) (λ i. omega arith) at room)
@@ -251,8 +251,8 @@ program_stuck n at room =
       same = λ g i at' other room' s h. refused_bind _ _ (q.same g i at' other room' s h);
     })
   where
-    by_end : (at : At) (d : Declared × At) (p : ItemsWent (λ i. i) (λ i. suc i) at d) (b : List Stmt × At) (q : Went (λ i. suc i) free_block (λ c. Mark kind.Thread ∷ block_pieces c) Always Any d.1 b)
-        → (ws : List Word) → b.1.words ≡ ws → Keeps (end_from ws) (λ u. Unit {0}) (Fault at)
+    by_end : (at : WordsAhead) (d : Declared × WordsAhead) (p : ItemsWent (λ i. i) (λ i. suc i) at d) (b : List Stmt × WordsAhead) (q : Went (λ i. suc i) free_block (λ c. Mark kind.Thread ∷ block_pieces c) Always Any d.1 b)
+        → (ws : List Word) → b.1.words ≡ ws → Keeps (words_end_from ws) (λ u. Unit {0}) (Fault at)
     by_end at d p b q [] e = record { is = tt }
     by_end at d p b q (w ∷ ws) e = record {
       is = record {
@@ -266,7 +266,7 @@ program_stuck n at room =
         same = λ g i at' other room' s h.
             refused_after _ _ _ (p.same i at' (q.front ++ other) room' (subst (λ (vs : List Word). BeginAlike vs (q.front ++ other)) (sym (q.split ∙ ap (λ (vs : List Word). q.front ++ vs) e)) (alike_after q.front (w ∷ ws) other s)) (h ∙ append_assoc p.front q.front other)) (λ x' a.
             refused_after _ _ _ (q.same i x'.1 other (room_left (suc i) (suc i) at'.words p.front x'.1.words (items_pieces p.text) room' (h ∙ append_assoc p.front q.front other ∙ ap (λ (vs : List Word). p.front ++ vs) (sym a.1)) p.spelled (omega arith)) (subst (λ (vs : List Word). BeginAlike vs other) (sym e) s) a.1) (λ y' c.
-            subst (λ (vs : List Word). Refused (end_from vs)) (sym c.1) (end_refused other (alike_some w ws other s))));
+            subst (λ (vs : List Word). Refused (words_end_from vs)) (sym c.1) (end_refused other (alike_some w ws other s))));
       };
     }
 
@@ -278,7 +278,7 @@ clash (Err e) Q h k = h.is
 some_place : (p q : Place) → Some p ≡ Some q → p ≡ q
 some_place p q e = cc
 
-first_fault : (words : List Word) (end place : Place) → Fault (record { words = words; end = end }) (Grammar place) → IsFirstFault words end place
+first_fault : (words : List Word) (end place : Place) → Fault (record { words = words; end = end }) (Grammar place) → IsFirstGrammarFault words end place
 first_fault words end place f = record {
   before = f.front;
   rest = f.rest;
@@ -288,7 +288,7 @@ first_fault words end place f = record {
   goes_on = f.goes;
   stops = λ others alike t.
       let i : ℕ = length (f.front ++ others) in
-      let at' : At = record { words = f.front ++ others; end = end } in
+      let at' : WordsAhead = record { words = f.front ++ others; end = end } in
       let l : length (program_pieces t.text) ≡ length (f.front ++ others) = sym (ap (λ (ps : List Piece). length ps) t.spelled) ∙ length-map (f.front ++ others) (λ (w : Word). piece_of_kind w.kind w.text) in
       clash (free_program i at') (λ u. Unit {0}) (f.same tt i at' others (omega arith) alike refl)
       (free_never i at' t.text (recursion_from_All HasInitSigns t.text.items t.signs) (record { is = t.spelled; room = omega (arith, l) }));
@@ -300,17 +300,17 @@ refused_is r Q R e h same = kept (subst (λ s. Keeps s Q R) same h)
     kept : Keeps {A = Program} (Err e) Q R → R e
     kept k = k.is
 
-fault_of : (words : List Word) (end : Place) (e : ReadRefusal) → program_of words end ≡ Err e → Fault (record { words = words; end = end }) e
+fault_of : (words : List Word) (end : Place) (e : ReadRefusal) → program_in words end ≡ Err e → Fault (record { words = words; end = end }) e
 fault_of words end e h =
-    refused_is (program_of words end) (λ p. Unit {0}) (Fault (record { words = words; end = end })) e (program_stuck (length words) (record { words = words; end = end }) (omega arith)) h
+    refused_is (program_in words end) (λ p. Unit {0}) (Fault (record { words = words; end = end })) e (program_stuck (length words) (record { words = words; end = end }) (omega arith)) h
 
 -- A fault of the grammar stands where the words first go on as no text of it.
-pub program_of_grammar : (words : List Word) (end place : Place) → program_of words end ≡ Err (Grammar place) → IsFirstFault words end place
+pub program_of_grammar : (words : List Word) (end place : Place) → program_in words end ≡ Err (Grammar place) → IsFirstGrammarFault words end place
 program_of_grammar words end place h = first_fault words end place (fault_of words end (Grammar place) h)
 
 -- Before each refusal the words go on as some text of the grammar, and with the refused word too where no fault of the
 -- grammar stands there.
-pub program_of_refused : (words : List Word) (end : Place) (e : ReadRefusal) → program_of words end ≡ Err e → StandsInText words end e
+pub program_of_refused : (words : List Word) (end : Place) (e : ReadRefusal) → program_in words end ≡ Err e → StandsInText words end e
 program_of_refused words end e h =
     let f : Fault (record { words = words; end = end }) e = fault_of words end e h in
     record { before = f.front; rest = f.rest; split = f.split; place_is = f.place; others = f.more; goes_on = f.goes; next = λ g. resumes_alike f.rest f.more (f.next g) }

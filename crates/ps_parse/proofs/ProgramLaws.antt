@@ -16,14 +16,14 @@ use Rattle.ps_parse.specs.declared.read_refusal.ReadRefusal.{ReadRefusal}
 use Rattle.ps_parse.specs.declared.read_refusal.ReadRefusal.TheVariants.{Limit}
 use Rattle.ps_grammar.specs.Grammar.{RelationText, ItemText, global, local, init, BlockText, ProgramText}
 use Rattle.ps_grammar.specs.Words.{Word}
-use Rattle.ps_parse.specs.Reading.{At, begins_with, next_is, place_at, word_from, word_at, after_word, end_from, end_at}
+use Rattle.ps_parse.specs.Reading.{WordsAhead, begins_with, next_is, place_at, word_from, next_word, after_word, words_end_from, words_end}
 use Rattle.ps_grammar.specs.Names.{Names}
 use Rattle.ps_parse.specs.Sums.{init_sign_of}
 use Rattle.ps_parse.specs.Blocks.{block_at}
 use Rattle.ps_grammar.specs.Declarations.{Declared, most_rows, most_levels, nothing_declared, names_of, rows_of_sign, rows_of_value}
-use Rattle.ps_parse.specs.Items.{counted, rows_from, item_rows, counted_item_at, with_rows, item_at, has_item, items_at, program_at, program_of}
+use Rattle.ps_parse.specs.Items.{rows_counted_on, rows_from, item_rows, counted_item_at, with_rows, item_at, has_item, items_at, program_at, program_in}
 use Rattle.ps_grammar.specs.Spelling.{Piece, NamePiece, Mark, piece_of_kind, pieces, relation_pieces, value_pieces, more_relations, item_pieces, block_pieces, program_pieces}
-use Rattle.ps_grammar.specs.Trees.{block_trees, value_of, rows_of_relations, with_item, with_items, program_tree}
+use Rattle.ps_grammar.specs.Trees.{block_trees, declared_value, rows_of_relations, with_item, with_items, program_tree}
 use Rattle.ps_grammar.specs.Fits.{RelationFits, RestFits, ItemFits, ItemsFit, ProgramFits}
 use Rattle.ps_grammar.specs.Programs.{IsProgramText}
 use Rattle.ps_parse.proofs.Steps.{places, Takes, takes_none, takes_then, takes_pieces, takes_places, Ahead, ahead_so, begins_piece, next_ahead, Not, Always, Finds, Gets, found_bind, found_end, found_if, found_more, gets_bind, gets_end, gets_true, gets_false, gets_more, gets_found, Spelled, Exact}
@@ -37,21 +37,21 @@ use Rattle.ps_parse.proofs.DeclarationLaws.{value_exact, DeclaredFits, declarati
 
 -- how many rows an item of the grammar gives
 abbrev pub rows_of_item : ItemText → ℕ
-rows_of_item (global x v) = rows_of_value (value_of v)
+rows_of_item (global x v) = rows_of_value (declared_value v)
 rows_of_item (local x) = 0
 rows_of_item (init r rs) = rows_of_relations (r ∷ rs)
 
-counts : {A : Type 0} (rows : A → ℕ) (rest : At → ℕ) (r : Result (A × At) ReadRefusal) (Q : A × At → Type 0) (total : ℕ) → Gets r Q → ((y : A × At) → Q y → rows y.0 + rest y.1 ≡ total) → counted rows rest r ≡ total
-counts rows rest r Q total h k = ap (counted rows rest) h.ok ∙ k h.value h.is
+counts : {A : Type 0} (rows : A → ℕ) (rest : WordsAhead → ℕ) (r : Result (A × WordsAhead) ReadRefusal) (Q : A × WordsAhead → Type 0) (total : ℕ) → Gets r Q → ((y : A × WordsAhead) → Q y → rows y.0 + rest y.1 ≡ total) → rows_counted_on rows rest r ≡ total
+counts rows rest r Q total h k = ap (rows_counted_on rows rest) h.ok ∙ k h.value h.is
 
 -- a word of another kind ends the count
-misses : (k : TokenKind) (rest : At → ℕ) (n : ℕ) (at : At) (ps : List Piece) → Ahead n at ps → Not k ps → counted (λ (w : Word). 0) rest (word_at k at) ≡ 0
-unfolding word_at
+misses : (k : TokenKind) (rest : WordsAhead → ℕ) (n : ℕ) (at : WordsAhead) (ps : List Piece) → Ahead n at ps → Not k ps → rows_counted_on (λ (w : Word). 0) rest (next_word k at) ≡ 0
+unfolding next_word
 misses k rest n at ps h stop = by_words at.words at.end (next_ahead k h ∙ stop)
   where
-    by_words : (ws : List Word) (end : Place) → begins_with k ws ≡ false → counted (λ (w : Word). 0) rest (word_from k ws end) ≡ 0
+    by_words : (ws : List Word) (end : Place) → begins_with k ws ≡ false → rows_counted_on (λ (w : Word). 0) rest (word_from k ws end) ≡ 0
     by_words [] end e = refl
-    by_words (w ∷ ws) end e = ap (counted (λ (w : Word). 0) rest) (cond-false _ _ _ e)
+    by_words (w ∷ ws) end e = ap (rows_counted_on (λ (w : Word). 0) rest) (cond-false _ _ _ e)
 
 -- the relations have signs that an `init` may have
 abbrev Signed : List RelationText → Type 0
@@ -61,19 +61,19 @@ relations_join : (rs : List RelationText) (rest : List Piece) → SumEnds (more_
 relations_join [] rest = (refl, refl)
 relations_join (r ∷ rs) rest = (refl, refl)
 
-rows_again : (n : ℕ) (r : RelationText) (rs : List RelationText) (m : ℕ) (at : At) (rest : List Piece) → length (r ∷ rs) ≤ m → Signed (r ∷ rs) → Ahead n at (relation_pieces r ++ (more_relations rs ++ (Mark kind.Semicolon ∷ rest))) → rows_from n m at ≡ rows_of_relations (r ∷ rs)
+rows_again : (n : ℕ) (r : RelationText) (rs : List RelationText) (m : ℕ) (at : WordsAhead) (rest : List Piece) → length (r ∷ rs) ≤ m → Signed (r ∷ rs) → Ahead n at (relation_pieces r ++ (more_relations rs ++ (Mark kind.Semicolon ∷ rest))) → rows_from n m at ≡ rows_of_relations (r ∷ rs)
 unfolding rows_from
 rows_again n r rs zero at rest le signs h = absurd (omega (arith, le))
 rows_again n r [] (suc m) at rest le signs h =
     counts _ _ _ _ _ ((relation_exact n init_sign_of init_signs None).again at r (Mark kind.Semicolon ∷ rest) (tt, every_init_sign r.sign signs.0) h (relations_join [] rest)) (λ y p.
-    let none : counted (λ (w : Word). 0) (rows_from n m) (word_at kind.And y.1) ≡ 0 = misses kind.And (rows_from n m) n y.1 _ p.1 refl in
+    let none : rows_counted_on (λ (w : Word). 0) (rows_from n m) (next_word kind.And y.1) ≡ 0 = misses kind.And (rows_from n m) n y.1 _ p.1 refl in
     let same : rows_of_sign y.0.sign ≡ rows_of_sign r.sign = ap rows_of_sign p.0.0 in
     omega (arith, none, same))
 rows_again n r (s ∷ rs) (suc m) at rest le signs h =
     counts _ _ _ _ _ ((relation_exact n init_sign_of init_signs None).again at r (more_relations (s ∷ rs) ++ (Mark kind.Semicolon ∷ rest)) (tt, every_init_sign r.sign signs.0) h (relations_join (s ∷ rs) rest)) (λ y p.
     let same : rows_of_sign y.0.sign ≡ rows_of_sign r.sign = ap rows_of_sign p.0.0 in
     let tail : Ahead n y.1 (Mark kind.And ∷ (relation_pieces s ++ (more_relations rs ++ (Mark kind.Semicolon ∷ rest)))) = ahead_so (ap (λ (ps : List Piece). Mark kind.And ∷ ps) (append_assoc (relation_pieces s) (more_relations rs) (Mark kind.Semicolon ∷ rest))) p.1 in
-    let more : counted (λ (w : Word). 0) (rows_from n m) (word_at kind.And y.1) ≡ rows_of_relations (s ∷ rs) =
+    let more : rows_counted_on (λ (w : Word). 0) (rows_from n m) (next_word kind.And y.1) ≡ rows_of_relations (s ∷ rs) =
     counts _ _ _ _ _ (mark_again n kind.And (λ t. refl) y.1 (relation_pieces s ++ (more_relations rs ++ (Mark kind.Semicolon ∷ rest))) tail) (λ w q.
     let deeper : rows_from n m w.1 ≡ rows_of_relations (s ∷ rs) = rows_again n s rs m w.1 rest (omega (arith, le)) signs.1 q in
     omega (arith, deeper)) in
@@ -103,14 +103,14 @@ ItemSigned (global x v) = Unit {0}
 ItemSigned (local x) = Unit {0}
 ItemSigned (init r rs) = Signed (r ∷ rs)
 
-pub item_rows_again : (n : ℕ) (at : At) (i : ItemText) (rest : List Piece) → ItemSigned i → Ahead n at (item_pieces i ++ rest) → item_rows n at ≡ rows_of_item i
+pub item_rows_again : (n : ℕ) (at : WordsAhead) (i : ItemText) (rest : List Piece) → ItemSigned i → Ahead n at (item_pieces i ++ rest) → item_rows n at ≡ rows_of_item i
 unfolding item_rows after_word
 item_rows_again n at (global x v) rest signs h =
     cond-true _ _ _ (next_ahead kind.Global h) ∙
     counts _ _ _ _ _ (gets_bind _ _ _ _ (mark_again n kind.Global (λ t. refl) at (NamePiece x ∷ ((value_pieces v ++ Mark kind.Semicolon ∷ []) ++ rest)) h) (λ w p.
     gets_bind _ _ _ _ ((word_exact n kind.Name).again w.1 x ((value_pieces v ++ Mark kind.Semicolon ∷ []) ++ rest) tt p tt) (λ u q.
     (value_exact n).again u.1 v (Mark kind.Semicolon ∷ rest) tt (ahead_so (append_assoc (value_pieces v) (Mark kind.Semicolon ∷ []) rest) q.1) refl))) (λ y p.
-    let same : rows_of_value y.0 ≡ rows_of_value (value_of v) = ap rows_of_value p.0 in
+    let same : rows_of_value y.0 ≡ rows_of_value (declared_value v) = ap rows_of_value p.0 in
     omega (arith, same))
 item_rows_again n at (local x) rest signs h = cond-false _ _ _ (next_ahead kind.Global h) ∙ cond-false _ _ _ (next_ahead kind.Init h)
 item_rows_again n at (init r rs) rest signs h =
@@ -153,10 +153,10 @@ ItemSays d i ps y = y ≡ with_item d i
 item_said : (d : Declared) (i : ItemText) (rows : ℕ) (y : Declared) → rows ≡ rows_of_item i → y ≡ with_rows (d.rows + rows) (with_item (with_rows (d.rows + rows) d) i) → y ≡ with_item d i
 item_said d i rows y e h = h ∙ ap (λ (k : ℕ). with_rows (d.rows + k) (with_item (with_rows (d.rows + k) d) i)) e ∙ with_its_rows d i
 
-pub room_of : (n : ℕ) (at : At) → length at.words ≤ n → Ahead n at (pieces at.words)
+pub room_of : (n : ℕ) (at : WordsAhead) → length at.words ≤ n → Ahead n at (pieces at.words)
 room_of n at h = record { is = refl; room = omega (arith, h, length-map at.words (λ (w : Word). piece_of_kind w.kind w.text)) }
 
-item_found : (n : ℕ) (d : Declared) (at : At) → length at.words ≤ n → Finds (item_at d n at) (Spelled item_pieces (ItemFits d) (ItemSays d) at)
+item_found : (n : ℕ) (d : Declared) (at : WordsAhead) → length at.words ≤ n → Finds (item_at d n at) (Spelled item_pieces (ItemFits d) (ItemSays d) at)
 unfolding item_at
 item_found n d at room = by_test (nat_lt most_rows (d.rows + item_rows n at)) refl
   where
@@ -174,7 +174,7 @@ item_found n d at room = by_test (nat_lt most_rows (d.rows + item_rows n at)) re
           is = item_said d p.text (item_rows n at) y.0 rows p.is;
         })
 
-item_again : (n : ℕ) (d : Declared) (at : At) (i : ItemText) (rest : List Piece) → ItemFits d i → Ahead n at (item_pieces i ++ rest) → Gets (item_at d n at) (λ y. (y.0 ≡ with_item d i) × Ahead n y.1 rest)
+item_again : (n : ℕ) (d : Declared) (at : WordsAhead) (i : ItemText) (rest : List Piece) → ItemFits d i → Ahead n at (item_pieces i ++ rest) → Gets (item_at d n at) (λ y. (y.0 ≡ with_item d i) × Ahead n y.1 rest)
 unfolding item_at
 item_again n d at i rest fit h =
     let named : DeclaredFits (with_rows (d.rows + item_rows n at) d) i × (d.rows + rows_of_item i ≤ most_rows) = names_fit d (d.rows + item_rows n at) i fit in
@@ -195,7 +195,7 @@ room_after {n = n} {a = a} {b = b} p h =
     let l : length a ≡ length p.front + length b = ap (λ (ws : List Word). length ws) p.split ∙ length-append p.front b in
     omega (arith, h, l)
 
-items_found : (n m : ℕ) (d : Declared) (at : At) → length at.words ≤ n → Finds (items_at n d m at) (Spelled items_pieces (ItemsFit d) (ItemsSay d) at)
+items_found : (n m : ℕ) (d : Declared) (at : WordsAhead) → length at.words ≤ n → Finds (items_at n d m at) (Spelled items_pieces (ItemsFit d) (ItemsSay d) at)
 unfolding items_at
 items_found n zero d at room = record { is = record { text = []; taken = takes_none at.words; fit = tt; is = refl } }
 items_found n (suc m) d at room =
@@ -212,7 +212,7 @@ items_found n (suc m) d at room =
 abbrev pub begins_item : List Piece → Bool
 begins_item ps = begins_piece kind.Global ps || begins_piece kind.Local ps || begins_piece kind.Init ps
 
-pub item_ahead : (n : ℕ) (at : At) (ps : List Piece) → Ahead n at ps → has_item at ≡ begins_item ps
+pub item_ahead : (n : ℕ) (at : WordsAhead) (ps : List Piece) → Ahead n at ps → has_item at ≡ begins_item ps
 item_ahead n at ps h =
     ap (λ (t : Bool). t || next_is kind.Local at || next_is kind.Init at) (next_ahead kind.Global h)
     ∙ ap (λ (t : Bool). begins_piece kind.Global ps || t || next_is kind.Init at) (next_ahead kind.Local h)
@@ -223,12 +223,12 @@ item_begins (global x v) rest = refl
 item_begins (local x) rest = refl
 item_begins (init r rs) rest = refl
 
-items_stop : (n m : ℕ) (d : Declared) (at : At) → has_item at ≡ false → items_at n d m at ≡ Ok (d, at)
+items_stop : (n m : ℕ) (d : Declared) (at : WordsAhead) → has_item at ≡ false → items_at n d m at ≡ Ok (d, at)
 unfolding items_at
 items_stop n zero d at h = refl
 items_stop n (suc m) d at h = cond-false _ _ _ h
 
-items_again : (n : ℕ) (is : List ItemText) (m : ℕ) (d : Declared) (at : At) (rest : List Piece) → length is ≤ m → ItemsFit d is → Ahead n at (items_pieces is ++ rest) → begins_item rest ≡ false
+items_again : (n : ℕ) (is : List ItemText) (m : ℕ) (d : Declared) (at : WordsAhead) (rest : List Piece) → length is ≤ m → ItemsFit d is → Ahead n at (items_pieces is ++ rest) → begins_item rest ≡ false
     → Gets (items_at n d m at) (λ y. (y.0 ≡ with_items d is) × Ahead n y.1 rest)
 unfolding items_at
 items_again n [] m d at rest le fit h stop = record { value = (d, at); ok = items_stop n m d at (item_ahead n at rest h ∙ stop); is = (refl, h) }
@@ -254,14 +254,14 @@ few_items (i ∷ is) rest =
 
 -- ---- programs
 
-end_found : (at : At) → Finds (end_at at) (λ _. at.words ≡ [])
+end_found : (at : WordsAhead) → Finds (words_end at) (λ _. at.words ≡ [])
 end_found at = by_words at.words
   where
-    by_words : (ws : List Word) → Finds (end_from ws) (λ _. ws ≡ [])
+    by_words : (ws : List Word) → Finds (words_end_from ws) (λ _. ws ≡ [])
     by_words [] = record { is = refl }
     by_words (w ∷ ws) = record { is = tt }
 
-pub end_again : (ws : List Word) → pieces ws ≡ [] → end_from ws ≡ Ok tt
+pub end_again : (ws : List Word) → pieces ws ≡ [] → words_end_from ws ≡ Ok tt
 end_again [] h = refl
 end_again (w ∷ ws) h = absurd cc
 
@@ -282,7 +282,7 @@ program_said is b ps qs d body e f g =
 thread_exact : (n : ℕ) (names : Names) → Exact n (after_word kind.Thread (block_at (Some names) n most_levels false)) (λ b. Mark kind.Thread ∷ block_pieces b) (λ b. (1 ≤ most_levels) × RestFits names (most_levels - 1) false b) (λ b ps y. y ≡ block_trees names b (drop 1 (drop 1 ps))) Always
 thread_exact n names = after_exact kind.Thread (λ t. refl) (block_exact n names most_levels false)
 
-program_found : (n : ℕ) (at : At) → length at.words ≤ n → Finds (program_at n at) (IsProgramText at.words)
+program_found : (n : ℕ) (at : WordsAhead) → length at.words ≤ n → Finds (program_at n at) (IsProgramText at.words)
 unfolding program_at
 program_found n at room =
     found_bind _ _ _ _ (items_found n n nothing_declared at room) (λ d p.
@@ -295,7 +295,7 @@ program_found n at room =
       tree = program_said p.text q.text (places at.words) (places d.1.words) d.0 b.0 p.is (takes_places p.taken) q.is;
     }))))
 
-program_again : (n : ℕ) (at : At) (t : ProgramText) → ProgramFits t → Ahead n at (program_pieces t) → Gets (program_at n at) (λ p. p ≡ program_tree t (places at.words))
+program_again : (n : ℕ) (at : WordsAhead) (t : ProgramText) → ProgramFits t → Ahead n at (program_pieces t) → Gets (program_at n at) (λ p. p ≡ program_tree t (places at.words))
 unfolding program_at
 program_again n at t fit h =
     let body : List Piece = Mark kind.Thread ∷ block_pieces t.body in
@@ -309,12 +309,12 @@ ok_is : (r : Result Program ReadRefusal) (Q : Program → Type 0) (p : Program) 
 ok_is r Q p h e = subst (λ (s : Result Program ReadRefusal). IfOk s Q) e h
 
 -- What is read as a program is one.
-pub program_of_found : (words : List Word) (end : Place) (p : Program) → program_of words end ≡ Ok p → IsProgramText words p
-program_of_found words end p e = ok_is (program_of words end) (IsProgramText words) p (program_found (length words) (record { words = words; end = end }) (omega arith)).is e
+pub program_of_found : (words : List Word) (end : Place) (p : Program) → program_in words end ≡ Ok p → IsProgramText words p
+program_of_found words end p e = ok_is (program_in words end) (IsProgramText words) p (program_found (length words) (record { words = words; end = end }) (omega arith)).is e
 
 -- What is a program is read as that one.
-pub program_of_again : (words : List Word) (end : Place) (p : Program) → IsProgramText words p → program_of words end ≡ Ok p
+pub program_of_again : (words : List Word) (end : Place) (p : Program) → IsProgramText words p → program_in words end ≡ Ok p
 program_of_again words end p is =
     let l : length (program_pieces is.text) ≡ length words = sym (ap (λ (ps : List Piece). length ps) is.spelled) ∙ length-map words (λ (w : Word). piece_of_kind w.kind w.text) in
-    let g : Gets (program_of words end) (λ q. q ≡ program_tree is.text (places words)) = program_again (length words) (record { words = words; end = end }) is.text is.fits (record { is = is.spelled; room = omega (arith, l) }) in
+    let g : Gets (program_in words end) (λ q. q ≡ program_tree is.text (places words)) = program_again (length words) (record { words = words; end = end }) is.text is.fits (record { is = is.spelled; room = omega (arith, l) }) in
     g.ok ∙ ap (λ (q : Program). Ok q) (g.is ∙ sym is.tree)

@@ -14,10 +14,10 @@ use Rattle.ps_grammar.specs.Grammar.{RelationText}
 use Rattle.ps_grammar.specs.Words.{Word}
 use Rattle.ps_parse.specs.Reading.{is_kind}
 use Rattle.ps_grammar.specs.Names.{Names}
-use Rattle.ps_parse.specs.Sums.{sign_of, init_sign_of, sign_from, sign_at, relation_at}
+use Rattle.ps_parse.specs.Sums.{sign_of, init_sign_of, sign_from, sign_ahead, relation_at}
 use Rattle.ps_grammar.specs.Spelling.{Piece, Mark, piece_of_kind, pieces, minus_pieces, product_pieces, further_pieces, sum_pieces, sign_kind, relation_pieces}
 use Rattle.ps_grammar.specs.Trees.{sum_tree, relation_tree}
-use Rattle.ps_grammar.specs.Fits.{SumFits, RelationFits}
+use Rattle.ps_grammar.specs.Fits.{SumTextFits, RelationFits}
 use Rattle.ps_parse.proofs.Steps.{places, kind_of, kind_of_piece, takes_then, ahead_so, Not, Always, Finds, Gets, found_bind, found_end, gets_bind, gets_end, gets_more, Spelled, Exact}
 use Rattle.ps_parse.proofs.Scopes.{FitsIn, Says, fits_both, fits_first, fits_second, says_two}
 use Rattle.ps_parse.proofs.SumLaws.{SumSays, SumEnds, sum_exact, product_begins}
@@ -121,8 +121,8 @@ sign_again n of s rest fit (w ∷ ws) end e room =
     gets_bind _ _ (λ t. t ≡ s) _ (record { value = s; ok = ap (λ (o : Option Sign). ok_or o (Grammar w.place)) (ap of same ∙ fit); is = refl }) (λ t p.
     gets_end _ _ (p, ap tail e))
 
-pub sign_exact : (n : ℕ) (of : TokenKind → Option Sign) → AreSigns of → Exact n (sign_at of) sign_piece (SignIn of) SignSays Always
-unfolding sign_at
+pub sign_exact : (n : ℕ) (of : TokenKind → Option Sign) → AreSigns of → Exact n (sign_ahead of) sign_piece (SignIn of) SignSays Always
+unfolding sign_ahead
 sign_exact n of are = record {
   found = λ at. sign_found of are at.words at.end;
   again = λ at s rest fit h _. gets_more _ _ _ (sign_again n of s rest fit at.words at.end h.is (omega (arith, h.room))) (λ y p. (p.0, record { is = p.1; room = omega (arith, h.room) }));
@@ -162,13 +162,13 @@ relation_exact n of are scope = record {
       found_end _ _ (record {
         text = record { left = p.text; sign = q.text; right = r.text };
         taken = takes_then p.taken (takes_then q.taken r.taken);
-        fit = (fits_both scope (λ names. SumFits names p.text) (λ names. SumFits names r.text) p.fit r.fit, q.fit);
+        fit = (fits_both scope (λ names. SumTextFits names p.text) (λ names. SumTextFits names r.text) p.fit r.fit, q.fit);
         is = relation_said scope (record { left = p.text; sign = q.text; right = r.text }) (places at.words) (places s.1.words) left.0 right.0 s.0 p.is q.is r.is;
       }))));
   again = λ at r rest fit h stop.
-      gets_bind _ _ _ _ ((sum_exact n scope).again at r.left (Mark (sign_kind r.sign) ∷ (sum_pieces r.right ++ rest)) (fits_first scope (λ names. SumFits names r.left) (λ names. SumFits names r.right) fit.0) (ahead_so (append_assoc (sum_pieces r.left) (Mark (sign_kind r.sign) ∷ sum_pieces r.right) rest) h) (sign_ends r.sign (sum_pieces r.right ++ rest))) (λ left p.
+      gets_bind _ _ _ _ ((sum_exact n scope).again at r.left (Mark (sign_kind r.sign) ∷ (sum_pieces r.right ++ rest)) (fits_first scope (λ names. SumTextFits names r.left) (λ names. SumTextFits names r.right) fit.0) (ahead_so (append_assoc (sum_pieces r.left) (Mark (sign_kind r.sign) ∷ sum_pieces r.right) rest) h) (sign_ends r.sign (sum_pieces r.right ++ rest))) (λ left p.
       gets_bind _ _ _ _ ((sign_exact n of are).again left.1 r.sign (sum_pieces r.right ++ rest) fit.1 p.1 tt) (λ s q.
-      gets_bind _ _ _ _ ((sum_exact n scope).again s.1 r.right rest (fits_second scope (λ names. SumFits names r.left) (λ names. SumFits names r.right) fit.0) q.1 stop) (λ right v.
+      gets_bind _ _ _ _ ((sum_exact n scope).again s.1 r.right rest (fits_second scope (λ names. SumTextFits names r.left) (λ names. SumTextFits names r.right) fit.0) q.1 stop) (λ right v.
       gets_end _ _ (relation_said scope r (places at.words) (places s.1.words) left.0 right.0 s.0 p.0 q.0 v.0, v.1))));
 }
 

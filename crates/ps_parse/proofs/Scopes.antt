@@ -8,11 +8,11 @@ use Rattle.ps_term.specs.declared.var.Var.{Var}
 use Rattle.ps_term.specs.declared.var.Var.TheVariants.{Global}
 use Rattle.ps_parse.specs.declared.read_refusal.ReadRefusal.{ReadRefusal}
 use Rattle.ps_parse.specs.declared.read_refusal.ReadRefusal.TheVariants.{UnknownName}
-use Rattle.ps_grammar.specs.Names.{Names, variable_of}
+use Rattle.ps_grammar.specs.Names.{Names, variable_of_name}
 use Rattle.ps_parse.specs.Variables.{variable_in, variable_at}
 use Rattle.ps_grammar.specs.Spelling.{Piece, NamePiece}
 use Rattle.ps_grammar.specs.Trees.{variable_or_first, variable_named}
-use Rattle.ps_grammar.specs.Fits.{IsKnown}
+use Rattle.ps_grammar.specs.Fits.{IsKnownName}
 use Rattle.ps_parse.proofs.Steps.{takes_so, Always, Finds, Gets, found_bind, found_end, gets_bind, gets_end, Exact}
 use Rattle.ps_parse.proofs.Sequences.{word_exact}
 
@@ -73,16 +73,16 @@ abbrev pub name_piece : List ℕ → List Piece
 name_piece x = NamePiece x ∷ []
 
 abbrev pub KnownIn : Option Names → List ℕ → Type 0
-KnownIn scope x = FitsIn scope (λ names. IsKnown names x)
+KnownIn scope x = FitsIn scope (λ names. IsKnownName names x)
 
 abbrev pub VariableSays : Option Names → List ℕ → List Place → Var → Type 0
 VariableSays scope x ps y = Says scope (λ names. variable_named names x) y
 
 named_found : (scope : Option Names) (x : List ℕ) (e : ReadRefusal) → Finds (ok_or (variable_in scope x) e) (λ y. KnownIn scope x × VariableSays scope x [] y)
 named_found None x e = record { is = (tt, tt) }
-named_found (Some names) x e = by_test (variable_of names x) refl
+named_found (Some names) x e = by_test (variable_of_name names x) refl
   where
-    by_test : (o : Option Var) → variable_of names x ≡ o → Finds (ok_or o e) (λ y. KnownIn (Some names) x × VariableSays (Some names) x [] y)
+    by_test : (o : Option Var) → variable_of_name names x ≡ o → Finds (ok_or o e) (λ y. KnownIn (Some names) x × VariableSays (Some names) x [] y)
     by_test None h = record { is = tt }
     by_test (Some v) h = record { is = (λ none. absurd (differ (sym h ∙ none)), sym (ap variable_or_first h)) }
       where
@@ -91,9 +91,9 @@ named_found (Some names) x e = by_test (variable_of names x) refl
 
 named_again : (scope : Option Names) (x : List ℕ) (e : ReadRefusal) → KnownIn scope x → Gets (ok_or (variable_in scope x) e) (λ y. VariableSays scope x [] y)
 named_again None x e known = record { value = Global 0; ok = refl; is = tt }
-named_again (Some names) x e known = by_test (variable_of names x) refl
+named_again (Some names) x e known = by_test (variable_of_name names x) refl
   where
-    by_test : (o : Option Var) → variable_of names x ≡ o → Gets (ok_or o e) (λ y. VariableSays (Some names) x [] y)
+    by_test : (o : Option Var) → variable_of_name names x ≡ o → Gets (ok_or o e) (λ y. VariableSays (Some names) x [] y)
     by_test None h = absurd (known h)
     by_test (Some v) h = record { value = v; ok = refl; is = sym (ap variable_or_first h) }
 

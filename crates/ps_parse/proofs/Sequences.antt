@@ -7,7 +7,7 @@ use Rattle.ps_token.specs.declared.place.Place.{Place}
 use Rattle.ps_token.specs.declared.token_kind.TokenKind.{TokenKind}
 use Rattle.ps_parse.specs.declared.read_refusal.ReadRefusal.TheVariants.{Grammar}
 use Rattle.ps_grammar.specs.Words.{Word}
-use Rattle.ps_parse.specs.Reading.{At, Read, is_kind, word_from, word_at, after_word, while_at}
+use Rattle.ps_parse.specs.Reading.{WordsAhead, ReadWords, is_kind, word_from, next_word, after_word, words_while}
 use Rattle.ps_lines.specs.Steps.{◌>>=◌}
 use Rattle.ps_grammar.specs.Spelling.{Piece, Mark, piece_of_kind, pieces}
 use Rattle.ps_parse.proofs.Steps.{one_kind, same_kind, kind_of, text_of, kind_of_piece, places, Takes, takes_none, takes_then, takes_so, takes_pieces, takes_places, Ahead, ahead_so, Always, Finds, Gets, found_bind, found_end, found_if, found_more, gets_bind, gets_end, gets_true, gets_more, gets_found, Spelled, Exact}
@@ -24,7 +24,7 @@ word_found : (k : TokenKind) (ws : List Word) (end : Place) → Finds (word_from
 word_found k [] end = record { is = tt }
 word_found k (w ∷ ws) end = by_test (is_kind w.kind k) refl
   where
-    by_test : (t : Bool) → is_kind w.kind k ≡ t → Finds {A = Word × At} (if t then Ok (w, record { words = ws; end = end }) else Err (Grammar w.place)) (Spelled (word_piece k) Always (WordSays k) (record { words = w ∷ ws; end = end }))
+    by_test : (t : Bool) → is_kind w.kind k ≡ t → Finds {A = Word × WordsAhead} (if t then Ok (w, record { words = ws; end = end }) else Err (Grammar w.place)) (Spelled (word_piece k) Always (WordSays k) (record { words = w ∷ ws; end = end }))
     by_test true e = record {
       is = record {
         text = w.text;
@@ -48,8 +48,8 @@ word_again n k t rest (w ∷ ws) end e room =
     gets_true (is_kind w.kind k) (Ok (w, record { words = ws; end = end })) (Err (Grammar w.place)) (λ y. WordSays k t (places (w ∷ ws)) y.0 × Ahead n y.1 rest) (same_kind w.kind k same)
     (gets_end _ _ (text, record { is = ap (λ (ps : List Piece). drop 1 ps) e; room = omega (arith, room) }))
 
-pub word_exact : (n : ℕ) (k : TokenKind) → Exact n (word_at k) (word_piece k) Always (WordSays k) Always
-unfolding word_at
+pub word_exact : (n : ℕ) (k : TokenKind) → Exact n (next_word k) (word_piece k) Always (WordSays k) Always
+unfolding next_word
 word_exact n k = record {
   found = λ at. word_found k at.words at.end;
   again = λ at t rest fit h _. word_again n k t rest at.words at.end h.is h.room;
@@ -59,15 +59,15 @@ word_exact n k = record {
 abbrev pub IsMark : TokenKind → Type 0
 IsMark k = (t : List ℕ) → piece_of_kind k t ≡ Mark k
 
-pub mark_found : (n : ℕ) (k : TokenKind) → IsMark k → (at : At) → Finds (word_at k at) (λ y. Takes at.words (Mark k ∷ []) y.1.words)
+pub mark_found : (n : ℕ) (k : TokenKind) → IsMark k → (at : WordsAhead) → Finds (next_word k at) (λ y. Takes at.words (Mark k ∷ []) y.1.words)
 mark_found n k marked at = found_more _ _ _ ((word_exact n k).found at) (λ y p. takes_so (ap (λ (q : Piece). q ∷ []) (marked p.text)) p.taken)
 
-pub mark_again : (n : ℕ) (k : TokenKind) → IsMark k → (at : At) (rest : List Piece) → Ahead n at (Mark k ∷ rest) → Gets (word_at k at) (λ y. Ahead n y.1 rest)
+pub mark_again : (n : ℕ) (k : TokenKind) → IsMark k → (at : WordsAhead) (rest : List Piece) → Ahead n at (Mark k ∷ rest) → Gets (next_word k at) (λ y. Ahead n y.1 rest)
 mark_again n k marked at rest h = gets_more _ _ _ ((word_exact n k).again at [] rest tt (ahead_so (ap (λ (q : Piece). q ∷ rest) (sym (marked []))) h) tt) (λ y p. p.1)
 
 -- ---- one text as another
 
-pub exact_as : {C D A : Type 0} {n : ℕ} {read : Read A} {spell : C → List Piece} {fits : C → Type 0} {says : C → List Place → A → Type 0} {follows : List Piece → Type 0}
+pub exact_as : {C D A : Type 0} {n : ℕ} {read : ReadWords A} {spell : C → List Piece} {fits : C → Type 0} {says : C → List Place → A → Type 0} {follows : List Piece → Type 0}
     (spell' : D → List Piece) (fits' : D → Type 0) (says' : D → List Place → A → Type 0) (f : C → D) (g : D → C) → ((d : D) → f (g d) ≡ d)
     → ((c : C) → spell c ≡ spell' (f c)) → ((c : C) → fits c → fits' (f c)) → ((d : D) → fits' d → fits (g d)) → ((c : C) (ps : List Place) (y : A) → says c ps y → says' (f c) ps y)
     → Exact n read spell fits says follows → Exact n read spell' fits' says' follows
@@ -79,10 +79,10 @@ exact_as {C = C} {D = D} {n = n} {read = read} {spell = spell} {fits = fits} {sa
 }
 
 -- the same with a value of what was read
-abbrev pub mapped : {A B : Type 0} → (A → B) → Read A → Read B
+abbrev pub mapped : {A B : Type 0} → (A → B) → ReadWords A → ReadWords B
 mapped of read at = read at >>= λ x. Ok (of x.0, x.1)
 
-pub mapped_exact : {C A B : Type 0} {n : ℕ} {read : Read A} {spell : C → List Piece} {fits : C → Type 0} {says : C → List Place → A → Type 0} {follows : List Piece → Type 0}
+pub mapped_exact : {C A B : Type 0} {n : ℕ} {read : ReadWords A} {spell : C → List Piece} {fits : C → Type 0} {says : C → List Place → A → Type 0} {follows : List Piece → Type 0}
     (says' : C → List Place → B → Type 0) (of : A → B) → ((c : C) (ps : List Place) (y : A) → says c ps y → says' c ps (of y))
     → Exact n read spell fits says follows → Exact n (mapped of read) spell fits says' follows
 mapped_exact {n = n} {read = read} says' of said exact = record {
@@ -96,7 +96,7 @@ mapped_exact {n = n} {read = read} says' of said exact = record {
 
 -- ---- a word, and then what is read
 
-pub after_exact : {C A : Type 0} {n : ℕ} {read : Read A} {spell : C → List Piece} {fits : C → Type 0} {says : C → List Place → A → Type 0} {follows : List Piece → Type 0}
+pub after_exact : {C A : Type 0} {n : ℕ} {read : ReadWords A} {spell : C → List Piece} {fits : C → Type 0} {says : C → List Place → A → Type 0} {follows : List Piece → Type 0}
     (k : TokenKind) → IsMark k → Exact n read spell fits says follows → Exact n (after_word k read) (λ c. Mark k ∷ spell c) fits (λ c ps. says c (drop 1 ps)) follows
 unfolding after_word
 after_exact {n = n} {read = read} {spell = spell} {fits = fits} {says = says} k marked exact = record {
@@ -127,15 +127,15 @@ left_places {a = a} {qs = qs} ps rest p h k =
     takes_places p ∙ ap (λ (m : ℕ). drop m (places a)) (same_length qs ps rest e)
 
 -- what is read again is left where its spelling ends
-pub exact_again : {C A : Type 0} {n : ℕ} {read : Read A} {spell : C → List Piece} {fits : C → Type 0} {says : C → List Place → A → Type 0} {follows : List Piece → Type 0}
-    → Exact n read spell fits says follows → (at : At) (c : C) (rest : List Piece) → fits c → Ahead n at (spell c ++ rest) → follows rest
+pub exact_again : {C A : Type 0} {n : ℕ} {read : ReadWords A} {spell : C → List Piece} {fits : C → Type 0} {says : C → List Place → A → Type 0} {follows : List Piece → Type 0}
+    → Exact n read spell fits says follows → (at : WordsAhead) (c : C) (rest : List Piece) → fits c → Ahead n at (spell c ++ rest) → follows rest
     → Gets (read at) (λ y. says c (places at.words) y.0 × Ahead n y.1 rest × (places y.1.words ≡ drop (length (spell c)) (places at.words)))
 exact_again {spell = spell} exact at c rest fit h stop =
     gets_more _ _ _ (gets_found _ _ _ (exact.again at c rest fit h stop) (exact.found at)) (λ y p. (p.0.0, p.0.1, left_places (spell c) rest p.1.taken h.is p.0.1.is))
 
 -- ---- one and then another
 
-abbrev pub both : {A B X : Type 0} → (A → B → X) → Read A → Read B → Read X
+abbrev pub both : {A B X : Type 0} → (A → B → X) → ReadWords A → ReadWords B → ReadWords X
 both of one two at = one at >>= λ x. two x.1 >>= λ y. Ok (of x.0 y.0, y.1)
 
 pub record BothSay {C D A B X : Type 0} (of : A → B → X) (spell : C → List Piece) (says : C → List Place → A → Type 0) (says' : D → List Place → B → Type 0) (c : C) (d : D) (ps : List Place) (z : X) : Type 0 where
@@ -146,7 +146,7 @@ pub record BothSay {C D A B X : Type 0} (of : A → B → X) (spell : C → List
   pub is : z ≡ of first second
 
 -- the two texts are those, and what they say
-pub both_exact : {C D A B X : Type 0} {n : ℕ} {one : Read A} {two : Read B} {spell : C → List Piece} {spell' : D → List Piece} {fits : C → Type 0} {fits' : D → Type 0} {says : C → List Place → A → Type 0} {says' : D → List Place → B → Type 0} {follows follows' : List Piece → Type 0}
+pub both_exact : {C D A B X : Type 0} {n : ℕ} {one : ReadWords A} {two : ReadWords B} {spell : C → List Piece} {spell' : D → List Piece} {fits : C → Type 0} {fits' : D → Type 0} {says : C → List Place → A → Type 0} {says' : D → List Place → B → Type 0} {follows follows' : List Piece → Type 0}
     (of : A → B → X) → Exact n one spell fits says follows → Exact n two spell' fits' says' follows' → ((d : D) (rest : List Piece) → fits' d → follows' rest → follows (spell' d ++ rest))
     → Exact n (both of one two) (λ (c : C × D). spell c.0 ++ spell' c.1) (λ (c : C × D). fits c.0 × fits' c.1) (λ (c : C × D). BothSay of spell says says' c.0 c.1) follows'
 both_exact {n = n} {one = one} {two = two} {spell = spell} {spell' = spell'} {fits = fits} {fits' = fits'} {says = says} {says' = says'} of exact exact' joins = record {
@@ -167,10 +167,10 @@ both_exact {n = n} {one = one} {two = two} {spell = spell} {spell' = spell'} {fi
 
 -- ---- what is read, and a word after it
 
-abbrev pub closed : {A : Type 0} → TokenKind → Read A → Read A
-closed k read = both (λ x w. x) read (word_at k)
+abbrev pub closed : {A : Type 0} → TokenKind → ReadWords A → ReadWords A
+closed k read = both (λ x w. x) read (next_word k)
 
-pub closed_exact : {C A : Type 0} {n : ℕ} {read : Read A} {spell : C → List Piece} {fits : C → Type 0} {says : C → List Place → A → Type 0} {follows : List Piece → Type 0}
+pub closed_exact : {C A : Type 0} {n : ℕ} {read : ReadWords A} {spell : C → List Piece} {fits : C → Type 0} {says : C → List Place → A → Type 0} {follows : List Piece → Type 0}
     (k : TokenKind) → IsMark k → ((rest : List Piece) → follows (Mark k ∷ rest)) → Exact n read spell fits says follows → Exact n (closed k read) (λ c. spell c ++ Mark k ∷ []) fits says Always
 closed_exact {n = n} {spell = spell} k marked ends exact = record {
   found = λ at.
@@ -193,8 +193,8 @@ ListSays spell says (c ∷ cs) ps [] = ⊥
 ListSays spell says (c ∷ cs) ps (y ∷ ys) = says c ps y × ListSays spell says cs (drop (length (spell c)) ps) ys
 
 -- A repetition goes on where a text that fits begins, which is of a word at least, and a text may follow another.
-pub record GoesOn {C : Type 0} (goes : At → Bool) (begins : List Piece → Bool) (spell : C → List Piece) (follows : List Piece → Type 0) : Type 0 where
-  pub same : (n : ℕ) (at : At) (ps : List Piece) → Ahead n at ps → goes at ≡ begins ps
+pub record GoesOn {C : Type 0} (goes : WordsAhead → Bool) (begins : List Piece → Bool) (spell : C → List Piece) (follows : List Piece → Type 0) : Type 0 where
+  pub same : (n : ℕ) (at : WordsAhead) (ps : List Piece) → Ahead n at ps → goes at ≡ begins ps
   pub starts : (c : C) (rest : List Piece) → begins (spell c ++ rest) ≡ true
   pub joins : (c : C) (rest : List Piece) → follows (spell c ++ rest)
   pub some : (c : C) → 1 ≤ length (spell c)
@@ -202,10 +202,10 @@ pub record GoesOn {C : Type 0} (goes : At → Bool) (begins : List Piece → Boo
 abbrev pub Ends : (List Piece → Bool) → (List Piece → Type 0) → List Piece → Type 0
 Ends begins follows rest = (begins rest ≡ false) × follows rest
 
-while_found : {C A : Type 0} {n : ℕ} {read : Read A} {spell : C → List Piece} {fits : C → Type 0} {says : C → List Place → A → Type 0} {follows : List Piece → Type 0}
-    (goes : At → Bool) → Exact n read spell fits says follows → (m : ℕ) (at : At)
-    → Finds (while_at goes read m at) (Spelled (flat_map spell) (AllByRecursion fits) (ListSays spell says) at)
-unfolding while_at
+while_found : {C A : Type 0} {n : ℕ} {read : ReadWords A} {spell : C → List Piece} {fits : C → Type 0} {says : C → List Place → A → Type 0} {follows : List Piece → Type 0}
+    (goes : WordsAhead → Bool) → Exact n read spell fits says follows → (m : ℕ) (at : WordsAhead)
+    → Finds (words_while goes read m at) (Spelled (flat_map spell) (AllByRecursion fits) (ListSays spell says) at)
+unfolding words_while
 while_found goes exact zero at = record { is = record { text = []; taken = takes_none at.words; fit = tt; is = tt } }
 while_found {spell = spell} {says = says} goes exact (suc m) at =
     found_if (goes at) _ _ _
@@ -219,16 +219,16 @@ while_found {spell = spell} {says = says} goes exact (suc m) at =
     }))))
     (record { is = record { text = []; taken = takes_none at.words; fit = tt; is = tt } })
 
-while_stops : {A : Type 0} (goes : At → Bool) (read : Read A) (m : ℕ) (at : At) → goes at ≡ false → while_at goes read m at ≡ Ok ([], at)
-unfolding while_at
+while_stops : {A : Type 0} (goes : WordsAhead → Bool) (read : ReadWords A) (m : ℕ) (at : WordsAhead) → goes at ≡ false → words_while goes read m at ≡ Ok ([], at)
+unfolding words_while
 while_stops goes read zero at h = refl
 while_stops goes read (suc m) at h = cond-false _ _ _ h
 
-while_again : {C A : Type 0} {n : ℕ} {read : Read A} {spell : C → List Piece} {fits : C → Type 0} {says : C → List Place → A → Type 0} {follows : List Piece → Type 0}
-    (goes : At → Bool) (begins : List Piece → Bool) → GoesOn goes begins spell follows → Exact n read spell fits says follows
-    → (cs : List C) (m : ℕ) (at : At) (rest : List Piece) → length cs ≤ m → AllByRecursion fits cs → Ahead n at (flat_map spell cs ++ rest) → Ends begins follows rest
-    → Gets (while_at goes read m at) (λ y. ListSays spell says cs (places at.words) y.0 × Ahead n y.1 rest)
-unfolding while_at
+while_again : {C A : Type 0} {n : ℕ} {read : ReadWords A} {spell : C → List Piece} {fits : C → Type 0} {says : C → List Place → A → Type 0} {follows : List Piece → Type 0}
+    (goes : WordsAhead → Bool) (begins : List Piece → Bool) → GoesOn goes begins spell follows → Exact n read spell fits says follows
+    → (cs : List C) (m : ℕ) (at : WordsAhead) (rest : List Piece) → length cs ≤ m → AllByRecursion fits cs → Ahead n at (flat_map spell cs ++ rest) → Ends begins follows rest
+    → Gets (words_while goes read m at) (λ y. ListSays spell says cs (places at.words) y.0 × Ahead n y.1 rest)
+unfolding words_while
 while_again {n = n} {read = read} goes begins on exact [] m at rest le fit h stop =
     record { value = ([], at); ok = while_stops goes read m at (on.same n at rest h ∙ stop.0); is = (tt, h) }
 while_again goes begins on exact (c ∷ cs) zero at rest le fit h stop = absurd (omega (arith, le))
@@ -251,9 +251,9 @@ few spell some (c ∷ cs) rest =
     let l : length ((spell c ++ flat_map spell cs) ++ rest) ≡ length (spell c) + length (flat_map spell cs ++ rest) = ap (λ (ps : List Piece). length ps) (append_assoc (spell c) (flat_map spell cs) rest) ∙ length-append (spell c) (flat_map spell cs ++ rest) in
     omega (arith, h, l, some c)
 
-pub while_exact : {C A : Type 0} {n : ℕ} {read : Read A} {spell : C → List Piece} {fits : C → Type 0} {says : C → List Place → A → Type 0} {follows : List Piece → Type 0}
-    (goes : At → Bool) (begins : List Piece → Bool) → GoesOn goes begins spell follows → Exact n read spell fits says follows
-    → Exact n (while_at goes read n) (flat_map spell) (AllByRecursion fits) (ListSays spell says) (Ends begins follows)
+pub while_exact : {C A : Type 0} {n : ℕ} {read : ReadWords A} {spell : C → List Piece} {fits : C → Type 0} {says : C → List Place → A → Type 0} {follows : List Piece → Type 0}
+    (goes : WordsAhead → Bool) (begins : List Piece → Bool) → GoesOn goes begins spell follows → Exact n read spell fits says follows
+    → Exact n (words_while goes read n) (flat_map spell) (AllByRecursion fits) (ListSays spell says) (Ends begins follows)
 while_exact {n = n} {spell = spell} goes begins on exact = record {
   found = while_found goes exact n;
   again = λ at cs rest fit h stop.

@@ -8,7 +8,7 @@ use Rattle.ps_token.specs.declared.token_kind.TokenKind.{TokenKind}
 use Rattle.ps_token.specs.declared.token_kind.TokenKind.TheVariants as kind
 use Rattle.ps_parse.specs.declared.read_refusal.ReadRefusal.{ReadRefusal}
 use Rattle.ps_grammar.specs.Words.{Word}
-use Rattle.ps_parse.specs.Reading.{At, Read, kind_number, is_kind, begins_with, next_is}
+use Rattle.ps_parse.specs.Reading.{WordsAhead, ReadWords, kind_number, is_kind, begins_with, next_is}
 use Rattle.ps_lines.specs.Steps.{and_then, ◌>>=◌}
 use Rattle.ps_grammar.specs.Spelling.{Piece, NamePiece, NumberPiece, Mark, piece_of_kind, pieces}
 
@@ -110,11 +110,11 @@ pub takes_places : {a b : List Word} {ps : List Piece} → Takes a ps b → plac
 takes_places {a = a} {b = b} {ps = ps} p = ap places (takes_drop p) ∙ sym (drop-map (λ (w : Word). w.place) (length ps) a)
 
 -- what is ahead is spelled so, and there are no more words than the bound
-pub record Ahead (n : ℕ) (at : At) (ps : List Piece) : Type 0 where
+pub record Ahead (n : ℕ) (at : WordsAhead) (ps : List Piece) : Type 0 where
   pub is : pieces at.words ≡ ps
   pub room : length ps ≤ n
 
-pub ahead_so : {n : ℕ} {at : At} {ps qs : List Piece} → ps ≡ qs → Ahead n at ps → Ahead n at qs
+pub ahead_so : {n : ℕ} {at : WordsAhead} {ps qs : List Piece} → ps ≡ qs → Ahead n at ps → Ahead n at qs
 ahead_so {n = n} {at = at} e h = subst (λ (xs : List Piece). Ahead n at xs) e h
 
 abbrev pub begins_piece : TokenKind → List Piece → Bool
@@ -125,7 +125,7 @@ pub begins_pieces : (k : TokenKind) (ws : List Word) → begins_with k ws ≡ be
 begins_pieces k [] = refl
 begins_pieces k (w ∷ ws) = ap (λ (j : TokenKind). is_kind j k) (sym (kind_of_piece w.kind w.text))
 
-pub next_ahead : {n : ℕ} {at : At} {ps : List Piece} (k : TokenKind) → Ahead n at ps → next_is k at ≡ begins_piece k ps
+pub next_ahead : {n : ℕ} {at : WordsAhead} {ps : List Piece} (k : TokenKind) → Ahead n at ps → next_is k at ≡ begins_piece k ps
 next_ahead {at = at} k h = begins_pieces k at.words ∙ ap (begins_piece k) h.is
 
 -- the next word isn't of the kind
@@ -186,13 +186,13 @@ pub gets_found : {A : Type 0} (r : Result A ReadRefusal) (Q R : A → Type 0) �
 gets_found r Q R h k = record { value = h.value; ok = h.ok; is = (h.is, subst (λ s. IfOk s R) h.ok k.is) }
 
 -- what was read is spelled by a text that fits, and is what the text says from the places of the words
-pub record Spelled {C A : Type 0} (spell : C → List Piece) (fits : C → Type 0) (says : C → List Place → A → Type 0) (at : At) (y : A × At) : Type 0 where
+pub record Spelled {C A : Type 0} (spell : C → List Piece) (fits : C → Type 0) (says : C → List Place → A → Type 0) (at : WordsAhead) (y : A × WordsAhead) : Type 0 where
   pub text : C
   pub taken : Takes at.words (spell text) y.1.words
   pub fit : fits text
   pub is : says text (places at.words) y.0
 
 -- A reading function reads the texts that fit, where what follows is so.
-pub record Exact {C A : Type 0} (n : ℕ) (read : Read A) (spell : C → List Piece) (fits : C → Type 0) (says : C → List Place → A → Type 0) (follows : List Piece → Type 0) : Type 0 where
-  pub found : (at : At) → Finds (read at) (Spelled spell fits says at)
-  pub again : (at : At) (c : C) (rest : List Piece) → fits c → Ahead n at (spell c ++ rest) → follows rest → Gets (read at) (λ y. says c (places at.words) y.0 × Ahead n y.1 rest)
+pub record Exact {C A : Type 0} (n : ℕ) (read : ReadWords A) (spell : C → List Piece) (fits : C → Type 0) (says : C → List Place → A → Type 0) (follows : List Piece → Type 0) : Type 0 where
+  pub found : (at : WordsAhead) → Finds (read at) (Spelled spell fits says at)
+  pub again : (at : WordsAhead) (c : C) (rest : List Piece) → fits c → Ahead n at (spell c ++ rest) → follows rest → Gets (read at) (λ y. says c (places at.words) y.0 × Ahead n y.1 rest)

@@ -11,7 +11,7 @@ use Rattle.ps_tree.specs.declared.stmt.StmtKind.TheVariants as stmt
 use Rattle.ps_parse.specs.declared.read_refusal.ReadRefusal.TheVariants.{Limit, LoopInAtomic}
 use Rattle.ps_grammar.specs.Grammar.{SumText, TestText, StmtText, assign, havoc, assume, assert, skip, atomic, if_then, if_else, while_do, BlockText, block_end}
 use Rattle.ps_grammar.specs.Words.{Word}
-use Rattle.ps_parse.specs.Reading.{Read, next_is, place_at, after_word}
+use Rattle.ps_parse.specs.Reading.{ReadWords, next_is, place_at, after_word}
 use Rattle.ps_parse.specs.Conds.{parens_at}
 use Rattle.ps_parse.specs.Blocks.{ended_at, assign_at, havoc_at, cond_stmt_at, skip_at, atomic_at, else_at, if_at, while_stmt_at, kind_at, stmt_at, has_more, block_at}
 use Rattle.ps_grammar.specs.Spelling.{Piece, Mark, cond_pieces, test_pieces, stmt_pieces, rest_pieces, block_pieces}
@@ -27,7 +27,7 @@ use Rattle.ps_parse.proofs.CondGuards.{cond_guards, cond_example, parens_guards,
 
 -- ---- simple statements
 
-pub ended_guards : {C A : Type 0} {n : ℕ} {n' most : ℕ → ℕ} {read : Read A} {read' : ℕ → Read A} {spell : C → List Piece} {okay : C → Type 0} {alike : A → A → Type 0} {follows : List Piece → Type 0}
+pub ended_guards : {C A : Type 0} {n : ℕ} {n' most : ℕ → ℕ} {read : ReadWords A} {read' : ℕ → ReadWords A} {spell : C → List Piece} {okay : C → Type 0} {alike : A → A → Type 0} {follows : List Piece → Type 0}
     → ((rest : List Piece) → follows (Mark kind.Semicolon ∷ rest)) → Guards n n' most read read' spell okay alike follows → Guards n n' most (ended_at read) (λ i. ended_at (read' i)) (λ c. spell c ++ Mark kind.Semicolon ∷ []) okay alike Always
 unfolding ended_at
 ended_guards ends g = closed_guards kind.Semicolon (λ u. refl) ends g
@@ -56,7 +56,7 @@ skip_guards t = mapped_guards Any (λ (w : Word). stmt.Skip) (λ x y h. tt) (aft
 
 -- ---- statements with blocks
 
-abbrev BlockGuards : Two → Read (List Stmt) → (ℕ → Read (List Stmt)) → Type 0
+abbrev BlockGuards : Two → ReadWords (List Stmt) → (ℕ → ReadWords (List Stmt)) → Type 0
 BlockGuards t block block' = GuardsIn t block block' block_pieces Any Always
 
 pub block_example : Example block_pieces Always
@@ -67,7 +67,7 @@ block_example = record {
   words = record { kind = kind.OpenBrace; text = []; place = record { line = 0; column = 0 } } ∷ record { kind = kind.CloseBrace; text = []; place = record { line = 0; column = 0 } } ∷ [];
 }
 
-atomic_guards : (t : Two) (block : Read (List Stmt)) (block' : ℕ → Read (List Stmt)) → BlockGuards t block block' → GuardsIn t (atomic_at block) (λ i. atomic_at (block' i)) (λ b. stmt_pieces (atomic b)) Any Always
+atomic_guards : (t : Two) (block : ReadWords (List Stmt)) (block' : ℕ → ReadWords (List Stmt)) → BlockGuards t block block' → GuardsIn t (atomic_at block) (λ i. atomic_at (block' i)) (λ b. stmt_pieces (atomic b)) Any Always
 unfolding atomic_at
 atomic_guards t block block' g = mapped_guards Any stmt.Atomic (λ x y h. tt) (after_guards kind.Atomic (λ u. refl) (omega arith) (λ i. omega arith) g block_example)
 
@@ -82,7 +82,7 @@ while_example = record {
   spelled = ap (λ (ps : List Piece). Mark kind.While ∷ ps) (pieces_are test_example.words block_example.words (test_pieces test_example.text) (block_pieces block_example.text) test_example.spelled block_example.spelled);
 }
 
-while_stmt_guards : (t : Two) (levels : ℕ) (inside : Bool) (block : Read (List Stmt)) (block' : ℕ → Read (List Stmt)) → BlockGuards t block block'
+while_stmt_guards : (t : Two) (levels : ℕ) (inside : Bool) (block : ReadWords (List Stmt)) (block' : ℕ → ReadWords (List Stmt)) → BlockGuards t block block'
     → GuardsWhere (next_is kind.While) t.left t.left' t.most' (while_stmt_at inside block t.scope t.most levels) (λ i. while_stmt_at inside (block' i) t.scope' (t.most' i) levels) while_pieces Always Any Always
 unfolding while_stmt_at while_example
 while_stmt_guards t levels true block block' g =
@@ -97,14 +97,14 @@ else_sort : (o : Option BlockText) → Always o → OfSort (begins_piece kind.El
 else_sort None ok = inr (record { text = tt; fine = tt; same = refl; tells = λ rest h. h })
 else_sort (Some b) ok = inl (record { text = b; fine = tt; same = refl; tells = λ rest h. refl })
 
-else_guards : (t : Two) (block : Read (List Stmt)) (block' : ℕ → Read (List Stmt)) → BlockGuards t block block' → GuardsIn t (else_at block) (λ i. else_at (block' i)) else_pieces Any (Not kind.Else)
+else_guards : (t : Two) (block : ReadWords (List Stmt)) (block' : ℕ → ReadWords (List Stmt)) → BlockGuards t block block' → GuardsIn t (else_at block) (λ i. else_at (block' i)) else_pieces Any (Not kind.Else)
 unfolding else_at
 else_guards t block block' g =
     choice_guards else_pieces Always (Not kind.Else) (next_is kind.Else) (begins_piece kind.Else) (next_test kind.Else) (λ k at ps h. next_ahead kind.Else h)
     (λ b. Some b) (λ b. refl) (λ b h. tt) (λ (u : Unit {0}). None) (λ u. refl) (λ u h. tt) else_sort (λ rest h. tt) (λ rest h. tt)
     (after_guards kind.Else (λ u. refl) (omega arith) (λ i. omega arith) g block_example) (nothing_guards t.left t.left' t.most' [] Any tt Always)
 
-if_guards : (t : Two) (levels : ℕ) (block : Read (List Stmt)) (block' : ℕ → Read (List Stmt)) → BlockGuards t block block' → GuardsIn t (if_at block t.scope t.most levels) (λ i. if_at (block' i) t.scope' (t.most' i) levels) if_pieces Any (Not kind.Else)
+if_guards : (t : Two) (levels : ℕ) (block : ReadWords (List Stmt)) (block' : ℕ → ReadWords (List Stmt)) → BlockGuards t block block' → GuardsIn t (if_at block t.scope t.most levels) (λ i. if_at (block' i) t.scope' (t.most' i) levels) if_pieces Any (Not kind.Else)
 unfolding if_at
 if_guards t levels block block' g =
     guards_as if_pieces Always (λ c. record { test = c.0; held = c.1.0; failed = c.1.1 }) (λ c. (c.test, (c.held, c.failed))) (λ c. refl) (λ c. refl) (λ c h. tt) (λ c h. (tt, (tt, tt)))
@@ -163,7 +163,7 @@ sort_if (if_else t b c) ok = inl (record { text = record { test = t; held = b; f
 sort_if (while_do t b) ok = inr (record { text = (t, b); fine = tt; same = refl; tells = λ rest h. refl })
 sort_if s ok = absurd (omega (arith, ok))
 
-kind_guards : (t : Two) (levels : ℕ) (block : Bool → Read (List Stmt)) (block' : ℕ → Bool → Read (List Stmt)) → ((inside : Bool) → BlockGuards t (block inside) (λ i. block' i inside)) → (inside : Bool)
+kind_guards : (t : Two) (levels : ℕ) (block : Bool → ReadWords (List Stmt)) (block' : ℕ → Bool → ReadWords (List Stmt)) → ((inside : Bool) → BlockGuards t (block inside) (λ i. block' i inside)) → (inside : Bool)
     → GuardsIn t (kind_at block inside t.scope t.most levels) (λ i. kind_at (block' i) inside t.scope' (t.most' i) levels) stmt_pieces Any (Not kind.Else)
 unfolding kind_at
 kind_guards t levels block block' g inside =
@@ -184,7 +184,7 @@ kind_guards t levels block block' g inside =
     if_of if_spelled (λ c h. if_is (From 6) (λ u b. omega arith) (λ u b d. omega arith) c) (λ c. while_do c.0 c.1) (λ c. refl) (λ c h. omega arith) sort_if (λ rest h. h) (λ rest h. tt) (if_guards t levels (block inside) (λ i. block' i inside) (g inside))
     (last_guards kind.While (λ c rest h. refl) while_example (while_stmt_guards t levels inside (block inside) (λ i. block' i inside) (g inside))))))))))
 
-stmt_guards : (t : Two) (levels : ℕ) (block : Bool → Read (List Stmt)) (block' : ℕ → Bool → Read (List Stmt)) → ((inside : Bool) → BlockGuards t (block inside) (λ i. block' i inside)) → (inside : Bool)
+stmt_guards : (t : Two) (levels : ℕ) (block : Bool → ReadWords (List Stmt)) (block' : ℕ → Bool → ReadWords (List Stmt)) → ((inside : Bool) → BlockGuards t (block inside) (λ i. block' i inside)) → (inside : Bool)
     → GuardsIn t (stmt_at block inside t.scope t.most levels) (λ i. stmt_at (block' i) inside t.scope' (t.most' i) levels) stmt_pieces Any (Not kind.Else)
 unfolding stmt_at
 stmt_guards t levels block block' g inside = placed_guards (λ at k. record { place = place_at at; kind = k }) (kind_guards t levels block block' g inside)

@@ -12,13 +12,13 @@ use Rattle.ps_tree.specs.declared.stmt.StmtKind.{StmtKind}
 use Rattle.ps_tree.specs.declared.stmt.StmtKind.TheVariants as stmt
 use Rattle.ps_parse.specs.declared.read_refusal.ReadRefusal.{ReadRefusal}
 use Rattle.ps_grammar.specs.Grammar.{SumText, TestText, StmtText, assign, havoc, atomic, if_then, if_else, while_do, BlockText}
-use Rattle.ps_parse.specs.Reading.{At, Read, next_is, after_word}
+use Rattle.ps_parse.specs.Reading.{WordsAhead, ReadWords, next_is, after_word}
 use Rattle.ps_grammar.specs.Names.{Names}
 use Rattle.ps_parse.specs.Conds.{parens_at}
 use Rattle.ps_parse.specs.Blocks.{ended_at, assign_at, havoc_at, cond_stmt_at, skip_at, atomic_at, else_at, if_at}
 use Rattle.ps_grammar.specs.Spelling.{Piece, Mark, cond_pieces, test_pieces, stmt_pieces, rest_pieces, block_pieces}
 use Rattle.ps_grammar.specs.Trees.{variable_named, cond_tree, test_tree, stmt_tree, block_trees}
-use Rattle.ps_grammar.specs.Fits.{IsKnown, SumFits, CondFits, TestFits, StmtFits, RestFits}
+use Rattle.ps_grammar.specs.Fits.{IsKnownName, SumTextFits, CondFits, TestFits, StmtFits, RestFits}
 use Rattle.ps_parse.proofs.Steps.{places, takes_none, takes_then, takes_so, takes_places, Ahead, ahead_so, next_ahead, Not, Always, Finds, Gets, found_bind, found_end, found_if, found_more, gets_bind, gets_end, gets_true, gets_false, Spelled, Exact}
 use Rattle.ps_parse.proofs.Sequences.{word_exact, IsMark, exact_as, exact_again, mapped_exact, after_exact, both, both_exact, closed_exact}
 use Rattle.ps_parse.proofs.Scopes.{variable_exact}
@@ -33,24 +33,24 @@ BlockFits names levels inside b = (1 ≤ levels) × RestFits names (levels - 1) 
 abbrev pub BlockIs : Names → BlockText → List Place → List Stmt → Type 0
 BlockIs names b ps y = y ≡ block_trees names b (drop 1 ps)
 
-abbrev pub BlockExact : ℕ → Names → ℕ → Bool → Read (List Stmt) → Type 0
+abbrev pub BlockExact : ℕ → Names → ℕ → Bool → ReadWords (List Stmt) → Type 0
 BlockExact n names levels inside read = Exact n read block_pieces (BlockFits names levels inside) (BlockIs names) Always
 
 -- ---- simple statements
 
-pub ended_exact : {C A : Type 0} {n : ℕ} {read : Read A} {spell : C → List Piece} {fits : C → Type 0} {says : C → List Place → A → Type 0} {follows : List Piece → Type 0}
+pub ended_exact : {C A : Type 0} {n : ℕ} {read : ReadWords A} {spell : C → List Piece} {fits : C → Type 0} {says : C → List Place → A → Type 0} {follows : List Piece → Type 0}
     → ((rest : List Piece) → follows (Mark kind.Semicolon ∷ rest)) → Exact n read spell fits says follows → Exact n (ended_at read) (λ c. spell c ++ Mark kind.Semicolon ∷ []) fits says Always
 unfolding ended_at
 ended_exact ends exact = closed_exact kind.Semicolon (λ t. refl) ends exact
 
-pub assign_exact : (n : ℕ) (names : Names) → Exact n (assign_at (Some names) n) (λ (c : List ℕ × SumText). stmt_pieces (assign c.0 c.1)) (λ c. IsKnown names c.0 × SumFits names c.1) (λ c ps y. y ≡ stmt_tree names (assign c.0 c.1) ps) Always
+pub assign_exact : (n : ℕ) (names : Names) → Exact n (assign_at (Some names) n) (λ (c : List ℕ × SumText). stmt_pieces (assign c.0 c.1)) (λ c. IsKnownName names c.0 × SumTextFits names c.1) (λ c ps y. y ≡ stmt_tree names (assign c.0 c.1) ps) Always
 unfolding assign_at
 assign_exact n names =
     exact_as _ _ _ (λ c. c) (λ c. c) (λ c. refl) (λ c. refl) (λ c h. h) (λ c h. h)
     (λ c ps y h. h.is ∙ ap (λ (v : Var). stmt.Assign v h.second) h.said_first ∙ ap (stmt.Assign (variable_named names c.0)) h.said_second)
     (both_exact stmt.Assign (variable_exact n (Some names)) (after_exact kind.Becomes (λ t. refl) (ended_exact (λ rest. (refl, refl)) (sum_exact n (Some names)))) (λ d rest fit stop. tt))
 
-pub havoc_exact : (n : ℕ) (names : Names) → Exact n (havoc_at (Some names)) (λ x. stmt_pieces (havoc x)) (IsKnown names) (λ x ps y. y ≡ stmt_tree names (havoc x) ps) Always
+pub havoc_exact : (n : ℕ) (names : Names) → Exact n (havoc_at (Some names)) (λ x. stmt_pieces (havoc x)) (IsKnownName names) (λ x ps y. y ≡ stmt_tree names (havoc x) ps) Always
 unfolding havoc_at
 havoc_exact n names = mapped_exact _ stmt.Havoc (λ x ps y h. ap stmt.Havoc h) (after_exact kind.Havoc (λ t. refl) (ended_exact (λ rest. tt) (variable_exact n (Some names))))
 
@@ -65,7 +65,7 @@ skip_exact n = mapped_exact _ (λ _. stmt.Skip) (λ t ps y h. refl) (after_exact
 
 -- ---- statements with blocks
 
-pub atomic_exact : (n : ℕ) (names : Names) (levels : ℕ) (block : Read (List Stmt)) → BlockExact n names levels true block
+pub atomic_exact : (n : ℕ) (names : Names) (levels : ℕ) (block : ReadWords (List Stmt)) → BlockExact n names levels true block
     → Exact n (atomic_at block) (λ b. stmt_pieces (atomic b)) (BlockFits names levels true) (λ b ps y. y ≡ stmt_tree names (atomic b) ps) Always
 unfolding atomic_at
 atomic_exact n names levels block exact =
@@ -76,7 +76,7 @@ held_place k ps =
     let e : suc k + 1 ≡ k + 2 = omega arith in
     drop-drop 1 (suc k) ps ∙ ap (λ (m : ℕ). drop m ps) e
 
-pub while_do_exact : (n : ℕ) (names : Names) (levels : ℕ) (inside : Bool) (block : Read (List Stmt)) → BlockExact n names levels inside block
+pub while_do_exact : (n : ℕ) (names : Names) (levels : ℕ) (inside : Bool) (block : ReadWords (List Stmt)) → BlockExact n names levels inside block
     → Exact n (both stmt.While (after_word kind.While (parens_at (Some names) n levels)) block) (λ (c : TestText × BlockText). stmt_pieces (while_do c.0 c.1)) (λ c. TestFits names levels c.0 × BlockFits names levels inside c.1) (λ c ps y. y ≡ stmt_tree names (while_do c.0 c.1) ps) Always
 while_do_exact n names levels inside block exact =
     exact_as _ _ _ (λ c. c) (λ c. c) (λ c. refl) (λ c. refl) (λ c h. h) (λ c h. h)
@@ -96,7 +96,7 @@ abbrev pub ElseIs : Names → Option BlockText → List Place → List Stmt → 
 ElseIs names None ps y = y ≡ []
 ElseIs names (Some b) ps y = y ≡ block_trees names b (drop 1 (drop 1 ps))
 
-else_again : (n : ℕ) (names : Names) (levels : ℕ) (inside : Bool) (block : Read (List Stmt)) → BlockExact n names levels inside block → (at : At) (o : Option BlockText) (rest : List Piece) → ElseFits names levels inside o → Ahead n at (else_pieces o ++ rest) → Not kind.Else rest
+else_again : (n : ℕ) (names : Names) (levels : ℕ) (inside : Bool) (block : ReadWords (List Stmt)) → BlockExact n names levels inside block → (at : WordsAhead) (o : Option BlockText) (rest : List Piece) → ElseFits names levels inside o → Ahead n at (else_pieces o ++ rest) → Not kind.Else rest
     → Gets (else_at block at) (λ y. ElseIs names o (places at.words) y.0 × Ahead n y.1 rest)
 unfolding else_at
 else_again n names levels inside block exact at None rest fit h stop =
@@ -104,7 +104,7 @@ else_again n names levels inside block exact at None rest fit h stop =
 else_again n names levels inside block exact at (Some b) rest fit h stop =
     gets_true (next_is kind.Else at) _ _ _ (next_ahead kind.Else h) ((after_exact kind.Else (λ t. refl) exact).again at b rest fit h tt)
 
-else_exact : (n : ℕ) (names : Names) (levels : ℕ) (inside : Bool) (block : Read (List Stmt)) → BlockExact n names levels inside block → Exact n (else_at block) else_pieces (ElseFits names levels inside) (ElseIs names) (Not kind.Else)
+else_exact : (n : ℕ) (names : Names) (levels : ℕ) (inside : Bool) (block : ReadWords (List Stmt)) → BlockExact n names levels inside block → Exact n (else_at block) else_pieces (ElseFits names levels inside) (ElseIs names) (Not kind.Else)
 unfolding else_at
 else_exact n names levels inside block exact = record {
   found = λ at.
@@ -138,7 +138,7 @@ make_if names c ps t held failed a b d = record {
   is = ap (λ (u : Test). stmt.If u held failed) a ∙ ap (λ (us : List Stmt). stmt.If (test_tree names c.test) us failed) b;
 }
 
-pub if_exact : (n : ℕ) (names : Names) (levels : ℕ) (inside : Bool) (block : Read (List Stmt)) → BlockExact n names levels inside block → Exact n (if_at block (Some names) n levels) if_pieces (IfFits names levels inside) (IfIs names) (Not kind.Else)
+pub if_exact : (n : ℕ) (names : Names) (levels : ℕ) (inside : Bool) (block : ReadWords (List Stmt)) → BlockExact n names levels inside block → Exact n (if_at block (Some names) n levels) if_pieces (IfFits names levels inside) (IfIs names) (Not kind.Else)
 unfolding if_at
 if_exact n names levels inside block exact = record {
   found = λ at.
@@ -178,7 +178,7 @@ if_of c = elim c.failed as (λ _. StmtText) [ None ↦ if_then c.test c.held | S
 
 pub found_as : {C D A : Type 0} {spell : C → List Piece} {fits : C → Type 0} {says : C → List Place → A → Type 0} (spell' : D → List Piece) (fits' : D → Type 0) (says' : D → List Place → A → Type 0) (f : C → D)
     → ((c : C) → spell c ≡ spell' (f c)) → ((c : C) → fits c → fits' (f c)) → ((c : C) (ps : List Place) (y : A) → says c ps y → says' (f c) ps y)
-    → (at : At) (r : Result (A × At) ReadRefusal) → Finds r (Spelled spell fits says at) → Finds r (Spelled spell' fits' says' at)
+    → (at : WordsAhead) (r : Result (A × WordsAhead) ReadRefusal) → Finds r (Spelled spell fits says at) → Finds r (Spelled spell' fits' says' at)
 found_as spell' fits' says' f spelled fit said at r h =
     found_more _ _ _ h (λ y p. record { text = f p.text; taken = takes_so (spelled p.text) p.taken; fit = fit p.text p.fit; is = said p.text (places at.words) y.0 p.is })
 

@@ -14,9 +14,9 @@ use Rattle.ps_parse.specs.Causes.{declared_in, is_declaration, is_after_factor, 
 use Rattle.ps_grammar.specs.Names.{Names}
 use Rattle.ps_parse.specs.Variables.{variable_in, variable_at}
 use Rattle.ps_grammar.specs.Spelling.{sign_kind}
-use Rattle.ps_parse.specs.Sums.{factor_at, number_product_at, name_product_at, product_at, first_product_at, further_product_at, adds, sum_at, sign_from, sign_at, relation_at}
+use Rattle.ps_parse.specs.Sums.{factor_at, number_product_at, name_product_at, product_at, first_product_at, further_product_at, adds, sum_at, sign_from, sign_ahead, relation_at}
 use Rattle.ps_grammar.specs.Words.{Word}
-use Rattle.ps_parse.specs.Reading.{At, Read, is_kind, begins_with, next_is, place_of_next, word_at, after_word, while_at}
+use Rattle.ps_parse.specs.Reading.{WordsAhead, ReadWords, is_kind, begins_with, next_is, place_of_next, next_word, after_word, words_while}
 use Rattle.ps_parse.proofs.Steps.{one_kind, same_kind}
 use Rattle.ps_parse.proofs.Guards.{Keeps, keeps_end, keeps_more}
 use Rattle.ps_parse.proofs.RelationLaws.{AreSigns}
@@ -25,7 +25,7 @@ use Rattle.ps_parse.proofs.CauseSteps.{Whole, In, Blamed, has_causes, plain, nam
 -- ---- what was passed
 
 -- Words were passed, all without a cause of a refusal, up to one that the next doesn't rest on, and it holds of them.
-pub record Past {A : Type 0} (t : Whole) (names : Names) (P : List Word → Type 0) (y : A × At) : Type 0 where
+pub record Past {A : Type 0} (t : Whole) (names : Names) (P : List Word → Type 0) (y : A × WordsAhead) : Type 0 where
   pub back : List Word
   pub here : In t names back y.1
   pub fresh : Fresh false back
@@ -36,12 +36,12 @@ abbrev pub LevelsAre : List Level → List Word → Type 0
 LevelsAre ls back = levels back ≡ ls
 
 -- the same words, for another value
-pub past_as : {A B : Type 0} {t : Whole} {names : Names} {P : List Word → Type 0} {y : A × At} (z : B) (Q : List Word → Type 0) → Past t names P y → ((back : List Word) → P back → Q back) → Past {A = B} t names Q (z, y.1)
+pub past_as : {A B : Type 0} {t : Whole} {names : Names} {P : List Word → Type 0} {y : A × WordsAhead} (z : B) (Q : List Word → Type 0) → Past t names P y → ((back : List Word) → P back → Q back) → Past {A = B} t names Q (z, y.1)
 past_as z Q p f = record { back = p.back; here = p.here; fresh = p.fresh; so = f p.back p.so }
 
 -- a word that has no cause, and that the next doesn't rest on
-pub mark_keeps : {t : Whole} {names : Names} {back : List Word} {at : At} {after : Bool} {ls : List Level} (k : TokenKind) → has_causes k ≡ false → joins k ≡ false → is_kind k kind.Atomic ≡ false → In t names back at → Fresh after back → levels back ≡ ls
-    → Keeps (word_at k at) (Past t names (LevelsAre (levels_with after k ls))) (Blamed t)
+pub mark_keeps : {t : Whole} {names : Names} {back : List Word} {at : WordsAhead} {after : Bool} {ls : List Level} (k : TokenKind) → has_causes k ≡ false → joins k ≡ false → is_kind k kind.Atomic ≡ false → In t names back at → Fresh after back → levels back ≡ ls
+    → Keeps (next_word k at) (Past t names (LevelsAre (levels_with after k ls))) (Blamed t)
 mark_keeps {names = names} {back = back} {at = at} {after = after} {ls = ls} k c j n h f o =
     keeps_more _ _ _ _ _ (word_keeps k h (fresh_linear at.words f) f.declaration (λ w ahead e. plain back w ahead k c e)) (λ y p. record {
       back = y.0 ∷ back;
@@ -51,10 +51,10 @@ mark_keeps {names = names} {back = back} {at = at} {after = after} {ls = ls} k c
     }) (λ e b. b)
 
 -- as long as it goes on
-pub while_keeps : {A : Type 0} (t : Whole) (names : Names) (P : List Word → Type 0) (goes : At → Bool) (read : Read A)
-    → ((back : List Word) (at : At) → In t names back at → Fresh false back → P back → goes at ≡ true → Keeps (read at) (Past t names P) (Blamed t))
-    → (n : ℕ) (back : List Word) (at : At) → In t names back at → Fresh false back → P back → Keeps (while_at goes read n at) (Past t names P) (Blamed t)
-unfolding while_at
+pub while_keeps : {A : Type 0} (t : Whole) (names : Names) (P : List Word → Type 0) (goes : WordsAhead → Bool) (read : ReadWords A)
+    → ((back : List Word) (at : WordsAhead) → In t names back at → Fresh false back → P back → goes at ≡ true → Keeps (read at) (Past t names P) (Blamed t))
+    → (n : ℕ) (back : List Word) (at : WordsAhead) → In t names back at → Fresh false back → P back → Keeps (words_while goes read n at) (Past t names P) (Blamed t)
+unfolding words_while
 while_keeps t names P goes read law zero back at h f o = keeps_end _ _ _ (record { back = back; here = h; fresh = f; so = o })
 while_keeps t names P goes read law (suc n) back at h f o =
     if_keeps _ _ _ _ _ (λ on.
@@ -66,7 +66,7 @@ while_keeps t names P goes read law (suc n) back at h f o =
 -- ---- products
 
 -- a declared name
-pub variable_keeps : {t : Whole} {names : Names} {back : List Word} {at : At} {after : Bool} {ls : List Level} → In t names back at → Fresh after back → levels back ≡ ls
+pub variable_keeps : {t : Whole} {names : Names} {back : List Word} {at : WordsAhead} {after : Bool} {ls : List Level} → In t names back at → Fresh after back → levels back ≡ ls
     → Keeps (variable_at (Some names) at) (Past t names (λ b. (levels b ≡ ls) × (begins_with kind.Name b ≡ true))) (Blamed t)
 unfolding variable_at
 variable_keeps {t = t} {names = names} {back = back} {at = at} {after = after} {ls = ls} h f o =
@@ -79,13 +79,13 @@ variable_keeps {t = t} {names = names} {back = back} {at = at} {after = after} {
       so = (level_word w.0 kind.Name back after ls p.0 f.atomic o, same_kind w.0.kind kind.Name p.0);
     })))
   where
-    by_test : (w : Word) (next : At) → w.kind ≡ kind.Name → In t names back (record { words = w ∷ next.words; end = next.end }) → (x : Option Var) → variable_in (Some names) w.text ≡ x
+    by_test : (w : Word) (next : WordsAhead) → w.kind ≡ kind.Name → In t names back (record { words = w ∷ next.words; end = next.end }) → (x : Option Var) → variable_in (Some names) w.text ≡ x
         → Keeps (ok_or x (UnknownName w.place)) (λ v. Contains (declared_in back) w.text) (Blamed t)
     by_test w next e here None u = record { is = unknown_blamed here e f.declaration f.factor (here.unknown w.text u) }
     by_test w next e here (Some v) u = record { is = here.known w.text v u }
 
 -- the number after a name and `*`
-factor_keeps : {t : Whole} {names : Names} {back : List Word} {at : At} {ls : List Level} → In t names back at → is_after_factor back ≡ true → is_declaration back ≡ false → begins_with kind.Atomic back ≡ false → levels back ≡ ls
+factor_keeps : {t : Whole} {names : Names} {back : List Word} {at : WordsAhead} {ls : List Level} → In t names back at → is_after_factor back ≡ true → is_declaration back ≡ false → begins_with kind.Atomic back ≡ false → levels back ≡ ls
     → Keeps (factor_at at) (Past t names (LevelsAre ls)) (Blamed t)
 unfolding factor_at
 factor_keeps {t = t} {names = names} {back = back} {at = at} {ls = ls} h l d a o =
@@ -97,7 +97,7 @@ factor_keeps {t = t} {names = names} {back = back} {at = at} {ls = ls} h l d a o
     by_words [] end here on = absurd (true≢false (sym on))
     by_words (w ∷ ws) end here on = record { is = linear_blamed here (one_kind w.kind kind.Name on) l }
 
-number_product_keeps : {t : Whole} {names : Names} {back : List Word} {at : At} {after : Bool} {ls : List Level} → In t names back at → Fresh after back → levels back ≡ ls → Keeps (number_product_at (Some names) at) (Past t names (LevelsAre ls)) (Blamed t)
+number_product_keeps : {t : Whole} {names : Names} {back : List Word} {at : WordsAhead} {after : Bool} {ls : List Level} → In t names back at → Fresh after back → levels back ≡ ls → Keeps (number_product_at (Some names) at) (Past t names (LevelsAre ls)) (Blamed t)
 unfolding number_product_at
 number_product_keeps {names = names} {back = back} {at = at} {after = after} {ls = ls} h f o =
     then_keeps _ _ _ _ _ (word_keeps kind.Number h (fresh_linear at.words f) f.declaration (λ w ahead e. plain back w ahead kind.Number refl e)) (λ n p.
@@ -109,7 +109,7 @@ number_product_keeps {names = names} {back = back} {at = at} {after = after} {ls
     keeps_end _ _ _ (past_as _ _ r (λ b s. s.0))))
     (λ off. keeps_end _ _ _ (record { back = n.0 ∷ back; here = p.1; fresh = g; so = q })))
 
-name_product_keeps : {t : Whole} {names : Names} {back : List Word} {at : At} {after : Bool} {ls : List Level} → In t names back at → Fresh after back → levels back ≡ ls → Keeps (name_product_at (Some names) at) (Past t names (LevelsAre ls)) (Blamed t)
+name_product_keeps : {t : Whole} {names : Names} {back : List Word} {at : WordsAhead} {after : Bool} {ls : List Level} → In t names back at → Fresh after back → levels back ≡ ls → Keeps (name_product_at (Some names) at) (Past t names (LevelsAre ls)) (Blamed t)
 unfolding name_product_at
 name_product_keeps {names = names} {ls = ls} h f o =
     then_keeps _ _ _ _ _ (variable_keeps h f o) (λ x p.
@@ -123,30 +123,30 @@ name_product_keeps {names = names} {ls = ls} h f o =
     keeps_end _ _ _ (past_as _ _ r (λ b s. s))))
     (λ off. keeps_end _ _ _ (past_as _ _ p (λ b s. s.0))))
 
-pub product_keeps : {t : Whole} {names : Names} {back : List Word} {at : At} {after : Bool} {ls : List Level} → In t names back at → Fresh after back → levels back ≡ ls → Keeps (product_at (Some names) at) (Past t names (LevelsAre ls)) (Blamed t)
+pub product_keeps : {t : Whole} {names : Names} {back : List Word} {at : WordsAhead} {after : Bool} {ls : List Level} → In t names back at → Fresh after back → levels back ≡ ls → Keeps (product_at (Some names) at) (Past t names (LevelsAre ls)) (Blamed t)
 unfolding product_at
 product_keeps h f o = if_keeps _ _ _ _ _ (λ on. number_product_keeps h f o) (λ off. name_product_keeps h f o)
 
 -- ---- sums
 
 -- a product after a word
-signed_keeps : {t : Whole} {names : Names} {back : List Word} {at : At} {after : Bool} {ls : List Level} (k : TokenKind) → has_causes k ≡ false → joins k ≡ false → is_kind k kind.Atomic ≡ false → levels_with after k ls ≡ ls → In t names back at → Fresh after back → levels back ≡ ls
+signed_keeps : {t : Whole} {names : Names} {back : List Word} {at : WordsAhead} {after : Bool} {ls : List Level} (k : TokenKind) → has_causes k ≡ false → joins k ≡ false → is_kind k kind.Atomic ≡ false → levels_with after k ls ≡ ls → In t names back at → Fresh after back → levels back ≡ ls
     → Keeps (after_word k (product_at (Some names)) at) (Past t names (LevelsAre ls)) (Blamed t)
 signed_keeps k c j n l h f o = after_keeps k _ _ _ _ _ (mark_keeps k c j n h f o) (λ w p. product_keeps p.here p.fresh (p.so ∙ l))
 
-first_product_keeps : {t : Whole} {names : Names} {back : List Word} {at : At} {after : Bool} {ls : List Level} → In t names back at → Fresh after back → levels back ≡ ls → Keeps (first_product_at (Some names) at) (Past t names (LevelsAre ls)) (Blamed t)
+first_product_keeps : {t : Whole} {names : Names} {back : List Word} {at : WordsAhead} {after : Bool} {ls : List Level} → In t names back at → Fresh after back → levels back ≡ ls → Keeps (first_product_at (Some names) at) (Past t names (LevelsAre ls)) (Blamed t)
 unfolding first_product_at
 first_product_keeps {at = at} h f o =
     if_keeps (next_is kind.Minus at) _ _ _ _ (λ on. then_keeps _ _ _ _ _ (signed_keeps kind.Minus refl refl refl refl h f o) (λ x p. keeps_end _ _ _ (past_as _ _ p (λ b s. s))))
     (λ off. product_keeps h f o)
 
-further_product_keeps : {t : Whole} {names : Names} {back : List Word} {at : At} {after : Bool} {ls : List Level} → In t names back at → Fresh after back → levels back ≡ ls → Keeps (further_product_at (Some names) at) (Past t names (LevelsAre ls)) (Blamed t)
+further_product_keeps : {t : Whole} {names : Names} {back : List Word} {at : WordsAhead} {after : Bool} {ls : List Level} → In t names back at → Fresh after back → levels back ≡ ls → Keeps (further_product_at (Some names) at) (Past t names (LevelsAre ls)) (Blamed t)
 unfolding further_product_at
 further_product_keeps {at = at} h f o =
     if_keeps (next_is kind.Plus at) _ _ _ _ (λ on. signed_keeps kind.Plus refl refl refl refl h f o)
     (λ off. then_keeps _ _ _ _ _ (signed_keeps kind.Minus refl refl refl refl h f o) (λ x p. keeps_end _ _ _ (past_as _ _ p (λ b s. s))))
 
-pub sum_keeps : {t : Whole} {names : Names} {back : List Word} {at : At} {after : Bool} {ls : List Level} (n : ℕ) → In t names back at → Fresh after back → levels back ≡ ls → Keeps (sum_at (Some names) n at) (Past t names (LevelsAre ls)) (Blamed t)
+pub sum_keeps : {t : Whole} {names : Names} {back : List Word} {at : WordsAhead} {after : Bool} {ls : List Level} (n : ℕ) → In t names back at → Fresh after back → levels back ≡ ls → Keeps (sum_at (Some names) n at) (Past t names (LevelsAre ls)) (Blamed t)
 unfolding sum_at
 sum_keeps {t = t} {names = names} {ls = ls} n h f o =
     then_keeps _ _ _ _ _ (first_product_keeps h f o) (λ x p.
@@ -171,8 +171,8 @@ sign_levels sign.GreaterEq after ls = refl
 sign_levels sign.Equal after ls = refl
 sign_levels sign.NotEqual after ls = refl
 
-sign_keeps : {t : Whole} {names : Names} {back : List Word} {at : At} {ls : List Level} (of : TokenKind → Option Sign) → AreSigns of → In t names back at → Fresh false back → levels back ≡ ls → Keeps (sign_at of at) (Past t names (LevelsAre ls)) (Blamed t)
-unfolding sign_at
+sign_keeps : {t : Whole} {names : Names} {back : List Word} {at : WordsAhead} {ls : List Level} (of : TokenKind → Option Sign) → AreSigns of → In t names back at → Fresh false back → levels back ≡ ls → Keeps (sign_ahead of at) (Past t names (LevelsAre ls)) (Blamed t)
+unfolding sign_ahead
 sign_keeps {t = t} {names = names} {back = back} {at = at} {ls = ls} of are h f o = by_words at.words at.end h
   where
     by_sign : (w : Word) (ws : List Word) (end : Place) → In t names back (record { words = w ∷ ws; end = end }) → (x : Option Sign) → of w.kind ≡ x → Keeps (ok_or x (Grammar w.place)) (λ s. w.kind ≡ sign_kind s) (Blamed t)
@@ -191,7 +191,7 @@ sign_keeps {t = t} {names = names} {back = back} {at = at} {ls = ls} of are h f 
           so = level_word w (sign_kind s) back false ls e f.atomic o ∙ sign_levels s false ls;
         }))
 
-pub relation_keeps : {t : Whole} {names : Names} {back : List Word} {at : At} {after : Bool} {ls : List Level} (of : TokenKind → Option Sign) → AreSigns of → (n : ℕ) → In t names back at → Fresh after back → levels back ≡ ls → Keeps (relation_at of (Some names) n at) (Past t names (LevelsAre ls)) (Blamed t)
+pub relation_keeps : {t : Whole} {names : Names} {back : List Word} {at : WordsAhead} {after : Bool} {ls : List Level} (of : TokenKind → Option Sign) → AreSigns of → (n : ℕ) → In t names back at → Fresh after back → levels back ≡ ls → Keeps (relation_at of (Some names) n at) (Past t names (LevelsAre ls)) (Blamed t)
 unfolding relation_at
 relation_keeps of are n h f o =
     then_keeps _ _ _ _ _ (sum_keeps n h f o) (λ l p.

@@ -14,12 +14,12 @@ use Rattle.ps_tree.specs.declared.relation.Sign.TheVariants as sign
 use Rattle.ps_tree.specs.declared.sum.Sum.{Sum}
 use Rattle.ps_grammar.specs.Grammar.{ProductText, number, name, number_name, name_number, SumText}
 use Rattle.ps_grammar.specs.Words.{Word}
-use Rattle.ps_parse.specs.Reading.{At, Read, next_is, place_at, word_at, after_word}
+use Rattle.ps_parse.specs.Reading.{WordsAhead, ReadWords, next_is, place_at, next_word, after_word}
 use Rattle.ps_lines.specs.Steps.{◌>>=◌}
 use Rattle.ps_grammar.specs.Names.{Names}
 use Rattle.ps_parse.specs.Variables.{variable_in, variable_at}
 use Rattle.ps_grammar.specs.Numbers.{number_value, signed}
-use Rattle.ps_parse.specs.Sums.{factor_at, number_product_at, name_product_at, product_at, first_product_at, further_product_at, adds, sum_at, sign_from, sign_at, relation_at}
+use Rattle.ps_parse.specs.Sums.{factor_at, number_product_at, name_product_at, product_at, first_product_at, further_product_at, adds, sum_at, sign_from, sign_ahead, relation_at}
 use Rattle.ps_grammar.specs.Spelling.{Piece, NamePiece, Mark, piece_of_kind, product_pieces, minus_pieces, sum_pieces, relation_pieces}
 use Rattle.ps_parse.specs.Reads.{BeginAlike, PassesGrammar, refusal_place}
 use Rattle.ps_parse.proofs.Steps.{same_kind, kind_of, kind_of_piece, begins_piece, next_ahead, Not, Always, Gets, gets_bind, gets_end}
@@ -47,7 +47,7 @@ pub record Two : Type 0 where
   pub scope' : Option Names
   pub widens : Widens scope scope'
 
-abbrev pub GuardsIn : {C A : Type 0} → Two → Read A → (ℕ → Read A) → (C → List Piece) → (A → A → Type 0) → (List Piece → Type 0) → Type 0
+abbrev pub GuardsIn : {C A : Type 0} → Two → ReadWords A → (ℕ → ReadWords A) → (C → List Piece) → (A → A → Type 0) → (List Piece → Type 0) → Type 0
 GuardsIn t read read' spell alike follows = Guards t.left t.left' t.most' read read' spell Always alike follows
 
 -- ---- names and numbers
@@ -120,7 +120,7 @@ name_example = record { text = []; fine = tt; words = record { kind = kind.Name;
 pub number_example : Example number_piece Always
 number_example = record { text = []; fine = tt; words = record { kind = kind.Number; text = []; place = record { line = 0; column = 0 } } ∷ []; spelled = refl }
 
-digits_guards : (t : Two) → GuardsIn t (mapped (λ (w : Word). number_value w.text) (word_at kind.Number)) (λ i. mapped (λ (w : Word). number_value w.text) (word_at kind.Number)) number_piece Any Always
+digits_guards : (t : Two) → GuardsIn t (mapped (λ (w : Word). number_value w.text) (next_word kind.Number)) (λ i. mapped (λ (w : Word). number_value w.text) (next_word kind.Number)) number_piece Any Always
 digits_guards t = mapped_guards Any (λ (w : Word). number_value w.text) (λ x y h. tt) (word_guards t.left t.left' t.most' kind.Number)
 
 factor_guards : (t : Two) → GuardsIn t factor_at (λ i. factor_at) number_piece Any Always
@@ -134,14 +134,14 @@ factor_guards t =
 
 -- ---- a word and more, or nothing
 
-abbrev opt_at : {A : Type 0} → TokenKind → Read A → Read (Option A)
+abbrev opt_at : {A : Type 0} → TokenKind → ReadWords A → ReadWords (Option A)
 opt_at k read at = if next_is k at then mapped Some (after_word k read) at else Ok (None, at)
 
 abbrev opt_pieces : {C : Type 0} → TokenKind → (C → List Piece) → Option C → List Piece
 opt_pieces k spell None = []
 opt_pieces k spell (Some c) = Mark k ∷ spell c
 
-opt_guards : {C A : Type 0} (t : Two) (k : TokenKind) → IsMark k → (read : Read A) (read' : ℕ → Read A) (spell : C → List Piece) → Example spell Always → GuardsIn t read read' spell Any Always → GuardsIn t (opt_at k read) (λ i. opt_at k (read' i)) (opt_pieces k spell) Any (Not k)
+opt_guards : {C A : Type 0} (t : Two) (k : TokenKind) → IsMark k → (read : ReadWords A) (read' : ℕ → ReadWords A) (spell : C → List Piece) → Example spell Always → GuardsIn t read read' spell Any Always → GuardsIn t (opt_at k read) (λ i. opt_at k (read' i)) (opt_pieces k spell) Any (Not k)
 opt_guards {C = C} t k marked read read' spell example g =
     choice_guards (opt_pieces k spell) Always (Not k) (next_is k) (begins_piece k) (next_test k) (λ m at ps h. next_ahead k h)
     (λ c. Some c) (λ c. refl) (λ c h. tt) (λ (u : Unit {0}). None) (λ u. refl) (λ u h. tt)
@@ -153,7 +153,7 @@ opt_guards {C = C} t k marked read read' spell example g =
     sort None ok = inr (record { text = tt; fine = tt; same = refl; tells = λ rest h. h })
     sort (Some c) ok = inl (record { text = c; fine = tt; same = refl; tells = λ rest h. same_kind k k refl })
 
-opt_then : {A B : Type 0} (k : TokenKind) (read : Read A) (at : At) (g : Option A × At → Result B ReadRefusal) → (opt_at k read at >>= g) ≡ (if next_is k at then (after_word k read at >>= λ x. g (Some x.0, x.1)) else g (None, at))
+opt_then : {A B : Type 0} (k : TokenKind) (read : ReadWords A) (at : WordsAhead) (g : Option A × WordsAhead → Result B ReadRefusal) → (opt_at k read at >>= g) ≡ (if next_is k at then (after_word k read at >>= λ x. g (Some x.0, x.1)) else g (None, at))
 opt_then {A = A} {B = B} k read at g = by_test (next_is k at)
   where
     by_test : (t : Bool) → ((if t then mapped Some (after_word k read) at else Ok (None, at)) >>= g) ≡ (if t then (after_word k read at >>= λ x. g (Some x.0, x.1)) else g (None, at))
@@ -165,7 +165,7 @@ opt_then {A = A} {B = B} k read at g = by_test (next_is k at)
 abbrev numbered : Word → Option Var → ℤ × Option Var
 numbered w o = (number_value w.text, o)
 
-number_product_is : (scope : Option Names) (at : At) → both numbered (word_at kind.Number) (opt_at kind.Star (variable_at scope)) at ≡ number_product_at scope at
+number_product_is : (scope : Option Names) (at : WordsAhead) → both numbered (next_word kind.Number) (opt_at kind.Star (variable_at scope)) at ≡ number_product_at scope at
 unfolding number_product_at
 number_product_is scope at = bind_same _ _ _ (λ n. opt_then kind.Star (variable_at scope) n.1 _)
 
@@ -173,7 +173,7 @@ abbrev named : Var → Option ℤ → ℤ × Option Var
 named v None = (pos 1, Some v)
 named v (Some d) = (d, Some v)
 
-name_product_is : (scope : Option Names) (at : At) → both named (variable_at scope) (opt_at kind.Star factor_at) at ≡ name_product_at scope at
+name_product_is : (scope : Option Names) (at : WordsAhead) → both named (variable_at scope) (opt_at kind.Star factor_at) at ≡ name_product_at scope at
 unfolding name_product_at
 name_product_is scope at = bind_same _ _ _ (λ x. opt_then kind.Star factor_at x.1 _)
 
@@ -298,7 +298,7 @@ wrong_sign of w ws (v ∷ vs) end e h =
     refused_bind _ _ (subst (λ (o : Option Sign). Refused (ok_or o (Grammar v.place))) (sym (ap of same ∙ e)) (record { is = tt }))
 
 sign_stuck : (n' : ℕ → ℕ) (of : TokenKind → Option Sign) → AreSigns of → SignIn of sign.Less → (ws : List Word) (end : Place)
-    → Keeps (sign_from of ws end) (Went n' (λ i at. sign_from of at.words at.end) sign_piece (SignIn of) Same (record { words = ws; end = end })) (Stood n' (λ (i : ℕ) (at : At). sign_from of at.words at.end) sign_piece (SignIn of) (record { words = ws; end = end }))
+    → Keeps (sign_from of ws end) (Went n' (λ i at. sign_from of at.words at.end) sign_piece (SignIn of) Same (record { words = ws; end = end })) (Stood n' (λ (i : ℕ) (at : WordsAhead). sign_from of at.words at.end) sign_piece (SignIn of) (record { words = ws; end = end }))
 sign_stuck n' of are less [] end = record {
   is = record {
     text = sign.Less;
@@ -316,7 +316,7 @@ sign_stuck n' of are less [] end = record {
 sign_stuck n' of are less (w ∷ ws) end = by_sign (of w.kind) refl
   where
     by_sign : (o : Option Sign) → of w.kind ≡ o
-        → Keeps (ok_or o (Grammar w.place) >>= λ s. Ok (s, record { words = ws; end = end })) (Went n' (λ i at. sign_from of at.words at.end) sign_piece (SignIn of) Same (record { words = w ∷ ws; end = end })) (Stood n' (λ (i : ℕ) (at : At). sign_from of at.words at.end) sign_piece (SignIn of) (record { words = w ∷ ws; end = end }))
+        → Keeps (ok_or o (Grammar w.place) >>= λ s. Ok (s, record { words = ws; end = end })) (Went n' (λ i at. sign_from of at.words at.end) sign_piece (SignIn of) Same (record { words = w ∷ ws; end = end })) (Stood n' (λ (i : ℕ) (at : WordsAhead). sign_from of at.words at.end) sign_piece (SignIn of) (record { words = w ∷ ws; end = end }))
     by_sign (Some s) e = keeps_bind _ _ (λ r. r ≡ s) (λ p. ⊥) _ _ (record { is = refl })
         (λ r q. keeps_end _ _ _ (record {
           text = s;
@@ -344,8 +344,8 @@ sign_stuck n' of are less (w ∷ ws) end = by_sign (of w.kind) refl
           same = λ g i at' other room h k. subst (λ (vs : List Word). Refused (sign_from of vs at'.end)) (sym k) (wrong_sign of w ws other at'.end e h);
         })
 
-sign_guards : (n : ℕ) (n' most : ℕ → ℕ) (of : TokenKind → Option Sign) → AreSigns of → SignIn of sign.Less → Guards n n' most (sign_at of) (λ i. sign_at of) sign_piece (SignIn of) Same Always
-unfolding sign_at
+sign_guards : (n : ℕ) (n' most : ℕ → ℕ) (of : TokenKind → Option Sign) → AreSigns of → SignIn of sign.Less → Guards n n' most (sign_ahead of) (λ i. sign_ahead of) sign_piece (SignIn of) Same Always
+unfolding sign_ahead
 sign_guards n n' most of are less = record {
   never = λ i at s rest fine h _. lets_gets _ _ _ ((sign_exact (most i) of are).again at s rest fine h tt) (λ y p. p.1);
   stuck = λ at room. sign_stuck n' of are less at.words at.end;
@@ -354,9 +354,9 @@ sign_guards n n' most of are less = record {
 abbrev of_parts : Sum → Sign → Sum → Relation
 of_parts left s right = record { left = left; sign = s; right = right }
 
-relation_is : (of : TokenKind → Option Sign) (scope : Option Names) (n : ℕ) (at : At) → both (of_pair of_parts) (sum_at scope n) (both pair_up (sign_at of) (sum_at scope n)) at ≡ relation_at of scope n at
+relation_is : (of : TokenKind → Option Sign) (scope : Option Names) (n : ℕ) (at : WordsAhead) → both (of_pair of_parts) (sum_at scope n) (both pair_up (sign_ahead of) (sum_at scope n)) at ≡ relation_at of scope n at
 unfolding relation_at
-relation_is of scope n at = three_is of_parts (sum_at scope n) (sign_at of) (sum_at scope n) at
+relation_is of scope n at = three_is of_parts (sum_at scope n) (sign_ahead of) (sum_at scope n) at
 
 abbrev pub SameSign : Relation → Relation → Type 0
 SameSign r s = r.sign ≡ s.sign

@@ -8,13 +8,13 @@ use Rattle.ps_token.specs.declared.token_kind.TokenKind.TheVariants as kind
 use Rattle.ps_term.specs.declared.var.Var.{Var}
 use Rattle.ps_tree.specs.declared.sum.Sum.{Sum}
 use Rattle.ps_grammar.specs.Grammar.{ProductText, number, name, number_name, name_number, SumText}
-use Rattle.ps_parse.specs.Reading.{At, is_kind, next_is, after_word}
+use Rattle.ps_parse.specs.Reading.{WordsAhead, is_kind, next_is, after_word}
 use Rattle.ps_grammar.specs.Names.{Names}
 use Rattle.ps_grammar.specs.Numbers.{number_value, signed}
 use Rattle.ps_parse.specs.Sums.{factor_at, number_product_at, name_product_at, product_at, first_product_at, further_product_at, adds, sum_at}
 use Rattle.ps_grammar.specs.Spelling.{Piece, NamePiece, NumberPiece, Mark, product_pieces, minus_pieces, plus_or_minus, further_pieces, sum_pieces}
 use Rattle.ps_grammar.specs.Trees.{variable_named, product_tree, sum_tree}
-use Rattle.ps_grammar.specs.Fits.{ProductFits, SumFits}
+use Rattle.ps_grammar.specs.Fits.{ProductFits, SumTextFits}
 use Rattle.ps_parse.proofs.Steps.{places, Takes, takes_then, takes_so, Ahead, begins_piece, next_ahead, Not, Always, Finds, Gets, found_bind, found_end, found_if, found_more, gets_bind, gets_end, gets_true, gets_false, Spelled, Exact}
 use Rattle.ps_parse.proofs.Sequences.{word_exact, exact_as, mapped, mapped_exact, after_exact, both_exact, ListSays, GoesOn, Ends, while_exact}
 use Rattle.ps_parse.proofs.Scopes.{FitsIn, Says, fits_both, fits_first, fits_second, fits_as, fits_all, fits_each, says_const, says_of, says_two, KnownIn, variable_exact}
@@ -50,7 +50,7 @@ fits_nothing : (scope : Option Names) → FitsIn scope (λ _. Unit {0})
 fits_nothing None = tt
 fits_nothing (Some names) = tt
 
-number_found : (n : ℕ) (scope : Option Names) (at : At) → Finds (number_product_at scope at) (Spelled product_pieces (ProductIn scope) (ProductSays scope) at)
+number_found : (n : ℕ) (scope : Option Names) (at : WordsAhead) → Finds (number_product_at scope at) (Spelled product_pieces (ProductIn scope) (ProductSays scope) at)
 unfolding number_product_at
 number_found n scope at =
     found_bind _ _ _ _ ((word_exact n kind.Number).found at) (λ w p.
@@ -65,7 +65,7 @@ number_found n scope at =
     })))
     (found_end _ _ (record { text = number w.0.text; taken = taken; fit = fits_nothing scope; is = says_const scope (number_value w.0.text, None) })))
 
-name_found : (n : ℕ) (scope : Option Names) (at : At) → Finds (name_product_at scope at) (Spelled product_pieces (ProductIn scope) (ProductSays scope) at)
+name_found : (n : ℕ) (scope : Option Names) (at : WordsAhead) → Finds (name_product_at scope at) (Spelled product_pieces (ProductIn scope) (ProductSays scope) at)
 unfolding name_product_at
 name_found n scope at =
     found_bind _ _ _ _ ((variable_exact n scope).found at) (λ x p.
@@ -79,14 +79,14 @@ name_found n scope at =
     })))
     (found_end _ _ (record { text = name p.text; taken = p.taken; fit = p.fit; is = says_of scope (λ (v : Var). (pos 1, Some v)) (λ names. variable_named names p.text) x.0 p.is })))
 
-pub number_again : (n : ℕ) (scope : Option Names) (at : At) (d : List ℕ) (rest : List Piece) → Ahead n at (NumberPiece d ∷ rest) → Not kind.Star rest → Gets (number_product_at scope at) (λ y. ProductSays scope (number d) (places at.words) y.0 × Ahead n y.1 rest)
+pub number_again : (n : ℕ) (scope : Option Names) (at : WordsAhead) (d : List ℕ) (rest : List Piece) → Ahead n at (NumberPiece d ∷ rest) → Not kind.Star rest → Gets (number_product_at scope at) (λ y. ProductSays scope (number d) (places at.words) y.0 × Ahead n y.1 rest)
 unfolding number_product_at
 number_again n scope at d rest h stop =
     gets_bind _ _ _ _ ((word_exact n kind.Number).again at d rest tt h tt) (λ w p.
     gets_false (next_is kind.Star w.1) _ _ _ (next_ahead kind.Star p.1 ∙ stop)
     (gets_end _ _ (subst (λ (t : List ℕ). Says scope (λ names. product_tree names (number d)) (number_value t, None)) (sym p.0) (says_const scope (number_value d, None)), p.1)))
 
-pub number_name_again : (n : ℕ) (scope : Option Names) (at : At) (d x : List ℕ) (rest : List Piece) → KnownIn scope x → Ahead n at (NumberPiece d ∷ Mark kind.Star ∷ NamePiece x ∷ rest) → Gets (number_product_at scope at) (λ y. ProductSays scope (number_name d x) (places at.words) y.0 × Ahead n y.1 rest)
+pub number_name_again : (n : ℕ) (scope : Option Names) (at : WordsAhead) (d x : List ℕ) (rest : List Piece) → KnownIn scope x → Ahead n at (NumberPiece d ∷ Mark kind.Star ∷ NamePiece x ∷ rest) → Gets (number_product_at scope at) (λ y. ProductSays scope (number_name d x) (places at.words) y.0 × Ahead n y.1 rest)
 unfolding number_product_at
 number_name_again n scope at d x rest fit h =
     gets_bind _ _ _ _ ((word_exact n kind.Number).again at d (Mark kind.Star ∷ NamePiece x ∷ rest) tt h tt) (λ w p.
@@ -97,14 +97,14 @@ number_name_again n scope at d x rest fit h =
       q.1,
     ))))
 
-pub name_again : (n : ℕ) (scope : Option Names) (at : At) (x : List ℕ) (rest : List Piece) → KnownIn scope x → Ahead n at (NamePiece x ∷ rest) → Not kind.Star rest → Gets (name_product_at scope at) (λ y. ProductSays scope (name x) (places at.words) y.0 × Ahead n y.1 rest)
+pub name_again : (n : ℕ) (scope : Option Names) (at : WordsAhead) (x : List ℕ) (rest : List Piece) → KnownIn scope x → Ahead n at (NamePiece x ∷ rest) → Not kind.Star rest → Gets (name_product_at scope at) (λ y. ProductSays scope (name x) (places at.words) y.0 × Ahead n y.1 rest)
 unfolding name_product_at
 name_again n scope at x rest fit h stop =
     gets_bind _ _ _ _ ((variable_exact n scope).again at x rest fit h tt) (λ v p.
     gets_false (next_is kind.Star v.1) _ _ _ (next_ahead kind.Star p.1 ∙ stop)
     (gets_end _ _ (says_of scope (λ (v : Var). (pos 1, Some v)) (λ names. variable_named names x) v.0 p.0, p.1)))
 
-pub name_number_again : (n : ℕ) (scope : Option Names) (at : At) (x d : List ℕ) (rest : List Piece) → KnownIn scope x → Ahead n at (NamePiece x ∷ Mark kind.Star ∷ NumberPiece d ∷ rest) → Gets (name_product_at scope at) (λ y. ProductSays scope (name_number x d) (places at.words) y.0 × Ahead n y.1 rest)
+pub name_number_again : (n : ℕ) (scope : Option Names) (at : WordsAhead) (x d : List ℕ) (rest : List Piece) → KnownIn scope x → Ahead n at (NamePiece x ∷ Mark kind.Star ∷ NumberPiece d ∷ rest) → Gets (name_product_at scope at) (λ y. ProductSays scope (name_number x d) (places at.words) y.0 × Ahead n y.1 rest)
 unfolding name_product_at
 name_number_again n scope at x d rest fit h =
     gets_bind _ _ _ _ ((variable_exact n scope).again at x (Mark kind.Star ∷ NumberPiece d ∷ rest) fit h tt) (λ v p.
@@ -115,7 +115,7 @@ name_number_again n scope at x d rest fit h =
       q.1,
     ))))
 
-product_again : (n : ℕ) (scope : Option Names) (at : At) (c : ProductText) (rest : List Piece) → ProductIn scope c → Ahead n at (product_pieces c ++ rest) → Not kind.Star rest → Gets (product_at scope at) (λ y. ProductSays scope c (places at.words) y.0 × Ahead n y.1 rest)
+product_again : (n : ℕ) (scope : Option Names) (at : WordsAhead) (c : ProductText) (rest : List Piece) → ProductIn scope c → Ahead n at (product_pieces c ++ rest) → Not kind.Star rest → Gets (product_at scope at) (λ y. ProductSays scope c (places at.words) y.0 × Ahead n y.1 rest)
 unfolding product_at
 product_again n scope at (number d) rest fit h stop = gets_true (next_is kind.Number at) _ _ _ (next_ahead kind.Number h) (number_again n scope at d rest h stop)
 product_again n scope at (name x) rest fit h stop = gets_false (next_is kind.Number at) _ _ _ (next_ahead kind.Number h) (name_again n scope at x rest fit h stop)
@@ -156,26 +156,26 @@ further_piece c = Mark (plus_or_minus c.0) ∷ product_pieces c.1
 after_minus : (n : ℕ) (scope : Option Names) → Exact n (mapped (signed true) (after_word kind.Minus (product_at scope))) (λ c. Mark kind.Minus ∷ product_pieces c) (ProductIn scope) (λ c. SignedSays scope (true, c)) (Not kind.Star)
 after_minus n scope = mapped_exact _ (signed true) (λ c ps y. says_of scope (signed true) (λ names. product_tree names c) y) (after_exact kind.Minus (λ t. refl) (product_exact n scope))
 
-first_found : (n : ℕ) (scope : Option Names) (at : At) → Finds (first_product_at scope at) (Spelled first_pieces (SignedIn scope) (SignedSays scope) at)
+first_found : (n : ℕ) (scope : Option Names) (at : WordsAhead) → Finds (first_product_at scope at) (Spelled first_pieces (SignedIn scope) (SignedSays scope) at)
 unfolding first_product_at
 first_found n scope at =
     found_if (next_is kind.Minus at) _ _ _
     (found_more _ _ _ ((after_minus n scope).found at) (λ y p. record { text = (true, p.text); taken = p.taken; fit = p.fit; is = p.is }))
     (found_more _ _ _ ((product_exact n scope).found at) (λ y p. record { text = (false, p.text); taken = p.taken; fit = p.fit; is = p.is }))
 
-first_again : (n : ℕ) (scope : Option Names) (at : At) (c : SignedText) (rest : List Piece) → SignedIn scope c → Ahead n at (first_pieces c ++ rest) → Not kind.Star rest → Gets (first_product_at scope at) (λ y. SignedSays scope c (places at.words) y.0 × Ahead n y.1 rest)
+first_again : (n : ℕ) (scope : Option Names) (at : WordsAhead) (c : SignedText) (rest : List Piece) → SignedIn scope c → Ahead n at (first_pieces c ++ rest) → Not kind.Star rest → Gets (first_product_at scope at) (λ y. SignedSays scope c (places at.words) y.0 × Ahead n y.1 rest)
 unfolding first_product_at
 first_again n scope at (true, c) rest fit h stop = gets_true (next_is kind.Minus at) _ _ _ (next_ahead kind.Minus h) ((after_minus n scope).again at c rest fit h stop)
 first_again n scope at (false, c) rest fit h stop = gets_false (next_is kind.Minus at) _ _ _ (next_ahead kind.Minus h ∙ product_begins kind.Minus refl refl c rest) ((product_exact n scope).again at c rest fit h stop)
 
-further_found : (n : ℕ) (scope : Option Names) (at : At) → Finds (further_product_at scope at) (Spelled further_piece (SignedIn scope) (SignedSays scope) at)
+further_found : (n : ℕ) (scope : Option Names) (at : WordsAhead) → Finds (further_product_at scope at) (Spelled further_piece (SignedIn scope) (SignedSays scope) at)
 unfolding further_product_at
 further_found n scope at =
     found_if (next_is kind.Plus at) _ _ _
     (found_more _ _ _ ((after_exact kind.Plus (λ t. refl) (product_exact n scope)).found at) (λ y p. record { text = (false, p.text); taken = p.taken; fit = p.fit; is = p.is }))
     (found_more _ _ _ ((after_minus n scope).found at) (λ y p. record { text = (true, p.text); taken = p.taken; fit = p.fit; is = p.is }))
 
-further_again : (n : ℕ) (scope : Option Names) (at : At) (c : SignedText) (rest : List Piece) → SignedIn scope c → Ahead n at (further_piece c ++ rest) → Not kind.Star rest → Gets (further_product_at scope at) (λ y. SignedSays scope c (places at.words) y.0 × Ahead n y.1 rest)
+further_again : (n : ℕ) (scope : Option Names) (at : WordsAhead) (c : SignedText) (rest : List Piece) → SignedIn scope c → Ahead n at (further_piece c ++ rest) → Not kind.Star rest → Gets (further_product_at scope at) (λ y. SignedSays scope c (places at.words) y.0 × Ahead n y.1 rest)
 unfolding further_product_at
 further_again n scope at (true, c) rest fit h stop = gets_false (next_is kind.Plus at) _ _ _ (next_ahead kind.Plus h) ((after_minus n scope).again at c rest fit h stop)
 further_again n scope at (false, c) rest fit h stop = gets_true (next_is kind.Plus at) _ _ _ (next_ahead kind.Plus h) ((after_exact kind.Plus (λ t. refl) (product_exact n scope)).again at c rest fit h stop)
@@ -227,7 +227,7 @@ further_said scope (d ∷ ds) ps (y ∷ ys) h =
     says_two scope (λ (p : ℤ × Option Var) (qs : List (ℤ × Option Var)). p ∷ qs) (λ names. signed d.0 (product_tree names d.1)) (λ names. further_trees names ds) y ys h.0 (further_said scope ds _ ys h.1)
 
 abbrev pub SumIn : Option Names → SumText → Type 0
-SumIn scope s = FitsIn scope (λ names. SumFits names s)
+SumIn scope s = FitsIn scope (λ names. SumTextFits names s)
 
 abbrev pub SumSays : Option Names → SumText → List Place → Sum → Type 0
 SumSays scope s ps y = Says scope (λ names. sum_tree names s) y

@@ -12,46 +12,46 @@ use Rattle.ps_parse.specs.Conds.{cond_at, parens_at}
 use Rattle.ps_grammar.specs.Names.{Names}
 use Rattle.ps_parse.specs.Variables.{variable_at}
 use Rattle.ps_parse.specs.Sums.{sum_at}
-use Rattle.ps_parse.specs.Reading.{At, Read, after_word, next_is, place_at, while_at, word_at}
+use Rattle.ps_parse.specs.Reading.{WordsAhead, ReadWords, after_word, next_is, place_at, words_while, next_word}
 use Rattle.ps_lines.specs.Steps.{◌>>=◌}
 
 -- What is read, and the `;` after it.
-unfoldable pub ended_at : {A : Type 0} → Read A → Read A
+unfoldable pub ended_at : {A : Type 0} → ReadWords A → ReadWords A
 ended_at read at = do
   x ← read at
-  w ← word_at kind.Semicolon x.1
+  w ← next_word kind.Semicolon x.1
   Ok (x.0, w.1)
 
 -- `NAME := sum ;`
-unfoldable pub assign_at : Option Names → ℕ → Read StmtKind
+unfoldable pub assign_at : Option Names → ℕ → ReadWords StmtKind
 assign_at scope n at = do
   x ← variable_at scope at
   s ← after_word kind.Becomes (ended_at (sum_at scope n)) x.1
   Ok (stmt.Assign x.0 s.0, s.1)
 
 -- `havoc NAME ;`
-unfoldable pub havoc_at : Option Names → Read StmtKind
+unfoldable pub havoc_at : Option Names → ReadWords StmtKind
 havoc_at scope at = after_word kind.Havoc (ended_at (variable_at scope)) at >>= λ x. Ok (stmt.Havoc x.0, x.1)
 
 -- `assume cond ;` and `assert cond ;`
-unfoldable pub cond_stmt_at : TokenKind → (Cond → StmtKind) → Option Names → ℕ → ℕ → Read StmtKind
+unfoldable pub cond_stmt_at : TokenKind → (Cond → StmtKind) → Option Names → ℕ → ℕ → ReadWords StmtKind
 cond_stmt_at word of scope n levels at =
     after_word word (ended_at (cond_at scope n levels)) at >>= λ c. Ok (of c.0, c.1)
 
 -- `skip ;`
-unfoldable pub skip_at : Read StmtKind
-skip_at at = after_word kind.Skip (word_at kind.Semicolon) at >>= λ w. Ok (stmt.Skip, w.1)
+unfoldable pub skip_at : ReadWords StmtKind
+skip_at at = after_word kind.Skip (next_word kind.Semicolon) at >>= λ w. Ok (stmt.Skip, w.1)
 
 -- `atomic block`, from how a block in it is read
-unfoldable pub atomic_at : Read (List Stmt) → Read StmtKind
+unfoldable pub atomic_at : ReadWords (List Stmt) → ReadWords StmtKind
 atomic_at block at = after_word kind.Atomic block at >>= λ b. Ok (stmt.Atomic b.0, b.1)
 
 -- `else block`, or nothing
-unfoldable pub else_at : Read (List Stmt) → Read (List Stmt)
+unfoldable pub else_at : ReadWords (List Stmt) → ReadWords (List Stmt)
 else_at block at = if next_is kind.Else at then after_word kind.Else block at else Ok ([], at)
 
 -- `if ( test ) block`, and what may follow
-unfoldable pub if_at : Read (List Stmt) → Option Names → ℕ → ℕ → Read StmtKind
+unfoldable pub if_at : ReadWords (List Stmt) → Option Names → ℕ → ℕ → ReadWords StmtKind
 if_at block scope n levels at = do
   t ← after_word kind.If (parens_at scope n levels) at
   held ← block t.1
@@ -59,7 +59,7 @@ if_at block scope n levels at = do
   Ok (stmt.If t.0 held.0 failed.0, failed.1)
 
 -- `while ( test ) block`, which doesn't stand inside an atomic block
-unfoldable pub while_stmt_at : Bool → Read (List Stmt) → Option Names → ℕ → ℕ → Read StmtKind
+unfoldable pub while_stmt_at : Bool → ReadWords (List Stmt) → Option Names → ℕ → ℕ → ReadWords StmtKind
 while_stmt_at atomic block scope n levels at =
     if atomic then Err (LoopInAtomic (place_at at)) else (do
       t ← after_word kind.While (parens_at scope n levels) at
@@ -67,7 +67,7 @@ while_stmt_at atomic block scope n levels at =
       Ok (stmt.While t.0 b.0, b.1))
 
 -- A statement, told by its first word, from how blocks in it are read: the argument says whether they are atomic.
-unfoldable pub kind_at : (Bool → Read (List Stmt)) → Bool → Option Names → ℕ → ℕ → Read StmtKind
+unfoldable pub kind_at : (Bool → ReadWords (List Stmt)) → Bool → Option Names → ℕ → ℕ → ReadWords StmtKind
 kind_at block atomic scope n levels at =
     if next_is kind.Name at then assign_at scope n at
     else (if next_is kind.Havoc at then havoc_at scope at
@@ -79,19 +79,19 @@ kind_at block atomic scope n levels at =
     else (if next_is kind.While at then while_stmt_at atomic (block atomic) scope n levels at
     else Err (Grammar (place_at at)))))))))
 
-unfoldable pub stmt_at : (Bool → Read (List Stmt)) → Bool → Option Names → ℕ → ℕ → Read Stmt
+unfoldable pub stmt_at : (Bool → ReadWords (List Stmt)) → Bool → Option Names → ℕ → ℕ → ReadWords Stmt
 stmt_at block atomic scope n levels at =
     kind_at block atomic scope n levels at >>= λ k. Ok (record { place = place_at at; kind = k.0 }, k.1)
 
 -- a block goes on
-abbrev pub has_more : At → Bool
+abbrev pub has_more : WordsAhead → Bool
 has_more at = not (next_is kind.CloseBrace at)
 
 -- A block, where so many levels may still be opened, inside an atomic block or not.
-unfoldable pub block_at : Option Names → ℕ → ℕ → Bool → Read (List Stmt)
-block_at scope n zero atomic at = word_at kind.OpenBrace at >>= λ w. Err (Limit w.0.place limit.Depth)
+unfoldable pub block_at : Option Names → ℕ → ℕ → Bool → ReadWords (List Stmt)
+block_at scope n zero atomic at = next_word kind.OpenBrace at >>= λ w. Err (Limit w.0.place limit.Depth)
 block_at scope n (suc levels) atomic at = do
-  open' ← word_at kind.OpenBrace at
-  b ← while_at has_more (stmt_at (block_at scope n levels) atomic scope n levels) n open'.1
-  close ← word_at kind.CloseBrace b.1
+  open' ← next_word kind.OpenBrace at
+  b ← words_while has_more (stmt_at (block_at scope n levels) atomic scope n levels) n open'.1
+  close ← next_word kind.CloseBrace b.1
   Ok (b.0, close.1)

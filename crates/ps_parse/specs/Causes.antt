@@ -43,8 +43,8 @@ abbrev pub count_of : TokenKind → List Word → ℕ
 count_of k back = count_by (λ (w : Word). is_kind w.kind k) back
 
 -- How many rows hold at the start, by items alone: two for a declared value and for `==`, one for another sign.
-abbrev pub rows_in : List Word → ℕ
-rows_in back = (2 * count_of kind.Equal back) + (count_of kind.Init back + (count_of kind.And back + count_of kind.EqualEqual back))
+abbrev pub rows_passed : List Word → ℕ
+rows_passed back = (2 * count_of kind.Equal back) + (count_of kind.Init back + (count_of kind.And back + count_of kind.EqualEqual back))
 
 -- A level that is open: a block, one of `atomic`, a parenthesis, or a `!` whose operand isn't whole.
 pub data Level : Type 0 where
@@ -54,12 +54,12 @@ pub data Level : Type 0 where
   negation : Level
 
 -- after an operand, which ends each `!` before it
-abbrev pub settled : List Level → List Level
-settled [] = []
-settled (negation ∷ ls) = settled ls
-settled (block ∷ ls) = block ∷ ls
-settled (atomic_block ∷ ls) = atomic_block ∷ ls
-settled (parens ∷ ls) = parens ∷ ls
+abbrev pub without_negations : List Level → List Level
+without_negations [] = []
+without_negations (negation ∷ ls) = without_negations ls
+without_negations (block ∷ ls) = block ∷ ls
+without_negations (atomic_block ∷ ls) = atomic_block ∷ ls
+without_negations (parens ∷ ls) = parens ∷ ls
 
 -- without the level that was opened last
 abbrev pub closed : List Level → List Level
@@ -76,11 +76,11 @@ abbrev pub levels_with : Bool → TokenKind → List Level → List Level
 levels_with atomic kind.OpenBrace ls = block_level atomic ∷ ls
 levels_with atomic kind.CloseBrace ls = closed ls
 levels_with atomic kind.OpenParen ls = parens ∷ ls
-levels_with atomic kind.CloseParen ls = settled (closed (settled ls))
+levels_with atomic kind.CloseParen ls = without_negations (closed (without_negations ls))
 levels_with atomic kind.Not ls = negation ∷ ls
-levels_with atomic kind.And ls = settled ls
-levels_with atomic kind.Or ls = settled ls
-levels_with atomic kind.Semicolon ls = settled ls
+levels_with atomic kind.And ls = without_negations ls
+levels_with atomic kind.Or ls = without_negations ls
+levels_with atomic kind.Semicolon ls = without_negations ls
 levels_with atomic k ls = ls
 
 -- The levels that are open after the words, the last one first.
@@ -111,8 +111,8 @@ is_alone (number_name n x) = false
 is_alone (name_number x n) = false
 
 -- The words after a relation go on in it: by `+` or `-`, or by `*` after a number or a name alone.
-abbrev pub goes_on : RelationText → List Word → Bool
-goes_on r ahead = begins_with kind.Plus ahead || begins_with kind.Minus ahead || (is_alone (last_product r.right) && begins_with kind.Star ahead)
+abbrev pub relation_goes_on : RelationText → List Word → Bool
+relation_goes_on r ahead = begins_with kind.Plus ahead || begins_with kind.Minus ahead || (is_alone (last_product r.right) && begins_with kind.Star ahead)
 
 -- The words begin with `global`, a name and its value.
 pub record BeginsGlobal (words : List Word) : Type 0 where
@@ -132,7 +132,7 @@ pub record BeginsInit (words : List Word) : Type 0 where
   pub split : words ≡ front ++ rest
   pub spelled : pieces front ≡ Mark kind.Init ∷ (relation_pieces first ++ more_relations further)
   pub signs : All (λ (r : RelationText). r.sign ≢ sign.NotEqual) (first ∷ further)
-  pub whole : goes_on (last_of first further) rest ≡ false
+  pub whole : relation_goes_on (last_of first further) rest ≡ false
 
 -- The words begin with an item, or with a part of one, that gives so many rows.
 abbrev pub GivesRows : List Word → ℕ → Type 0
@@ -149,7 +149,7 @@ IsCauseAt back w ahead (refusal.NotLinear p) = (w.kind ≡ kind.Name) × (is_aft
 IsCauseAt back w ahead (refusal.LoopInAtomic p) = (w.kind ≡ kind.While) × Contains (levels back) atomic_block
 IsCauseAt back w ahead (refusal.Limit p limit.Globals) = (w.kind ≡ kind.Name) × (begins_with kind.Global back ≡ true) × (most_globals < count_of kind.Global back)
 IsCauseAt back w ahead (refusal.Limit p limit.Locals) = (w.kind ≡ kind.Name) × (begins_with kind.Local back ≡ true) × (most_locals < count_of kind.Local back)
-IsCauseAt back w ahead (refusal.Limit p limit.Init) = (rows : ℕ) × GivesRows (w ∷ ahead) rows × (most_rows < rows_in back + rows)
+IsCauseAt back w ahead (refusal.Limit p limit.Init) = (rows : ℕ) × GivesRows (w ∷ ahead) rows × (most_rows < rows_passed back + rows)
 IsCauseAt back w ahead (refusal.Limit p limit.Depth) = (opens_level w.kind ≡ true) × (most_levels ≤ length (levels back))
 IsCauseAt back w ahead (refusal.Limit p what) = ⊥
 IsCauseAt back w ahead (refusal.Token p) = ⊥
@@ -161,9 +161,9 @@ IsCause back [] refused = ⊥
 IsCause back (w ∷ ahead) refused = IsCauseAt back w ahead refused
 
 -- the cause of a refusal, but for a fault of the grammar
-abbrev pub HasCause : List Word → List Word → ReadRefusal → Type 0
-HasCause back ahead (refusal.Grammar p) = Unit {0}
-HasCause back ahead refused = IsCause back ahead refused
+abbrev pub HasCauseOf : List Word → List Word → ReadRefusal → Type 0
+HasCauseOf back ahead (refusal.Grammar p) = Unit {0}
+HasCauseOf back ahead refused = IsCause back ahead refused
 
 -- no cause at any of the words that were passed
 abbrev pub IsClean : List Word → List Word → Type 0
@@ -187,6 +187,6 @@ pub record IsFirstCause (words : List Word) (end : Place) (refused : ReadRefusal
   pub ahead : List Word
   pub split : words ≡ words_at back ahead
   pub place_is : refusal_place refused ≡ Some (place_of_next ahead end)
-  pub cause : HasCause back ahead refused
+  pub cause : HasCauseOf back ahead refused
   pub first_here : (other : ReadRefusal) → IsCause back ahead other → rank refused ≤ rank other
   pub first : IsClean back ahead

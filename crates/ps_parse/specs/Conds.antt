@@ -10,7 +10,7 @@ use Rattle.ps_tree.specs.declared.limit_name.LimitName.TheVariants as limit
 use Rattle.ps_parse.specs.declared.read_refusal.ReadRefusal.TheVariants.{Limit}
 use Rattle.ps_grammar.specs.Names.{Names}
 use Rattle.ps_parse.specs.Sums.{relation_at, sign_of}
-use Rattle.ps_parse.specs.Reading.{At, Read, after_word, next_is, place_at, while_at, word_at}
+use Rattle.ps_parse.specs.Reading.{WordsAhead, ReadWords, after_word, next_is, place_at, words_while, next_word}
 use Rattle.ps_lines.specs.Steps.{◌>>=◌}
 
 -- one member is itself, several are a condition of them
@@ -19,25 +19,25 @@ one_or_all all c [] = c
 one_or_all all c (d ∷ ds) = all (c ∷ d ∷ ds)
 
 -- Members with a word between them.
-unfoldable pub members_at : (List Cond → Cond) → TokenKind → Read Cond → ℕ → Read Cond
+unfoldable pub members_at : (List Cond → Cond) → TokenKind → ReadWords Cond → ℕ → ReadWords Cond
 members_at all between read n at = do
   c ← read at
-  cs ← while_at (next_is between) (after_word between read) n c.1
+  cs ← words_while (next_is between) (after_word between read) n c.1
   Ok (one_or_all all c.0 cs.0, cs.1)
 
 -- Conditions with `&&` between them, and then with `||`, from how one without them is read.
-unfoldable pub conj_with : Read Cond → ℕ → Read Cond
+unfoldable pub conj_with : ReadWords Cond → ℕ → ReadWords Cond
 conj_with unary = members_at cond.And kind.And unary
 
-unfoldable pub cond_with : Read Cond → ℕ → Read Cond
+unfoldable pub cond_with : ReadWords Cond → ℕ → ReadWords Cond
 cond_with unary n = members_at cond.Or kind.Or (conj_with unary n) n
 
 -- A condition that opens a level: at the last level there is none.
-unfoldable pub opens_at : At → Bool
+unfoldable pub opens_at : WordsAhead → Bool
 opens_at at = next_is kind.Not at || next_is kind.OpenParen at
 
 -- A condition without `&&` and `||`, where so many levels may still be opened.
-unfoldable pub unary_at : Option Names → ℕ → ℕ → Read Cond
+unfoldable pub unary_at : Option Names → ℕ → ℕ → ReadWords Cond
 unary_at scope n zero at =
     if opens_at at then Err (Limit (place_at at) limit.Depth)
     else (relation_at sign_of scope n at >>= λ r. Ok (cond.Rel r.0, r.1))
@@ -45,25 +45,25 @@ unary_at scope n (suc levels) at =
     if next_is kind.Not at
     then (after_word kind.Not (unary_at scope n levels) at >>= λ c. Ok (cond.Not c.0, c.1))
     else (if next_is kind.OpenParen at
-    then (after_word kind.OpenParen (cond_with (unary_at scope n levels) n) at >>= λ c. word_at kind.CloseParen c.1 >>= λ w. Ok (c.0, w.1))
+    then (after_word kind.OpenParen (cond_with (unary_at scope n levels) n) at >>= λ c. next_word kind.CloseParen c.1 >>= λ w. Ok (c.0, w.1))
     else (relation_at sign_of scope n at >>= λ r. Ok (cond.Rel r.0, r.1)))
 
 -- A condition.
-unfoldable pub cond_at : Option Names → ℕ → ℕ → Read Cond
+unfoldable pub cond_at : Option Names → ℕ → ℕ → ReadWords Cond
 cond_at scope n levels = cond_with (unary_at scope n levels) n
 
 -- What stands in the parentheses after `if` and `while`.
-unfoldable pub test_at : Option Names → ℕ → ℕ → Read Test
+unfoldable pub test_at : Option Names → ℕ → ℕ → ReadWords Test
 test_at scope n levels at =
     if next_is kind.Star at
-    then (word_at kind.Star at >>= λ w. Ok (test.Star, w.1))
+    then (next_word kind.Star at >>= λ w. Ok (test.Star, w.1))
     else (cond_at scope n levels at >>= λ c. Ok (test.Cond c.0, c.1))
 
 -- The same with its parentheses, which open a level.
-unfoldable pub parens_at : Option Names → ℕ → ℕ → Read Test
-parens_at scope n zero at = word_at kind.OpenParen at >>= λ w. Err (Limit w.0.place limit.Depth)
+unfoldable pub parens_at : Option Names → ℕ → ℕ → ReadWords Test
+parens_at scope n zero at = next_word kind.OpenParen at >>= λ w. Err (Limit w.0.place limit.Depth)
 parens_at scope n (suc levels) at = do
-  open' ← word_at kind.OpenParen at
+  open' ← next_word kind.OpenParen at
   t ← test_at scope n levels open'.1
-  close ← word_at kind.CloseParen t.1
+  close ← next_word kind.CloseParen t.1
   Ok (t.0, close.1)

@@ -4,8 +4,8 @@
 use Rattle.std.specs.Prelude.{◌≡◌, ℕ, ◌≤◌, negsuc, false, List, [], ◌∷◌, ◌++◌, Some}
 use Rattle.ps_grammar.specs.Programs.{IsProgramText}
 use Rattle.ps_grammar.specs.Words.{Word}
-use Rattle.ps_parse.specs.Causes.{GivesRows, IsCauseAt, atomic_block, block, declared_in, is_after_factor, levels, negation, parens, rows_in, words_at}
-use Rattle.ps_parse.specs.Reads.{IsFirstFault}
+use Rattle.ps_parse.specs.Causes.{GivesRows, IsCauseAt, atomic_block, block, declared_in, is_after_factor, levels, negation, parens, rows_passed, words_at}
+use Rattle.ps_parse.specs.Reads.{IsFirstGrammarFault}
 use Rattle.ps_parse.specs.declared.read_refusal.ReadRefusal.TheVariants as refusal
 use Rattle.ps_term.specs.declared.var.Var.TheVariants.{Global}
 use Rattle.ps_token.specs.declared.token_kind.TokenKind.{TokenKind}
@@ -50,7 +50,7 @@ TextIsRead = IsProgramText text tree
 -- `thread { skip }` has its first fault at the closing brace, where `;` is wanted
 abbrev pub FaultStandsAtBrace : Type 0
 FaultStandsAtBrace =
-    IsFirstFault (mark_at kind.Thread 1 ∷ mark_at kind.OpenBrace 2 ∷ mark_at kind.Skip 3 ∷ mark_at kind.CloseBrace 4 ∷ [])
+    IsFirstGrammarFault (mark_at kind.Thread 1 ∷ mark_at kind.OpenBrace 2 ∷ mark_at kind.Skip 3 ∷ mark_at kind.CloseBrace 4 ∷ [])
     (record { line = 1; column = 5 }) (record { line = 1; column = 4 })
 
 -- ---- words, whose places don't matter
@@ -111,8 +111,8 @@ valued = mark kind.Global ∷ x ∷ mark kind.Equal ∷ zero ∷ mark kind.Semic
 -- two rows of the value, two of `init x == 0` and one of `&& x > 0`; or one of `init x < 0`
 abbrev pub RowsAreCounted : Type 0
 RowsAreCounted =
-    (rows_in (turned [] (valued ++ mark kind.Init ∷ x ∷ mark kind.EqualEqual ∷ zero ∷ mark kind.And ∷ x ∷ mark kind.Greater ∷ zero ∷ mark kind.Semicolon ∷ [])) ≡ 5)
-    × (rows_in (turned [] (valued ++ mark kind.Init ∷ x ∷ mark kind.Less ∷ zero ∷ mark kind.Semicolon ∷ [])) ≡ 3)
+    (rows_passed (turned [] (valued ++ mark kind.Init ∷ x ∷ mark kind.EqualEqual ∷ zero ∷ mark kind.And ∷ x ∷ mark kind.Greater ∷ zero ∷ mark kind.Semicolon ∷ [])) ≡ 5)
+    × (rows_passed (turned [] (valued ++ mark kind.Init ∷ x ∷ mark kind.Less ∷ zero ∷ mark kind.Semicolon ∷ [])) ≡ 3)
 
 -- the words that were passed and those ahead are the whole
 abbrev pub WordsAreWhole : Type 0

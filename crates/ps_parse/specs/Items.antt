@@ -13,90 +13,90 @@ use Rattle.ps_tree.specs.declared.relation.Sign.{Sign}
 use Rattle.ps_tree.specs.declared.relation.Sign.TheVariants as sign
 use Rattle.ps_term.specs.declared.var.Var.{Var}
 use Rattle.ps_parse.specs.Blocks.{block_at, ended_at}
-use Rattle.ps_grammar.specs.Names.{Names, variable_of}
+use Rattle.ps_grammar.specs.Names.{Names, variable_of_name}
 use Rattle.ps_parse.specs.Sums.{init_sign_of, relation_at}
 use Rattle.ps_grammar.specs.Numbers.{number_value, signed}
-use Rattle.ps_parse.specs.Reading.{At, Read, after_word, end_at, next_is, place_at, while_at, word_at}
+use Rattle.ps_parse.specs.Reading.{WordsAhead, ReadWords, after_word, words_end, next_is, place_at, words_while, next_word}
 use Rattle.ps_lines.specs.Steps.{◌>>=◌}
 use Rattle.ps_grammar.specs.Words.{Word}
 use Rattle.ps_grammar.specs.Declarations.{Declared, most_globals, most_levels, most_locals, most_rows, names_of, nothing_declared, rows_of_sign, rows_of_value}
 
-abbrev pub is_declared : Option Var → Bool
-is_declared (Some x) = true
-is_declared None = false
+abbrev pub is_some_variable : Option Var → Bool
+is_some_variable (Some x) = true
+is_some_variable None = false
 
 -- the refusal of a declared name at a word: declared before, or one too many
-abbrev pub refused_name : Bool → Bool → LimitName → Word × At → Result (List ℕ × At) ReadRefusal
+abbrev pub refused_name : Bool → Bool → LimitName → Word × WordsAhead → Result (List ℕ × WordsAhead) ReadRefusal
 refused_name true full what w = Err (Twice w.0.place)
 refused_name false true what w = Err (Limit w.0.place what)
 refused_name false false what w = Ok (w.0.text, w.1)
 
 -- The next word is a name that isn't declared yet, and that isn't one too many.
-unfoldable pub new_name_at : Declared → ℕ → ℕ → LimitName → Read (List ℕ)
+unfoldable pub new_name_at : Declared → ℕ → ℕ → LimitName → ReadWords (List ℕ)
 new_name_at d count most what at = do
-  w ← word_at kind.Name at
-  refused_name (is_declared (variable_of (names_of d) w.0.text)) (nat_le most count) what w
+  w ← next_word kind.Name at
+  refused_name (is_some_variable (variable_of_name (names_of d) w.0.text)) (nat_le most count) what w
 
 -- A number, which may have a `-` before it.
-unfoldable pub number_at : Read ℤ
-number_at at =
+unfoldable pub signed_number_ahead : ReadWords ℤ
+signed_number_ahead at =
     if next_is kind.Minus at
-    then (after_word kind.Minus (word_at kind.Number) at >>= λ w. Ok ((signed true (number_value w.0.text, None)).0, w.1))
-    else (word_at kind.Number at >>= λ w. Ok (number_value w.0.text, w.1))
+    then (after_word kind.Minus (next_word kind.Number) at >>= λ w. Ok ((signed true (number_value w.0.text, None)).0, w.1))
+    else (next_word kind.Number at >>= λ w. Ok (number_value w.0.text, w.1))
 
 -- `= number`, or nothing
-unfoldable pub value_at : Read (Option ℤ)
-value_at at =
+unfoldable pub declared_value_ahead : ReadWords (Option ℤ)
+declared_value_ahead at =
     if next_is kind.Equal at
-    then (after_word kind.Equal number_at at >>= λ n. Ok (Some n.0, n.1))
+    then (after_word kind.Equal signed_number_ahead at >>= λ n. Ok (Some n.0, n.1))
     else Ok (None, at)
 
 -- ---- the rows of an item, whatever names it has
 
 -- the rows of what was read and of what follows; after a fault there are none
-abbrev pub counted : {A : Type 0} → (A → ℕ) → (At → ℕ) → Result (A × At) ReadRefusal → ℕ
-counted rows rest (Ok x) = rows x.0 + rest x.1
-counted rows rest (Err e) = 0
+abbrev pub rows_counted_on : {A : Type 0} → (A → ℕ) → (WordsAhead → ℕ) → Result (A × WordsAhead) ReadRefusal → ℕ
+rows_counted_on rows rest (Ok x) = rows x.0 + rest x.1
+rows_counted_on rows rest (Err e) = 0
 
 -- How many rows the relations give that are whole, up to the first fault of the grammar.
-unfoldable pub rows_from : ℕ → ℕ → At → ℕ
+unfoldable pub rows_from : ℕ → ℕ → WordsAhead → ℕ
 rows_from n zero at = 0
 rows_from n (suc m) at =
-    counted (λ (r : Relation). rows_of_sign r.sign) (λ next. counted (λ (w : Word). 0) (rows_from n m) (word_at kind.And next)) (relation_at init_sign_of None n at)
+    rows_counted_on (λ (r : Relation). rows_of_sign r.sign) (λ next. rows_counted_on (λ (w : Word). 0) (rows_from n m) (next_word kind.And next)) (relation_at init_sign_of None n at)
 
 -- How many rows an item gives, as far as it is of the grammar: of a global its value, of `init` its relations.
-unfoldable pub item_rows : ℕ → At → ℕ
+unfoldable pub item_rows : ℕ → WordsAhead → ℕ
 item_rows n at =
     if next_is kind.Global at
-    then counted rows_of_value (λ _. 0) (after_word kind.Global (after_word kind.Name value_at) at)
+    then rows_counted_on rows_of_value (λ _. 0) (after_word kind.Global (after_word kind.Name declared_value_ahead) at)
     else (if next_is kind.Init at
-    then counted (λ (w : Word). 0) (rows_from n n) (word_at kind.Init at)
+    then rows_counted_on (λ (w : Word). 0) (rows_from n n) (next_word kind.Init at)
     else 0)
 
 -- ---- items
 
 -- `global NAME (= number)? ;`
-unfoldable pub global_at : Declared → Read Declared
+unfoldable pub global_at : Declared → ReadWords Declared
 global_at d at = do
   name ← after_word kind.Global (new_name_at d (length d.globals) most_globals limit.Globals) at
-  v ← ended_at value_at name.1
+  v ← ended_at declared_value_ahead name.1
   Ok (record { globals = d.globals ++ record { name = name.0; value = v.0 } ∷ []; locals = d.locals; inits = d.inits; rows = d.rows }, v.1)
 
 -- `local NAME ;`
-unfoldable pub local_at : Declared → Read Declared
+unfoldable pub local_at : Declared → ReadWords Declared
 local_at d at = do
   name ← after_word kind.Local (ended_at (new_name_at d (length d.locals) most_locals limit.Locals)) at
   Ok (record { globals = d.globals; locals = d.locals ++ name.0 ∷ []; inits = d.inits; rows = d.rows }, name.1)
 
 -- `init rel (&& rel)* ;`
-unfoldable pub init_at : Declared → ℕ → Read Declared
+unfoldable pub init_at : Declared → ℕ → ReadWords Declared
 init_at d n at = do
   r ← after_word kind.Init (relation_at init_sign_of (Some (names_of d)) n) at
-  rs ← ended_at (while_at (next_is kind.And) (after_word kind.And (relation_at init_sign_of (Some (names_of d)) n)) n) r.1
+  rs ← ended_at (words_while (next_is kind.And) (after_word kind.And (relation_at init_sign_of (Some (names_of d)) n)) n) r.1
   Ok (record { globals = d.globals; locals = d.locals; inits = d.inits ++ r.0 ∷ rs.0; rows = d.rows }, rs.1)
 
 -- the item of a kind, with its rows counted
-unfoldable pub counted_item_at : Declared → ℕ → Read Declared
+unfoldable pub counted_item_at : Declared → ℕ → ReadWords Declared
 counted_item_at d n at =
     if next_is kind.Global at then global_at d at
     else (if next_is kind.Local at then local_at d at
@@ -107,28 +107,28 @@ abbrev pub with_rows : ℕ → Declared → Declared
 with_rows rows d = record { globals = d.globals; locals = d.locals; inits = d.inits; rows = rows }
 
 -- An item; `Limit` at its first word where its rows, which are counted first, pass the limit.
-unfoldable pub item_at : Declared → ℕ → Read Declared
+unfoldable pub item_at : Declared → ℕ → ReadWords Declared
 item_at d n at =
     if nat_lt most_rows (d.rows + item_rows n at) then Err (Limit (place_at at) limit.Init)
     else counted_item_at (with_rows (d.rows + item_rows n at) d) n at
 
 -- an item follows
-abbrev pub has_item : At → Bool
+abbrev pub has_item : WordsAhead → Bool
 has_item at = next_is kind.Global at || next_is kind.Local at || next_is kind.Init at
 
 -- At most so many items.
-unfoldable pub items_at : ℕ → Declared → ℕ → Read Declared
+unfoldable pub items_at : ℕ → Declared → ℕ → ReadWords Declared
 items_at n d zero at = Ok (d, at)
 items_at n d (suc m) at = if has_item at then (item_at d n at >>= λ x. items_at n x.0 m x.1) else Ok (d, at)
 
 -- The whole text, of at most so many words.
-unfoldable pub program_at : ℕ → At → Result Program ReadRefusal
+unfoldable pub program_at : ℕ → WordsAhead → Result Program ReadRefusal
 program_at n at = do
   d ← items_at n nothing_declared n at
   b ← after_word kind.Thread (block_at (Some (names_of d.0)) n most_levels false) d.1
-  e ← end_at b.1
+  e ← words_end b.1
   Ok (record { globals = d.0.globals; locals = d.0.locals; inits = d.0.inits; body = b.0 })
 
 -- What the words of a text are read as, or the first refusal.
-abbrev pub program_of : List Word → Place → Result Program ReadRefusal
-program_of words end = program_at (length words) (record { words = words; end = end })
+abbrev pub program_in : List Word → Place → Result Program ReadRefusal
+program_in words end = program_at (length words) (record { words = words; end = end })

@@ -9,7 +9,7 @@ use Rattle.ps_parse.specs.declared.read_refusal.ReadRefusal.TheVariants.{Grammar
 use Rattle.ps_grammar.specs.Words.{Word}
 
 -- A place in a text: the words that are left, and where the text ends.
-pub record At : Type 0 where
+pub record WordsAhead : Type 0 where
   pub words : List Word
   pub end : Place
 
@@ -56,15 +56,15 @@ is_kind a b = kind_number a == kind_number b
 -- ---- reading
 
 -- A reading function gives what it read and the place after it, or the first refusal.
-abbrev pub Read : Type 0 → Type 0
-Read A = Reading At ReadRefusal A
+abbrev pub ReadWords : Type 0 → Type 0
+ReadWords A = Reading WordsAhead ReadRefusal A
 
 -- where the next word stands, or where the text ends
 abbrev pub place_of_next : List Word → Place → Place
 place_of_next [] end = end
 place_of_next (w ∷ ws) end = w.place
 
-abbrev pub place_at : At → Place
+abbrev pub place_at : WordsAhead → Place
 place_at at = place_of_next at.words at.end
 
 -- the next word is of the kind
@@ -72,37 +72,37 @@ abbrev pub begins_with : TokenKind → List Word → Bool
 begins_with k [] = false
 begins_with k (w ∷ ws) = is_kind w.kind k
 
-abbrev pub next_is : TokenKind → At → Bool
+abbrev pub next_is : TokenKind → WordsAhead → Bool
 next_is k at = begins_with k at.words
 
 -- The next word, which is of the kind; `Grammar` there where it isn't.
-abbrev pub word_from : TokenKind → List Word → Place → Result (Word × At) ReadRefusal
+abbrev pub word_from : TokenKind → List Word → Place → Result (Word × WordsAhead) ReadRefusal
 word_from k [] end = Err (Grammar end)
 word_from k (w ∷ ws) end = if is_kind w.kind k then Ok (w, record { words = ws; end = end }) else Err (Grammar w.place)
 
-unfoldable pub word_at : TokenKind → Read Word
-word_at k at = word_from k at.words at.end
+unfoldable pub next_word : TokenKind → ReadWords Word
+next_word k at = word_from k at.words at.end
 
 -- A word of the kind, and then what is read.
-unfoldable pub after_word : {A : Type 0} → TokenKind → Read A → Read A
-after_word k read at = word_at k at >>= λ w. read w.1
+unfoldable pub after_word : {A : Type 0} → TokenKind → ReadWords A → ReadWords A
+after_word k read at = next_word k at >>= λ w. read w.1
 
 -- As long as it goes on, and at most so many.
-unfoldable pub while_at : {A : Type 0} → (At → Bool) → Read A → ℕ → Read (List A)
-while_at goes read zero at = Ok ([], at)
-while_at goes read (suc n) at =
-    if goes at then (read at >>= λ x. while_at goes read n x.1 >>= λ xs. Ok (x.0 ∷ xs.0, xs.1)) else Ok ([], at)
+unfoldable pub words_while : {A : Type 0} → (WordsAhead → Bool) → ReadWords A → ℕ → ReadWords (List A)
+words_while goes read zero at = Ok ([], at)
+words_while goes read (suc n) at =
+    if goes at then (read at >>= λ x. words_while goes read n x.1 >>= λ xs. Ok (x.0 ∷ xs.0, xs.1)) else Ok ([], at)
 
 -- The text ends: `Grammar` at the next word where there is one.
-abbrev pub end_from : List Word → Result (Unit {0}) ReadRefusal
-end_from [] = Ok tt
-end_from (w ∷ ws) = Err (Grammar w.place)
+abbrev pub words_end_from : List Word → Result (Unit {0}) ReadRefusal
+words_end_from [] = Ok tt
+words_end_from (w ∷ ws) = Err (Grammar w.place)
 
-abbrev pub end_at : At → Result (Unit {0}) ReadRefusal
-end_at at = end_from at.words
+abbrev pub words_end : WordsAhead → Result (Unit {0}) ReadRefusal
+words_end at = words_end_from at.words
 
 -- What was read before, and what is read from here on.
-abbrev pub with_front : {A : Type 0} → List A → Result (List A × At) ReadRefusal → Result (List A × At) ReadRefusal
+abbrev pub with_front : {A : Type 0} → List A → Result (List A × WordsAhead) ReadRefusal → Result (List A × WordsAhead) ReadRefusal
 with_front front read = read >>= λ xs. Ok (front ++ xs.0, xs.1)
 
 -- ---- what calls promise
@@ -113,11 +113,11 @@ Refuses (Memory e) read = Unit {0}
 Refuses refusal read = read ≡ Err refusal
 
 -- A call answers what a reading function gives, unless memory runs out. After a refusal nothing is said of the place.
-abbrev pub Gives : {X A : Type 0} → (X → A) → Result X ReadRefusal → At → Result (A × At) ReadRefusal → Type 0
-Gives view (Ok x) now read = read ≡ Ok (view x, now)
-Gives view (Err refusal) now read = Refuses refusal read
+abbrev pub ReadsTo : {X A : Type 0} → (X → A) → Result X ReadRefusal → WordsAhead → Result (A × WordsAhead) ReadRefusal → Type 0
+ReadsTo view (Ok x) now read = read ≡ Ok (view x, now)
+ReadsTo view (Err refusal) now read = Refuses refusal read
 
 -- The same of a call that reads a whole text: its answer is this one, unless memory runs out.
-abbrev pub Tells : {X A : Type 0} → (X → A) → Result X ReadRefusal → Result A ReadRefusal → Type 0
-Tells view (Ok x) answer = answer ≡ Ok (view x)
-Tells view (Err refusal) answer = Refuses refusal answer
+abbrev pub ReadsWhole : {X A : Type 0} → (X → A) → Result X ReadRefusal → Result A ReadRefusal → Type 0
+ReadsWhole view (Ok x) answer = answer ≡ Ok (view x)
+ReadsWhole view (Err refusal) answer = Refuses refusal answer

@@ -32,7 +32,7 @@ BeginAlike (w ∷ ws) (v ∷ vs) = piece_of_kind w.kind w.text ≡ piece_of_kind
 
 -- The place of the first word that no text of the grammar goes on with, or of the end that none has there: the words
 -- before it go on as some text, and with the next word, or ended there, they go on as none.
-pub record IsFirstFault (words : List Word) (end : Place) (place : Place) : Type 0 where
+pub record IsFirstGrammarFault (words : List Word) (end : Place) (place : Place) : Type 0 where
   pub before : List Word
   pub rest : List Word
   pub split : words ≡ before ++ rest

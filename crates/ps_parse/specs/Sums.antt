@@ -12,27 +12,27 @@ use Rattle.ps_tree.specs.declared.relation.Sign.TheVariants as sign
 use Rattle.ps_tree.specs.declared.sum.Sum.{Sum}
 use Rattle.ps_grammar.specs.Names.{Names}
 use Rattle.ps_parse.specs.Variables.{variable_at}
-use Rattle.ps_parse.specs.Reading.{At, Read, after_word, next_is, place_at, while_at, word_at}
+use Rattle.ps_parse.specs.Reading.{WordsAhead, ReadWords, after_word, next_is, place_at, words_while, next_word}
 use Rattle.ps_lines.specs.Steps.{◌>>=◌}
 use Rattle.ps_grammar.specs.Words.{Word}
 use Rattle.ps_grammar.specs.Numbers.{number_value, signed}
 
 -- The number in a product after a name: a second name there isn't linear.
-unfoldable pub factor_at : Read ℤ
+unfoldable pub factor_at : ReadWords ℤ
 factor_at at =
     if next_is kind.Name at then Err (NotLinear (place_at at))
-    else (word_at kind.Number at >>= λ w. Ok (number_value w.0.text, w.1))
+    else (next_word kind.Number at >>= λ w. Ok (number_value w.0.text, w.1))
 
 -- A number, and the name that follows it and `*`.
-unfoldable pub number_product_at : Option Names → Read (ℤ × Option Var)
+unfoldable pub number_product_at : Option Names → ReadWords (ℤ × Option Var)
 number_product_at scope at = do
-  n ← word_at kind.Number at
+  n ← next_word kind.Number at
   if next_is kind.Star n.1
       then (after_word kind.Star (variable_at scope) n.1 >>= λ x. Ok ((number_value n.0.text, Some x.0), x.1))
       else Ok ((number_value n.0.text, None), n.1)
 
 -- A name, and the number that follows it and `*`.
-unfoldable pub name_product_at : Option Names → Read (ℤ × Option Var)
+unfoldable pub name_product_at : Option Names → ReadWords (ℤ × Option Var)
 name_product_at scope at = do
   x ← variable_at scope at
   if next_is kind.Star x.1
@@ -40,32 +40,32 @@ name_product_at scope at = do
       else Ok ((pos 1, Some x.0), x.1)
 
 -- A product.
-unfoldable pub product_at : Option Names → Read (ℤ × Option Var)
+unfoldable pub product_at : Option Names → ReadWords (ℤ × Option Var)
 product_at scope at = if next_is kind.Number at then number_product_at scope at else name_product_at scope at
 
 -- The first product of a sum, which may have a `-` before it.
-unfoldable pub first_product_at : Option Names → Read (ℤ × Option Var)
+unfoldable pub first_product_at : Option Names → ReadWords (ℤ × Option Var)
 first_product_at scope at =
     if next_is kind.Minus at
     then (after_word kind.Minus (product_at scope) at >>= λ p. Ok (signed true p.0, p.1))
     else product_at scope at
 
 -- A further product with its `+` or `-`.
-unfoldable pub further_product_at : Option Names → Read (ℤ × Option Var)
+unfoldable pub further_product_at : Option Names → ReadWords (ℤ × Option Var)
 further_product_at scope at =
     if next_is kind.Plus at
     then after_word kind.Plus (product_at scope) at
     else (after_word kind.Minus (product_at scope) at >>= λ p. Ok (signed true p.0, p.1))
 
 -- a sum goes on
-abbrev pub adds : At → Bool
+abbrev pub adds : WordsAhead → Bool
 adds at = next_is kind.Plus at || next_is kind.Minus at
 
 -- A sum of at most so many further products.
-unfoldable pub sum_at : Option Names → ℕ → Read Sum
+unfoldable pub sum_at : Option Names → ℕ → ReadWords Sum
 sum_at scope n at = do
   p ← first_product_at scope at
-  ps ← while_at adds (further_product_at scope) n p.1
+  ps ← words_while adds (further_product_at scope) n p.1
   Ok (record { terms = p.0 ∷ ps.0 }, ps.1)
 
 -- the sign that a kind of word stands for
@@ -84,17 +84,17 @@ init_sign_of kind.NotEqual = None
 init_sign_of k = sign_of k
 
 -- The next word is a sign.
-abbrev pub sign_from : (TokenKind → Option Sign) → List Word → Place → Result (Sign × At) ReadRefusal
+abbrev pub sign_from : (TokenKind → Option Sign) → List Word → Place → Result (Sign × WordsAhead) ReadRefusal
 sign_from of [] end = Err (Grammar end)
 sign_from of (w ∷ ws) end = ok_or (of w.kind) (Grammar w.place) >>= λ s. Ok (s, record { words = ws; end = end })
 
-unfoldable pub sign_at : (TokenKind → Option Sign) → Read Sign
-sign_at of at = sign_from of at.words at.end
+unfoldable pub sign_ahead : (TokenKind → Option Sign) → ReadWords Sign
+sign_ahead of at = sign_from of at.words at.end
 
 -- A relation.
-unfoldable pub relation_at : (TokenKind → Option Sign) → Option Names → ℕ → Read Relation
+unfoldable pub relation_at : (TokenKind → Option Sign) → Option Names → ℕ → ReadWords Relation
 relation_at of scope n at = do
   left ← sum_at scope n at
-  s ← sign_at of left.1
+  s ← sign_ahead of left.1
   right ← sum_at scope n s.1
   Ok (record { left = left.0; sign = s.0; right = right.0 }, right.1)

@@ -9,7 +9,7 @@ use Rattle.ps_parse.specs.declared.read_refusal.ReadRefusal.{ReadRefusal}
 use Rattle.ps_parse.specs.declared.read_refusal.ReadRefusal.TheVariants as refusal
 use Rattle.ps_parse.specs.Causes.{IsFirstCause}
 use Rattle.ps_grammar.specs.Programs.{IsProgramText}
-use Rattle.ps_parse.specs.Reads.{IsFirstFault, StandsInText}
+use Rattle.ps_parse.specs.Reads.{IsFirstGrammarFault, StandsInText}
 use Rattle.ps_grammar.specs.Words.{words_of}
 
 -- Where a text ends: just after its last byte.
@@ -30,7 +30,7 @@ TokenIsBad bytes e = Unit {0}
 pub record IsFaultAt (bytes : List ℕ) (place : Place) : Type 0 where
   pub tokens : List Token
   pub cut : AreTokens bytes tokens
-  pub is : IsFirstFault (words_of bytes tokens) (end_of bytes) place
+  pub is : IsFirstGrammarFault (words_of bytes tokens) (end_of bytes) place
 
 -- A refusal that says a fault of the grammar stands at it.
 abbrev pub GrammarIsFault : List ℕ → ReadRefusal → Type 0

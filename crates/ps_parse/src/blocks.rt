@@ -3,7 +3,7 @@
 ghost use Rattle.std.specs.Prelude.{◌≡◌, ℕ, suc, [], ◌∷◌, List, true};
 ghost use Rattle.ps_token.specs.declared.token_kind.TokenKind.TheVariants as kind;
 ghost use Rattle.ps_tree.specs.declared.stmt.StmtKind.TheVariants as stmt;
-ghost use Rattle.ps_parse.specs.Reading.{Gives, with_front, while_at, next_is, after_word, word_at};
+ghost use Rattle.ps_parse.specs.Reading.{ReadsTo, with_front, words_while, next_is, after_word, next_word};
 ghost use Rattle.ps_parse.specs.Inner.Scoped.{names_in};
 ghost use Rattle.ps_parse.specs.Blocks.{assign_at, havoc_at, cond_stmt_at, skip_at, atomic_at, else_at, if_at, while_stmt_at, kind_at, stmt_at, has_more, block_at};
 
@@ -16,7 +16,7 @@ use sqlite_items::Items;
 
 #[tactic(auto, unfolding(crate::specs::Blocks::skip_at, crate::specs::Reading::after_word, ps_lines::specs::Steps::and_then))]
 fn skip<'b>(cursor: &mut Cursor<'b>) -> Result<StmtKind, ReadRefusal>
-    ensures { Gives (λ x. x) result cursor.new (skip_at cursor.old) }
+    ensures { ReadsTo (λ x. x) result cursor.new (skip_at cursor.old) }
 {
     cursor.word(TokenKind::Skip)?;
     cursor.word(TokenKind::Semicolon)?;
@@ -26,7 +26,7 @@ fn skip<'b>(cursor: &mut Cursor<'b>) -> Result<StmtKind, ReadRefusal>
 impl<'a> Parser<'a> {
     #[tactic(auto, unfolding(crate::specs::Blocks::assign_at, crate::specs::Blocks::ended_at, crate::specs::Reading::after_word, ps_lines::specs::Steps::and_then))]
     fn assign<'b>(&self, cursor: &mut Cursor<'b>) -> Result<StmtKind, ReadRefusal>
-        ensures { Gives (λ x. x) result cursor.new
+        ensures { ReadsTo (λ x. x) result cursor.new
             (assign_at (names_in self.now.scope) self.now.most cursor.old) }
     {
         let variable = self.variable(cursor)?;
@@ -38,7 +38,7 @@ impl<'a> Parser<'a> {
 
     #[tactic(auto, unfolding(crate::specs::Blocks::havoc_at, crate::specs::Blocks::ended_at, crate::specs::Reading::after_word, ps_lines::specs::Steps::and_then))]
     fn havoc<'b>(&self, cursor: &mut Cursor<'b>) -> Result<StmtKind, ReadRefusal>
-        ensures { Gives (λ x. x) result cursor.new (havoc_at (names_in self.now.scope) cursor.old) }
+        ensures { ReadsTo (λ x. x) result cursor.new (havoc_at (names_in self.now.scope) cursor.old) }
     {
         cursor.word(TokenKind::Havoc)?;
         let variable = self.variable(cursor)?;
@@ -48,7 +48,7 @@ impl<'a> Parser<'a> {
 
     #[tactic(auto, unfolding(crate::specs::Blocks::cond_stmt_at, crate::specs::Blocks::ended_at, crate::specs::Reading::after_word, ps_lines::specs::Steps::and_then))]
     fn assume<'b>(&self, levels: u32, cursor: &mut Cursor<'b>) -> Result<StmtKind, ReadRefusal>
-        ensures { Gives (λ x. x) result cursor.new
+        ensures { ReadsTo (λ x. x) result cursor.new
             (cond_stmt_at kind.Assume stmt.Assume
             (names_in self.now.scope) self.now.most levels cursor.old) }
     {
@@ -60,7 +60,7 @@ impl<'a> Parser<'a> {
 
     #[tactic(auto, unfolding(crate::specs::Blocks::cond_stmt_at, crate::specs::Blocks::ended_at, crate::specs::Reading::after_word, ps_lines::specs::Steps::and_then))]
     fn assertion<'b>(&self, levels: u32, cursor: &mut Cursor<'b>) -> Result<StmtKind, ReadRefusal>
-        ensures { Gives (λ x. x) result cursor.new
+        ensures { ReadsTo (λ x. x) result cursor.new
             (cond_stmt_at kind.Assert stmt.Assert
             (names_in self.now.scope) self.now.most levels cursor.old) }
     {
@@ -73,7 +73,7 @@ impl<'a> Parser<'a> {
     #[cycle(block)]
     #[tactic(auto, unfolding(crate::specs::Blocks::atomic_at, crate::specs::Reading::after_word, ps_lines::specs::Steps::and_then))]
     fn atomic<'b>(&self, levels: u32, cursor: &mut Cursor<'b>) -> Result<StmtKind, ReadRefusal>
-        ensures { Gives (λ x. x) result cursor.new
+        ensures { ReadsTo (λ x. x) result cursor.new
             (atomic_at (block_at (names_in self.now.scope) self.now.most levels true) cursor.old) }
     {
         cursor.word(TokenKind::Atomic)?;
@@ -90,7 +90,7 @@ impl<'a> Parser<'a> {
         atomic: bool,
         cursor: &mut Cursor<'b>,
     ) -> Result<Items<Stmt>, ReadRefusal>
-        ensures { Gives (λ x. x) result cursor.new
+        ensures { ReadsTo (λ x. x) result cursor.new
             (else_at (block_at (names_in self.now.scope) self.now.most levels atomic) cursor.old) }
     {
         if !cursor.next_is(TokenKind::Else) {
@@ -108,7 +108,7 @@ impl<'a> Parser<'a> {
         atomic: bool,
         cursor: &mut Cursor<'b>,
     ) -> Result<StmtKind, ReadRefusal>
-        ensures { Gives (λ x. x) result cursor.new
+        ensures { ReadsTo (λ x. x) result cursor.new
             (if_at (block_at (names_in self.now.scope) self.now.most levels atomic)
             (names_in self.now.scope) self.now.most levels cursor.old) }
     {
@@ -127,7 +127,7 @@ impl<'a> Parser<'a> {
         atomic: bool,
         cursor: &mut Cursor<'b>,
     ) -> Result<StmtKind, ReadRefusal>
-        ensures { Gives (λ x. x) result cursor.new
+        ensures { ReadsTo (λ x. x) result cursor.new
             (while_stmt_at atomic (block_at (names_in self.now.scope) self.now.most levels atomic)
             (names_in self.now.scope) self.now.most levels cursor.old) }
     {
@@ -149,7 +149,7 @@ impl<'a> Parser<'a> {
         atomic: bool,
         cursor: &mut Cursor<'b>,
     ) -> Result<StmtKind, ReadRefusal>
-        ensures { Gives (λ x. x) result cursor.new
+        ensures { ReadsTo (λ x. x) result cursor.new
             (kind_at (block_at (names_in self.now.scope) self.now.most levels) atomic
             (names_in self.now.scope) self.now.most levels cursor.old) }
     {
@@ -182,7 +182,7 @@ impl<'a> Parser<'a> {
         atomic: bool,
         cursor: &mut Cursor<'b>,
     ) -> Result<Stmt, ReadRefusal>
-        ensures { Gives (λ x. x) result cursor.new
+        ensures { ReadsTo (λ x. x) result cursor.new
             (stmt_at (block_at (names_in self.now.scope) self.now.most levels) atomic
             (names_in self.now.scope) self.now.most levels cursor.old) }
     {
@@ -200,8 +200,8 @@ impl<'a> Parser<'a> {
         atomic: bool,
         cursor: &mut Cursor<'b>,
     ) -> Result<Vec<Stmt>, ReadRefusal>
-        ensures { Gives (λ v. v.items) result cursor.new
-            (while_at has_more (stmt_at
+        ensures { ReadsTo (λ v. v.items) result cursor.new
+            (words_while has_more (stmt_at
             (block_at (names_in self.now.scope) self.now.most levels) atomic
             (names_in self.now.scope) self.now.most levels) self.now.most cursor.old) }
     {
@@ -224,7 +224,7 @@ impl<'a> Parser<'a> {
         atomic: bool,
         cursor: &mut Cursor<'b>,
     ) -> Result<Items<Stmt>, ReadRefusal>
-        ensures { Gives (λ x. x) result cursor.new
+        ensures { ReadsTo (λ x. x) result cursor.new
             (block_at (names_in self.now.scope) self.now.most (suc levels) atomic cursor.old) }
     {
         cursor.word(TokenKind::OpenBrace)?;
@@ -242,7 +242,7 @@ impl<'a> Parser<'a> {
         atomic: bool,
         cursor: &mut Cursor<'b>,
     ) -> Result<Items<Stmt>, ReadRefusal>
-        ensures { Gives (λ x. x) result cursor.new
+        ensures { ReadsTo (λ x. x) result cursor.new
             (block_at (names_in self.now.scope) self.now.most levels atomic cursor.old) }
     {
         if levels == 0 {

@@ -4,7 +4,7 @@ ghost use Rattle.std.specs.Prelude.{◌≡◌, ℕ, suc, [], ◌∷◌, List};
 ghost use Rattle.ps_token.specs.declared.token_kind.TokenKind.TheVariants as kind;
 ghost use Rattle.ps_tree.specs.declared.cond.Cond.{Cond};
 ghost use Rattle.ps_tree.specs.declared.cond.Cond.TheVariants as cond;
-ghost use Rattle.ps_parse.specs.Reading.{Gives, with_front, while_at, next_is, after_word};
+ghost use Rattle.ps_parse.specs.Reading.{ReadsTo, with_front, words_while, next_is, after_word};
 ghost use Rattle.ps_parse.specs.Inner.Scoped.{names_in};
 ghost use Rattle.ps_parse.specs.Conds.{one_or_all, conj_with, opens_at, unary_at, cond_at, test_at, parens_at};
 
@@ -52,7 +52,7 @@ impl<'a> Parser<'a> {
     // A condition without `&&` and `||`, where no level may be opened.
     #[tactic(auto, unfolding(crate::specs::Conds::unary_at, ps_lines::specs::Steps::and_then))]
     fn flat_unary<'b>(&self, cursor: &mut Cursor<'b>) -> Result<Cond, ReadRefusal>
-        ensures { Gives (λ x. x) result cursor.new
+        ensures { ReadsTo (λ x. x) result cursor.new
             (unary_at (names_in self.now.scope) self.now.most 0 cursor.old) }
     {
         if opens(cursor) {
@@ -66,7 +66,7 @@ impl<'a> Parser<'a> {
     #[cycle(cond)]
     #[tactic(auto, unfolding(crate::specs::Conds::unary_at, crate::specs::Conds::cond_at, crate::specs::Reading::after_word, ps_lines::specs::Steps::and_then))]
     fn nested_unary<'b>(&self, levels: u32, cursor: &mut Cursor<'b>) -> Result<Cond, ReadRefusal>
-        ensures { Gives (λ x. x) result cursor.new
+        ensures { ReadsTo (λ x. x) result cursor.new
             (unary_at (names_in self.now.scope) self.now.most (suc levels) cursor.old) }
     {
         if cursor.next_is(TokenKind::Not) {
@@ -87,7 +87,7 @@ impl<'a> Parser<'a> {
     // A condition without `&&` and `||`, where so many levels may still be opened.
     #[cycle(cond)]
     fn unary<'b>(&self, levels: u32, cursor: &mut Cursor<'b>) -> Result<Cond, ReadRefusal>
-        ensures { Gives (λ x. x) result cursor.new
+        ensures { ReadsTo (λ x. x) result cursor.new
             (unary_at (names_in self.now.scope) self.now.most levels cursor.old) }
     {
         if levels == 0 {
@@ -105,9 +105,9 @@ impl<'a> Parser<'a> {
         mut members: Vec<Cond>,
         cursor: &mut Cursor<'b>,
     ) -> Result<Vec<Cond>, ReadRefusal>
-        ensures { Gives (λ v. v.items) result cursor.new
+        ensures { ReadsTo (λ v. v.items) result cursor.new
             (with_front members.items
-            (while_at (next_is kind.And)
+            (words_while (next_is kind.And)
             (after_word kind.And
             (unary_at (names_in self.now.scope) self.now.most levels)) self.now.most cursor.old)) }
     {
@@ -125,7 +125,7 @@ impl<'a> Parser<'a> {
     #[cycle(cond)]
     #[tactic(auto, unfolding(crate::specs::Conds::conj_with, crate::specs::Conds::members_at, ps_lines::specs::Steps::and_then))]
     fn conj<'b>(&self, levels: u32, cursor: &mut Cursor<'b>) -> Result<Cond, ReadRefusal>
-        ensures { Gives (λ x. x) result cursor.new
+        ensures { ReadsTo (λ x. x) result cursor.new
             (conj_with (unary_at
             (names_in self.now.scope) self.now.most levels) self.now.most cursor.old) }
     {
@@ -145,9 +145,9 @@ impl<'a> Parser<'a> {
         mut members: Vec<Cond>,
         cursor: &mut Cursor<'b>,
     ) -> Result<Vec<Cond>, ReadRefusal>
-        ensures { Gives (λ v. v.items) result cursor.new
+        ensures { ReadsTo (λ v. v.items) result cursor.new
             (with_front members.items
-            (while_at (next_is kind.Or)
+            (words_while (next_is kind.Or)
             (after_word kind.Or (conj_with
             (unary_at (names_in self.now.scope) self.now.most levels) self.now.most)) self.now.most
             cursor.old)) }
@@ -166,7 +166,7 @@ impl<'a> Parser<'a> {
     #[cycle(cond)]
     #[tactic(auto, unfolding(crate::specs::Conds::cond_at, crate::specs::Conds::cond_with, crate::specs::Conds::members_at, ps_lines::specs::Steps::and_then))]
     pub(crate) fn cond<'b>(&self, levels: u32, cursor: &mut Cursor<'b>) -> Result<Cond, ReadRefusal>
-        ensures { Gives (λ x. x) result cursor.new
+        ensures { ReadsTo (λ x. x) result cursor.new
             (cond_at (names_in self.now.scope) self.now.most levels cursor.old) }
     {
         let first = self.conj(levels, cursor)?;
@@ -179,7 +179,7 @@ impl<'a> Parser<'a> {
     // What stands in the parentheses after `if` and `while`.
     #[tactic(auto, unfolding(crate::specs::Conds::test_at, ps_lines::specs::Steps::and_then))]
     fn test<'b>(&self, levels: u32, cursor: &mut Cursor<'b>) -> Result<Test, ReadRefusal>
-        ensures { Gives (λ x. x) result cursor.new
+        ensures { ReadsTo (λ x. x) result cursor.new
             (test_at (names_in self.now.scope) self.now.most levels cursor.old) }
     {
         if cursor.next_is(TokenKind::Star) {
@@ -193,7 +193,7 @@ impl<'a> Parser<'a> {
     // A test in its parentheses, where so many levels may be opened in them.
     #[tactic(auto, unfolding(crate::specs::Conds::parens_at, ps_lines::specs::Steps::and_then))]
     fn nested_parens<'b>(&self, levels: u32, cursor: &mut Cursor<'b>) -> Result<Test, ReadRefusal>
-        ensures { Gives (λ x. x) result cursor.new
+        ensures { ReadsTo (λ x. x) result cursor.new
             (parens_at (names_in self.now.scope) self.now.most (suc levels) cursor.old) }
     {
         cursor.word(TokenKind::OpenParen)?;
@@ -209,7 +209,7 @@ impl<'a> Parser<'a> {
         levels: u32,
         cursor: &mut Cursor<'b>,
     ) -> Result<Test, ReadRefusal>
-        ensures { Gives (λ x. x) result cursor.new
+        ensures { ReadsTo (λ x. x) result cursor.new
             (parens_at (names_in self.now.scope) self.now.most levels cursor.old) }
     {
         if levels == 0 {

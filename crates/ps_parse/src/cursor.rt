@@ -3,15 +3,15 @@
 ghost use Rattle.std.specs.Prelude.{◌≡◌, ℕ, Ok, IfOk, if◌then◌else◌};
 ghost use Rattle.ps_token.specs.declared.token_kind.TokenKind.TheVariants.{Number};
 ghost use Rattle.ps_token.specs.Lexing.{IsNumber};
-ghost use Rattle.ps_parse.specs.Reading.{At, is_kind, place_at, next_is, word_at, end_at, Gives, Tells};
+ghost use Rattle.ps_parse.specs.Reading.{WordsAhead, is_kind, place_at, next_is, next_word, words_end, ReadsTo, ReadsWhole};
 ghost use Rattle.ps_lines.specs.Steps.{and_then};
 ghost use Rattle.ps_grammar.specs.Words.{words_of};
-ghost use Rattle.ps_parse.specs.Inner.Seen.{seen};
+ghost use Rattle.ps_parse.specs.Inner.Seen.{seen_word};
 ghost use Rattle.ps_parse.specs.Inner.Steps.{passed};
 ghost use Rattle.ps_parse.specs.Inner.Within.{AreWithin};
 ghost use Rattle.ps_parse.specs.Inner.Signed.{signs_of};
 ghost use Rattle.ps_grammar.specs.Numbers.{number_value};
-ghost use Rattle.ps_parse.specs.Sums.{sign_at};
+ghost use Rattle.ps_parse.specs.Sums.{sign_ahead};
 
 use crate::read_refusal::ReadRefusal;
 use crate::signs::Signs;
@@ -29,11 +29,11 @@ pub(crate) struct Cursor<'a> {
 }
 
 impl<'a> Model for Cursor<'a> {
-    ghost use Rattle.ps_parse.specs.Reading.{At};
+    ghost use Rattle.ps_parse.specs.Reading.{WordsAhead};
     ghost use Rattle.ps_grammar.specs.Words.{words_of};
     ghost use Rattle.ps_parse.specs.Inner.Within.{AreWithin};
 
-    ghost Value = { At };
+    ghost Value = { WordsAhead };
 
     ghost view = { λ c. record { words = words_of c.bytes.now c.tokens.now; end = c.end } };
 
@@ -74,9 +74,9 @@ impl<'a> Cursor<'a> {
     }
 
     /// Takes the next word, which is of the kind.
-    #[tactic(auto, unfolding(crate::specs::Reading::word_at))]
+    #[tactic(auto, unfolding(crate::specs::Reading::next_word))]
     pub(crate) fn word(&mut self, kind: TokenKind) -> Result<Word<'a>, ReadRefusal>
-        ensures gives { Gives seen result self.new (word_at kind self.old) }
+        ensures gives { ReadsTo seen_word result self.new (next_word kind self.old) }
         ensures number { kind ≡ Number → IfOk result (λ word. IsNumber word.text.now) }
     {
         if self.tokens.is_empty() {
@@ -99,17 +99,17 @@ impl<'a> Cursor<'a> {
     /// Takes the next word, which is a number.
     #[tactic(auto, unfolding(ps_lines::specs::Steps::and_then))]
     pub(crate) fn number(&mut self) -> Result<i64, ReadRefusal>
-        ensures { Gives (λ n. n) result self.new
-            (and_then (word_at Number self.old) (λ w. Ok (number_value w.0.text, w.1))) }
+        ensures { ReadsTo (λ n. n) result self.new
+            (and_then (next_word Number self.old) (λ w. Ok (number_value w.0.text, w.1))) }
     {
         let word = self.word(TokenKind::Number)?;
         Ok(number_value(word.text) as i64)
     }
 
     /// Takes the next word, which is a sign.
-    #[tactic(auto, unfolding(crate::specs::Sums::sign_at, ps_lines::specs::Steps::and_then))]
+    #[tactic(auto, unfolding(crate::specs::Sums::sign_ahead, ps_lines::specs::Steps::and_then))]
     pub(crate) fn sign(&mut self, signs: Signs) -> Result<Sign, ReadRefusal>
-        ensures { Gives (λ sign. sign) result self.new (sign_at (signs_of signs) self.old) }
+        ensures { ReadsTo (λ sign. sign) result self.new (sign_ahead (signs_of signs) self.old) }
     {
         if self.tokens.is_empty() {
             return Err(ReadRefusal::Grammar(self.end));
@@ -126,10 +126,10 @@ impl<'a> Cursor<'a> {
     }
 
     /// Takes the next word if it is of the kind, and says whether it was.
-    #[tactic(auto, unfolding(crate::specs::Reading::word_at))]
+    #[tactic(auto, unfolding(crate::specs::Reading::next_word))]
     pub(crate) fn passes(&mut self, kind: TokenKind) -> bool
-        ensures { (rest : At → ℕ)
-            → passed rest (word_at kind self.old) ≡ (if result then rest self.new else 0) }
+        ensures { (rest : WordsAhead → ℕ)
+            → passed rest (next_word kind self.old) ≡ (if result then rest self.new else 0) }
     {
         if self.tokens.is_empty() {
             return false;
@@ -155,7 +155,7 @@ impl<'a> Cursor<'a> {
 
     /// Whether the text ends here: `Grammar` at the next word where there is one.
     pub(crate) fn end(&self) -> Result<(), ReadRefusal>
-        ensures { Tells (λ x. x) result (end_at self.now) }
+        ensures { ReadsWhole (λ x. x) result (words_end self.now) }
     {
         if self.tokens.is_empty() {
             return Ok(());

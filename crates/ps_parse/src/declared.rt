@@ -1,7 +1,7 @@
 //! What a program declares.
 
 ghost use Rattle.std.specs.Prelude.{◌≡◌, ◌<◌, ◌≤◌, [], ◌∷◌, ◌++◌, map, length, IfOk};
-ghost use Rattle.ps_grammar.specs.Names.{variable_of, position_from};
+ghost use Rattle.ps_grammar.specs.Names.{variable_of_name, position_from};
 ghost use Rattle.ps_grammar.specs.Declarations.{most_globals, most_locals, most_rows, names_of, nothing_declared};
 ghost use Rattle.ps_parse.specs.Items.{with_rows};
 ghost use Rattle.ps_tree.specs.declared.global_decl.GlobalDecl.{GlobalDecl};
@@ -72,7 +72,7 @@ impl Declared {
 
     /// The variable of a declared name. Looks at all names.
     pub(crate) fn variable(&self, name: &[u8]) -> Option<Var>
-        ensures { result ≡ variable_of (names_of self.now) name.now }
+        ensures { result ≡ variable_of_name (names_of self.now) name.now }
     {
         match global_position(&self.globals, name) {
             Some(n) => Some(Var::Global(n)),

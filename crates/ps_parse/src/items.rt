@@ -3,11 +3,11 @@
 ghost use Rattle.std.specs.Prelude.{◌≡◌, ℕ, ◌+◌, ◌*◌, ◌<◌, ◌≤◌, ℤ, None, Some, Option, [], ◌∷◌, length, IfOk};
 ghost use Rattle.ps_token.specs.declared.token_kind.TokenKind.TheVariants as kind;
 ghost use Rattle.ps_tree.specs.declared.relation.Relation.{Relation};
-ghost use Rattle.ps_parse.specs.Reading.{At, Gives, with_front, while_at, next_is, after_word};
+ghost use Rattle.ps_parse.specs.Reading.{WordsAhead, ReadsTo, with_front, words_while, next_is, after_word};
 ghost use Rattle.ps_parse.specs.Inner.Scoped.{names_in};
 ghost use Rattle.ps_parse.specs.Sums.{init_sign_of, relation_at};
 ghost use Rattle.ps_parse.specs.Inner.Steps.{declared_value_at, relations_at, rows_then};
-ghost use Rattle.ps_parse.specs.Items.{new_name_at, number_at, value_at, counted, rows_from, item_rows, global_at, local_at, init_at, counted_item_at, item_at, has_item, items_at};
+ghost use Rattle.ps_parse.specs.Items.{new_name_at, signed_number_ahead, declared_value_ahead, rows_counted_on, rows_from, item_rows, global_at, local_at, init_at, counted_item_at, item_at, has_item, items_at};
 ghost use Rattle.ps_grammar.specs.Declarations.{rows_of_sign, rows_of_value, nothing_declared};
 
 use crate::cursor::Cursor;
@@ -22,9 +22,9 @@ use ps_tree::{GlobalDecl, LimitName, Name, Relation, Sign};
 use std::alloc::{AllocError, Global};
 
 // A number, which may have a `-` before it.
-#[tactic(auto, unfolding(crate::specs::Items::number_at, crate::specs::Reading::after_word, ps_lines::specs::Steps::and_then))]
+#[tactic(auto, unfolding(crate::specs::Items::signed_number_ahead, crate::specs::Reading::after_word, ps_lines::specs::Steps::and_then))]
 fn number<'b>(cursor: &mut Cursor<'b>) -> Result<i128, ReadRefusal>
-    ensures { Gives (λ x. x) result cursor.new (number_at cursor.old) }
+    ensures { ReadsTo (λ x. x) result cursor.new (signed_number_ahead cursor.old) }
 {
     if !cursor.next_is(TokenKind::Minus) {
         let number = cursor.number()?;
@@ -36,9 +36,9 @@ fn number<'b>(cursor: &mut Cursor<'b>) -> Result<i128, ReadRefusal>
 }
 
 // `=` and a number, or nothing.
-#[tactic(auto, unfolding(crate::specs::Items::value_at, crate::specs::Reading::after_word, ps_lines::specs::Steps::and_then))]
+#[tactic(auto, unfolding(crate::specs::Items::declared_value_ahead, crate::specs::Reading::after_word, ps_lines::specs::Steps::and_then))]
 fn value<'b>(cursor: &mut Cursor<'b>) -> Result<Option<i128>, ReadRefusal>
-    ensures { Gives (λ x. x) result cursor.new (value_at cursor.old) }
+    ensures { ReadsTo (λ x. x) result cursor.new (declared_value_ahead cursor.old) }
 {
     if !cursor.next_is(TokenKind::Equal) {
         return Ok(None);
@@ -58,7 +58,7 @@ fn new_name<'b>(
     limit: LimitName,
     cursor: &mut Cursor<'b>,
 ) -> Result<Name, ReadRefusal>
-    ensures gives { Gives
+    ensures gives { ReadsTo
         (λ x. x) result cursor.new (new_name_at declared.now count most limit cursor.old) }
     ensures room { IfOk result (λ _. count < most) }
 {
@@ -90,8 +90,8 @@ fn next_rows<'a, 'b>(
     cursor: &mut Cursor<'b>,
 ) -> Result<Option<u64>, AllocError>
     ensures is { IfOk result
-        (λ rows. (rest : At → ℕ)
-        → counted (λ (r : Relation). rows_of_sign r.sign) rest
+        (λ rows. (rest : WordsAhead → ℕ)
+        → rows_counted_on (λ (r : Relation). rows_of_sign r.sign) rest
         (relation_at init_sign_of (names_in parser.now.scope) parser.now.most cursor.old)
         ≡ rows_then rows (rest cursor.new)) }
     ensures few { IfOk result (λ rows. rows_then rows 0 ≤ 2) }
@@ -129,7 +129,7 @@ fn init_rows<'b>(alloc: Global, most: u32, cursor: &mut Cursor<'b>) -> Result<u6
 // The value of a global, which stands after its name.
 #[tactic(auto, unfolding(crate::specs::Inner::Steps::declared_value_at, crate::specs::Reading::after_word, ps_lines::specs::Steps::and_then))]
 fn declared_value<'b>(cursor: &mut Cursor<'b>) -> Result<Option<i128>, ReadRefusal>
-    ensures { Gives (λ x. x) result cursor.new (declared_value_at cursor.old) }
+    ensures { ReadsTo (λ x. x) result cursor.new (declared_value_at cursor.old) }
 {
     cursor.word(TokenKind::Global)?;
     cursor.word(TokenKind::Name)?;
@@ -140,7 +140,7 @@ fn declared_value<'b>(cursor: &mut Cursor<'b>) -> Result<Option<i128>, ReadRefus
 #[tactic(auto, unfolding(crate::specs::Inner::Steps::declared_value_at))]
 fn value_rows<'b>(cursor: &mut Cursor<'b>) -> Result<u64, AllocError>
     ensures is { IfOk result
-        (λ rows. rows ≡ counted rows_of_value (λ _. 0) (declared_value_at cursor.old)) }
+        (λ rows. rows ≡ rows_counted_on rows_of_value (λ _. 0) (declared_value_at cursor.old)) }
     ensures few { IfOk result (λ rows. rows ≤ 2) }
 {
     match declared_value(cursor) {
@@ -178,7 +178,7 @@ fn global<'b>(
     declared: Declared,
     cursor: &mut Cursor<'b>,
 ) -> Result<Declared, ReadRefusal>
-    ensures { Gives (λ x. x) result cursor.new (global_at declared cursor.old) }
+    ensures { ReadsTo (λ x. x) result cursor.new (global_at declared cursor.old) }
 {
     cursor.word(TokenKind::Global)?;
     let count = declared.count_globals();
@@ -202,7 +202,7 @@ fn local<'b>(
     declared: Declared,
     cursor: &mut Cursor<'b>,
 ) -> Result<Declared, ReadRefusal>
-    ensures { Gives (λ x. x) result cursor.new (local_at declared cursor.old) }
+    ensures { ReadsTo (λ x. x) result cursor.new (local_at declared cursor.old) }
 {
     cursor.word(TokenKind::Local)?;
     let count = declared.count_locals();
@@ -226,9 +226,9 @@ impl<'a> Parser<'a> {
         mut relations: Vec<Relation>,
         cursor: &mut Cursor<'b>,
     ) -> Result<Vec<Relation>, ReadRefusal>
-        ensures { Gives (λ v. v.items) result cursor.new
+        ensures { ReadsTo (λ v. v.items) result cursor.new
             (with_front relations.items
-            (while_at (next_is kind.And)
+            (words_while (next_is kind.And)
             (after_word kind.And
             (relation_at init_sign_of (names_in self.now.scope) self.now.most)) self.now.most
             cursor.old)) }
@@ -246,7 +246,7 @@ impl<'a> Parser<'a> {
     // The relations of an `init` item.
     #[tactic(auto, unfolding(crate::specs::Inner::Steps::relations_at, crate::specs::Blocks::ended_at, crate::specs::Reading::after_word, ps_lines::specs::Steps::and_then))]
     fn relations<'b>(&self, cursor: &mut Cursor<'b>) -> Result<Vec<Relation>, ReadRefusal>
-        ensures { Gives (λ v. v.items) result cursor.new
+        ensures { ReadsTo (λ v. v.items) result cursor.new
             (relations_at (names_in self.now.scope) self.now.most cursor.old) }
     {
         cursor.word(TokenKind::Init)?;
@@ -267,7 +267,7 @@ fn init<'b>(
     declared: Declared,
     cursor: &mut Cursor<'b>,
 ) -> Result<Declared, ReadRefusal>
-    ensures { Gives (λ x. x) result cursor.new (init_at declared most cursor.old) }
+    ensures { ReadsTo (λ x. x) result cursor.new (init_at declared most cursor.old) }
 {
     let parser = Parser {
         alloc,
@@ -286,7 +286,7 @@ fn counted_item<'b>(
     declared: Declared,
     cursor: &mut Cursor<'b>,
 ) -> Result<Declared, ReadRefusal>
-    ensures { Gives (λ x. x) result cursor.new (counted_item_at declared most cursor.old) }
+    ensures { ReadsTo (λ x. x) result cursor.new (counted_item_at declared most cursor.old) }
 {
     if cursor.next_is(TokenKind::Global) {
         global(alloc, declared, cursor)
@@ -305,7 +305,7 @@ fn item<'b>(
     declared: Declared,
     cursor: &mut Cursor<'b>,
 ) -> Result<Declared, ReadRefusal>
-    ensures { Gives (λ x. x) result cursor.new (item_at declared most cursor.old) }
+    ensures { ReadsTo (λ x. x) result cursor.new (item_at declared most cursor.old) }
 {
     let rows = declared.rows() + item_rows(alloc, most, &mut cursor.fork())?;
     if MOST_ROWS < rows {
@@ -330,7 +330,7 @@ pub(crate) fn items<'b>(
     most: u32,
     cursor: &mut Cursor<'b>,
 ) -> Result<Declared, ReadRefusal>
-    ensures { Gives (λ x. x) result cursor.new (items_at most nothing_declared most cursor.old) }
+    ensures { ReadsTo (λ x. x) result cursor.new (items_at most nothing_declared most cursor.old) }
 {
     let mut declared = Declared::new(alloc);
     for _ in 0..most {

@@ -5,7 +5,7 @@ ghost use Rattle.ps_token.specs.declared.place.Place.{Place};
 ghost use Rattle.ps_tree.specs.declared.program.Program.{Program};
 ghost use Rattle.ps_grammar.specs.Programs.{IsProgram, IsProgramText};
 ghost use Rattle.ps_grammar.specs.Words.{Word};
-ghost use Rattle.ps_parse.specs.Reads.{IsFirstFault, PassesGrammar, StandsInText};
+ghost use Rattle.ps_parse.specs.Reads.{IsFirstGrammarFault, PassesGrammar, StandsInText};
 ghost use Rattle.ps_parse.specs.declared.read_refusal.ReadRefusal.{ReadRefusal};
 
 /// Words are one program at most.
@@ -16,18 +16,18 @@ pub fn one_program()
 
 /// Words have one first fault of the grammar at most, and none where they are a program.
 pub fn one_fault()
-    ensures one { (words : List Word) (end p q : Place) → IsFirstFault words end p
-        → IsFirstFault words end q → p ≡ q }
+    ensures one { (words : List Word) (end p q : Place) → IsFirstGrammarFault words end p
+        → IsFirstGrammarFault words end q → p ≡ q }
     ensures none { (words : List Word) (end place : Place) (p : Program)
-        → IsFirstFault words end place → ¬ IsProgramText words p }
+        → IsFirstGrammarFault words end place → ¬ IsProgramText words p }
 {}
 
 /// No other refusal stands after the first fault of the grammar, and none at it but a second name of a product.
 pub fn faults_go_first()
-    ensures after { (words : List Word) (end p : Place) (fault : IsFirstFault words end p)
+    ensures after { (words : List Word) (end p : Place) (fault : IsFirstGrammarFault words end p)
         (e : ReadRefusal) (other : StandsInText words end e)
         → (tail : List Word) × (fault.before ≡ other.before ++ tail) }
-    ensures at { (words : List Word) (end p : Place) (fault : IsFirstFault words end p)
+    ensures at { (words : List Word) (end p : Place) (fault : IsFirstGrammarFault words end p)
         (e : ReadRefusal) (other : StandsInText words end e) → PassesGrammar e
         → ¬ (fault.before ≡ other.before) }
 {}

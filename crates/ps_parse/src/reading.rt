@@ -7,9 +7,9 @@ ghost use Rattle.ps_token.specs.Lexing.{AreTokens, IsBadAt};
 ghost use Rattle.ps_tree.specs.declared.program.Program.{Program};
 ghost use Rattle.ps_parse.specs.declared.read_refusal.ReadRefusal.TheVariants as refusal;
 ghost use Rattle.ps_parse.specs.Inner.Within.{AreWithin};
-ghost use Rattle.ps_parse.specs.Reading.{Tells};
+ghost use Rattle.ps_parse.specs.Reading.{ReadsWhole};
 ghost use Rattle.ps_grammar.specs.Words.{words_of};
-ghost use Rattle.ps_parse.specs.Items.{program_at, program_of};
+ghost use Rattle.ps_parse.specs.Items.{program_at, program_in};
 ghost use Rattle.ps_parse.specs.Texts.{end_of, uncut, TokenIsBad, GrammarIsFault, RefusalIsInText, RefusalIsFirst};
 ghost use Rattle.ps_grammar.specs.Programs.{IsProgram};
 
@@ -26,7 +26,7 @@ use std::alloc::Global;
 // The whole text, of at most so many words.
 #[tactic(auto, unfolding(crate::specs::Items::program_at, crate::specs::Reading::after_word, ps_lines::specs::Steps::and_then))]
 fn program<'b>(alloc: Global, most: u32, cursor: &mut Cursor<'b>) -> Result<Program, ReadRefusal>
-    ensures { Tells (λ x. x) result (program_at most cursor.old) }
+    ensures { ReadsWhole (λ x. x) result (program_at most cursor.old) }
 {
     let declared = items(alloc, most, cursor)?;
     cursor.word(TokenKind::Thread)?;
@@ -45,7 +45,7 @@ fn program_of(alloc: Global, bytes: &[u8], list: &[Token]) -> Result<Program, Re
     requires room { length bytes.now + 1 < 2 ^ 32 }
     requires within { AreWithin bytes.now list.now }
     requires few { length list.now < 2 ^ 32 }
-    ensures { Tells (λ x. x) result (program_of (words_of bytes.now list.now) (end_of bytes.now)) }
+    ensures { ReadsWhole (λ x. x) result (program_in (words_of bytes.now list.now) (end_of bytes.now)) }
 {
     let mut cursor = Cursor::new(bytes, list, end_place(bytes));
     program(alloc, list.len() as u32, &mut cursor)
@@ -69,13 +69,13 @@ pub fn read_program(alloc: Global, bytes: &[u8]) -> Result<Program, ReadRefusal>
     ensures found { IfOk result (IsProgram bytes.now) }
     // A text of the grammar that fits is read as its tree, unless memory runs out.
     ensures only { (program : Program) → IsProgram bytes.now program
-        → Tells (λ x. x) result (Ok program) }
+        → ReadsWhole (λ x. x) result (Ok program) }
     // Which refusal it is.
     ensures exact { (list : List Token) → AreTokens bytes.now list
-        → Tells (λ x. x) result (program_of (words_of bytes.now list) (end_of bytes.now)) }
+        → ReadsWhole (λ x. x) result (program_in (words_of bytes.now list) (end_of bytes.now)) }
     // A bad byte goes before all other refusals, and `Token` is said of nothing else.
     ensures bad { (place : Place) → IsBadAt bytes.now place
-        → Tells {A = Program} (λ x. x) result (Err (refusal.Token place)) }
+        → ReadsWhole {A = Program} (λ x. x) result (Err (refusal.Token place)) }
     ensures token { IfErr result (TokenIsBad bytes.now) }
     // `Grammar` stands at the first word, or the end, with which no text of the grammar goes on.
     ensures grammar { IfErr result (GrammarIsFault bytes.now) }

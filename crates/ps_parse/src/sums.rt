@@ -3,11 +3,11 @@
 ghost use Rattle.std.specs.Prelude.{◌≡◌, ℤ, neg_ℤ, [], ◌∷◌, Option, Some, None, ◌≤ℤ◌, ◌<ℤ◌, pos};
 ghost use Rattle.ps_term.specs.declared.var.Var.{Var};
 ghost use Rattle.ps_token.specs.declared.token_kind.TokenKind.TheVariants as kind;
-ghost use Rattle.ps_parse.specs.Reading.{Gives, with_front, while_at, place_at, next_is};
+ghost use Rattle.ps_parse.specs.Reading.{ReadsTo, with_front, words_while, place_at, next_is};
 ghost use Rattle.ps_parse.specs.Variables.{variable_at};
 ghost use Rattle.ps_parse.specs.Inner.Scoped.{names_in};
 ghost use Rattle.ps_parse.specs.Inner.Signed.{signs_of};
-ghost use Rattle.ps_parse.specs.Sums.{factor_at, number_product_at, name_product_at, product_at, first_product_at, further_product_at, adds, sum_at, sign_at, sign_of, relation_at};
+ghost use Rattle.ps_parse.specs.Sums.{factor_at, number_product_at, name_product_at, product_at, first_product_at, further_product_at, adds, sum_at, sign_ahead, sign_of, relation_at};
 ghost use Rattle.ps_grammar.specs.Numbers.{signed};
 
 use crate::cursor::Cursor;
@@ -22,7 +22,7 @@ use sqlite_items::Items;
 // The number in a product after a name: a second name there isn't linear.
 #[tactic(auto, unfolding(crate::specs::Sums::factor_at))]
 fn factor<'b>(cursor: &mut Cursor<'b>) -> Result<i64, ReadRefusal>
-    ensures { Gives (λ x. x) result cursor.new (factor_at cursor.old) }
+    ensures { ReadsTo (λ x. x) result cursor.new (factor_at cursor.old) }
 {
     if cursor.next_is(TokenKind::Name) {
         return Err(ReadRefusal::NotLinear(cursor.place()));
@@ -41,7 +41,7 @@ impl<'a> Parser<'a> {
     /// Takes a declared name.
     #[tactic(auto, unfolding(crate::specs::Variables::variable_at, ps_lines::specs::Steps::and_then))]
     pub(crate) fn variable<'b>(&self, cursor: &mut Cursor<'b>) -> Result<Var, ReadRefusal>
-        ensures { Gives (λ x. x) result cursor.new
+        ensures { ReadsTo (λ x. x) result cursor.new
             (variable_at (names_in self.now.scope) cursor.old) }
     {
         let name = cursor.word(TokenKind::Name)?;
@@ -54,7 +54,7 @@ impl<'a> Parser<'a> {
     // A number, and the name that follows it and `*`.
     #[tactic(auto, unfolding(crate::specs::Sums::number_product_at, crate::specs::Reading::after_word, ps_lines::specs::Steps::and_then))]
     fn number_product<'b>(&self, cursor: &mut Cursor<'b>) -> Result<(i64, Option<Var>), ReadRefusal>
-        ensures { Gives (λ x. x) result cursor.new
+        ensures { ReadsTo (λ x. x) result cursor.new
             (number_product_at (names_in self.now.scope) cursor.old) }
     {
         let number = cursor.number()?;
@@ -69,7 +69,7 @@ impl<'a> Parser<'a> {
     // A name, and the number that follows it and `*`.
     #[tactic(auto, unfolding(crate::specs::Sums::name_product_at, crate::specs::Reading::after_word, ps_lines::specs::Steps::and_then))]
     fn name_product<'b>(&self, cursor: &mut Cursor<'b>) -> Result<(i64, Option<Var>), ReadRefusal>
-        ensures { Gives (λ x. x) result cursor.new
+        ensures { ReadsTo (λ x. x) result cursor.new
             (name_product_at (names_in self.now.scope) cursor.old) }
     {
         let variable = self.variable(cursor)?;
@@ -83,7 +83,7 @@ impl<'a> Parser<'a> {
 
     #[tactic(auto, unfolding(crate::specs::Sums::product_at))]
     fn product<'b>(&self, cursor: &mut Cursor<'b>) -> Result<(i64, Option<Var>), ReadRefusal>
-        ensures { Gives (λ x. x) result cursor.new
+        ensures { ReadsTo (λ x. x) result cursor.new
             (product_at (names_in self.now.scope) cursor.old) }
     {
         if cursor.next_is(TokenKind::Number) {
@@ -96,7 +96,7 @@ impl<'a> Parser<'a> {
     // The first product of a sum, which may have a `-` before it.
     #[tactic(auto, unfolding(crate::specs::Sums::first_product_at, crate::specs::Reading::after_word, ps_lines::specs::Steps::and_then))]
     fn first_product<'b>(&self, cursor: &mut Cursor<'b>) -> Result<(i128, Option<Var>), ReadRefusal>
-        ensures { Gives (λ x. x) result cursor.new
+        ensures { ReadsTo (λ x. x) result cursor.new
             (first_product_at (names_in self.now.scope) cursor.old) }
     {
         if !cursor.next_is(TokenKind::Minus) {
@@ -114,7 +114,7 @@ impl<'a> Parser<'a> {
         &self,
         cursor: &mut Cursor<'b>,
     ) -> Result<(i128, Option<Var>), ReadRefusal>
-        ensures { Gives (λ x. x) result cursor.new
+        ensures { ReadsTo (λ x. x) result cursor.new
             (further_product_at (names_in self.now.scope) cursor.old) }
     {
         if cursor.next_is(TokenKind::Plus) {
@@ -134,9 +134,9 @@ impl<'a> Parser<'a> {
         mut terms: Vec<(i128, Option<Var>)>,
         cursor: &mut Cursor<'b>,
     ) -> Result<Vec<(i128, Option<Var>)>, ReadRefusal>
-        ensures { Gives (λ v. v.items) result cursor.new
+        ensures { ReadsTo (λ v. v.items) result cursor.new
             (with_front terms.items
-            (while_at adds (further_product_at (names_in self.now.scope)) self.now.most cursor.old)) }
+            (words_while adds (further_product_at (names_in self.now.scope)) self.now.most cursor.old)) }
     {
         for _ in 0..self.most {
             if !adds(cursor) {
@@ -150,7 +150,7 @@ impl<'a> Parser<'a> {
     /// Takes a sum.
     #[tactic(auto, unfolding(crate::specs::Sums::sum_at, ps_lines::specs::Steps::and_then))]
     pub(crate) fn sum<'b>(&self, cursor: &mut Cursor<'b>) -> Result<Sum, ReadRefusal>
-        ensures { Gives (λ x. x) result cursor.new
+        ensures { ReadsTo (λ x. x) result cursor.new
             (sum_at (names_in self.now.scope) self.now.most cursor.old) }
     {
         let first = self.first_product(cursor)?;
@@ -169,7 +169,7 @@ impl<'a> Parser<'a> {
         signs: Signs,
         cursor: &mut Cursor<'b>,
     ) -> Result<Relation, ReadRefusal>
-        ensures { Gives (λ x. x) result cursor.new
+        ensures { ReadsTo (λ x. x) result cursor.new
             (relation_at (signs_of signs) (names_in self.now.scope) self.now.most cursor.old) }
     {
         let left = self.sum(cursor)?;

@@ -3,11 +3,11 @@ use Rattle.std.proofs.Common.{◌≡◌, ℕ, ◌+◌, ◌≤◌, List, [], ◌�
 use Rattle.std.proofs.Math.Seq.{take-append_seam}
 use Rattle.std.specs.Prelude.{◌==◌, count_by}
 use Rattle.std.proofs.lemmas.List.Sums.{sum_by-append}
-use Rattle.ps_parts.specs.Cuts.{AreThreeParts, IsMark, IsFirstMark, IsCut, IsNumbered, program_of}
+use Rattle.ps_parts.specs.Cuts.{AreThreeParts, IsMarkAt, IsFirstMark, IsCut, IsNumbered, program_before}
 use Rattle.ps_parts.specs.declared.mark.TheConstants.{MARK}
 
 -- a mark stands inside the input
-pub mark_inside : (input : List ℕ) (place : ℕ) → IsMark input place → place + 3 ≤ length input
+pub mark_inside : (input : List ℕ) (place : ℕ) → IsMarkAt input place → place + 3 ≤ length input
 mark_inside input place mark =
     let split = ap length (take-append-drop 3 (drop place input)) in
     let joined = length-append (take 3 (drop place input)) (drop 3 (drop place input)) in
@@ -49,7 +49,7 @@ numbered_after input rest before after n line numbered cut e =
     )
 
 -- two cuts, one after the other, make three parts
-pub cut_again : (input before rest program middle last : List ℕ) → IsCut input before rest → program ≡ program_of before
+pub cut_again : (input before rest program middle last : List ℕ) → IsCut input before rest → program ≡ program_before before
     → IsCut rest middle last → AreThreeParts input program middle last
 cut_again input before rest program middle last cut e next = (rest, (before, cut, e), next)
 

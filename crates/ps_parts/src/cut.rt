@@ -1,6 +1,6 @@
 //! The cut of an input into what stands before its first mark and what comes after it.
 ghost use Rattle.std.specs.Prelude.{◌≡◌, ◌==◌, ◌+◌, ◌^◌, ◌<◌, length, count_by, IfSome, MatchOption};
-ghost use Rattle.ps_parts.specs.Cuts.{HasNoMark, IsCut, program_of};
+ghost use Rattle.ps_parts.specs.Cuts.{HasNoMark, IsCut, program_before};
 
 use crate::mark::{MARK, first_mark};
 
@@ -36,7 +36,7 @@ pub fn cut_at_mark(input: &[u8], line: u32) -> Option<Cut<'_>>
 
 /// The program that stands before a mark: all bytes but the line feed that ends its last line.
 pub fn program_part(before: &[u8]) -> &[u8]
-    ensures { result.now ≡ program_of before.now }
+    ensures { result.now ≡ program_before before.now }
 {
     &before[..before.len().saturating_sub(1)]
 }

@@ -1,6 +1,6 @@
 //! The first mark of an input.
 ghost use Rattle.std.specs.Prelude.{◌↔◌, ◌+◌, ◌≤◌, length, IsTrue, IfSome, MatchOption};
-ghost use Rattle.ps_parts.specs.Cuts.{HasNoMark, IsFirstMark, IsLineStart, IsMark};
+ghost use Rattle.ps_parts.specs.Cuts.{HasNoMark, IsFirstMark, IsLineStart, IsMarkAt};
 
 /// The line between two parts.
 pub const MARK: &str = "%%\n";
@@ -23,7 +23,7 @@ pub(crate) fn first_mark(input: &[u8]) -> Option<usize>
 /// Whether a mark stands at the place.
 fn is_mark(input: &[u8], place: usize) -> bool
     requires { place ≤ length input.now }
-    ensures { IsTrue result ↔ IsMark input.now place }
+    ensures { IsTrue result ↔ IsMarkAt input.now place }
 {
     is_line_start(input, place) && input[place..].starts_with(MARK.as_bytes())
 }

@@ -7,8 +7,8 @@ use Rattle.std.proofs.lemmas.Slice.Eq.{bytes_eq-Decides}
 use Rattle.ps_term.specs.declared.var.Var.{Var}
 use Rattle.ps_term.specs.declared.var.Var.TheVariants.{Global, Local}
 use Rattle.ps_tree.specs.declared.sum.Sum.{Sum}
-use Rattle.ps_grammar.specs.Names.{Names, first_of, position_from, variable_of}
-use Rattle.ps_grammar.specs.Fits.{IsKnown, ProductFits, RelationFits, SumFits}
+use Rattle.ps_grammar.specs.Names.{Names, first_of, position_from, variable_of_name}
+use Rattle.ps_grammar.specs.Fits.{IsKnownName, ProductFits, RelationFits, SumTextFits}
 use Rattle.ps_grammar.specs.Grammar.{ProductText, name, name_number, number, number_name, RelationText, SumText}
 use Rattle.ps_grammar.specs.Numbers.{number_value, signed}
 use Rattle.ps_grammar.specs.Trees.{product_tree, relation_tree, sum_tree, variable_named, variable_or_first}
@@ -91,15 +91,15 @@ new_by names x None (Some k) e f none = absurd (no_some (Local 0 k) none)
 new_by names x None None e f none = (absent 0 x names.globals e, absent 0 x names.locals f)
 
 -- a name that stands for no variable is among neither
-pub new_from : (names : Names) (x : List ℕ) → variable_of names x ≡ None → NotIn x names.globals × NotIn x names.locals
+pub new_from : (names : Names) (x : List ℕ) → variable_of_name names x ≡ None → NotIn x names.globals × NotIn x names.locals
 new_from names x none = new_by names x (position_from 0 x names.globals) (position_from 0 x names.locals) refl refl none
 
-pub new_to : (names : Names) (x : List ℕ) → NotIn x names.globals → NotIn x names.locals → variable_of names x ≡ None
+pub new_to : (names : Names) (x : List ℕ) → NotIn x names.globals → NotIn x names.locals → variable_of_name names x ≡ None
 new_to names x h k = ap₂ one_of (missing 0 x names.globals h) (missing 0 x names.locals k)
 
 -- further names leave the variables of those before
 abbrev pub Extends : Names → Names → Type 0
-Extends names more = (x : List ℕ) → IsKnown names x → variable_of more x ≡ variable_of names x
+Extends names more = (x : List ℕ) → IsKnownName names x → variable_of_name more x ≡ variable_of_name names x
 
 global_by : (gs ls : List (List ℕ)) (y x : List ℕ) (g l : Option ℕ) → NotIn y ls → position_from 0 x gs ≡ g → position_from 0 x ls ≡ l → one_of g l ≢ None → one_of (position_from 0 x (gs ++ y ∷ [])) l ≡ one_of g l
 global_by gs ls y x (Some k) l new e f known = ap (λ (o : Option ℕ). one_of o l) (stays 0 k x gs (y ∷ []) e)
@@ -122,10 +122,10 @@ local_extends gs ls y x known = local_by ls y x (position_from 0 x gs) (position
 
 -- ---- what is read of sums and relations with further names
 
-known_more : (names more : Names) → Extends names more → (x : List ℕ) → IsKnown names x → IsKnown more x
+known_more : (names more : Names) → Extends names more → (x : List ℕ) → IsKnownName names x → IsKnownName more x
 known_more names more ext x known e = known (sym (ext x known) ∙ e)
 
-variable_more : (names more : Names) → Extends names more → (x : List ℕ) → IsKnown names x → variable_named more x ≡ variable_named names x
+variable_more : (names more : Names) → Extends names more → (x : List ℕ) → IsKnownName names x → variable_named more x ≡ variable_named names x
 variable_more names more ext x known = ap variable_or_first (ext x known)
 
 pub product_more : (names more : Names) → Extends names more → (t : ProductText) → ProductFits names t → ProductFits more t × (product_tree more t ≡ product_tree names t)
@@ -147,7 +147,7 @@ further_more names more ext (f ∷ fs) fit =
     let r = further_more names more ext fs (All-tail (λ (q : Bool × ProductText). ProductFits names q.1) f fs fit) in
     (All-cons (λ (q : Bool × ProductText). ProductFits more q.1) f fs p.0 r.0, ap₂ (λ (q : ℤ × Option Var) (qs : List (ℤ × Option Var)). signed f.0 q ∷ qs) p.1 r.1)
 
-sum_more : (names more : Names) → Extends names more → (s : SumText) → SumFits names s → SumFits more s × (sum_tree more s ≡ sum_tree names s)
+sum_more : (names more : Names) → Extends names more → (s : SumText) → SumTextFits names s → SumTextFits more s × (sum_tree more s ≡ sum_tree names s)
 sum_more names more ext s fit =
     let p = product_more names more ext s.first fit.0 in
     let r = further_more names more ext s.further fit.1 in

@@ -22,7 +22,7 @@ use Rattle.ps_grammar.specs.Declarations.{Declared, most_globals, most_levels, m
 use Rattle.ps_print.specs.Printed.{global_item, init_item, program_text, unplaced, value_text}
 use Rattle.ps_grammar.specs.Spelling.{NumberPiece, Mark, item_pieces, minus_pieces, more_relations, program_pieces, relation_pieces, rest_pieces, value_pieces}
 use Rattle.ps_grammar.specs.Numbers.{signed}
-use Rattle.ps_grammar.specs.Trees.{block_trees, program_tree, relation_tree, rows_of_relations, value_of, with_item, with_items}
+use Rattle.ps_grammar.specs.Trees.{block_trees, program_tree, relation_tree, rows_of_relations, declared_value, with_item, with_items}
 use Rattle.ps_grammar.specs.Texts.{ArePieces}
 use Rattle.ps_grammar.proofs.Texts.{joined, left, right, value_below}
 use Rattle.ps_print.proofs.Spelled.{abs_signed, decimal_spelled, decimal_value, signed_abs}
@@ -109,7 +109,7 @@ record Fine (d : Declared) : Type 0 where
   rows : d.rows ≡ value_rows d.globals + sign_rows d.inits
   few : d.rows ≤ most_rows
 
-value_ok : (v : Option ValueText) → ArePieces (value_pieces v) → ValueOk (value_of v)
+value_ok : (v : Option ValueText) → ArePieces (value_pieces v) → ValueOk (declared_value v)
 value_ok None h = tt
 value_ok (Some v) h =
     let small = value_below v.digits (right (minus_pieces v.negative) (NumberPiece v.digits ∷ []) h.1).0 in
@@ -118,7 +118,7 @@ value_ok (Some v) h =
 
 fine_global : (d : Declared) (x : List ℕ) (v : Option ValueText) → ItemFits d (global x v) → ArePieces (item_pieces (global x v)) → Fine d → Fine (with_item d (global x v))
 fine_global d x v fit h f =
-    let g : GlobalDecl = record { name = x; value = value_of v } in
+    let g : GlobalDecl = record { name = x; value = declared_value v } in
     let new = new_from (names_of d) x fit.0 in
     let named : names_in (d.globals ++ g ∷ []) ≡ names_in d.globals ++ x ∷ [] = map-append (λ (k : GlobalDecl). k.name) d.globals (g ∷ []) in
     let ext : Extends (names_of d) (names_of (with_item d (global x v))) = subst (λ (ns : List (List ℕ)). Extends (names_of d) (record { globals = ns; locals = d.locals })) (sym named) (global_extends (names_in d.globals) d.locals x new.1) in
@@ -213,7 +213,7 @@ leads_join from next to (i ∷ is) js l m =
 
 -- ---- globals
 
-value_good : (v : Option ℤ) → ValueOk v → (value_of (value_text v) ≡ v) × ArePieces (value_pieces (value_text v))
+value_good : (v : Option ℤ) → ValueOk v → (declared_value (value_text v) ≡ v) × ArePieces (value_pieces (value_text v))
 value_good None h = (refl, tt)
 value_good (Some z) h = (
   ap (λ (m : ℤ). Some (signed (is_negative z) (m, None)).0) (decimal_value (unsigned_abs z) h) ∙ ap (λ (p : ℤ × Option Var). Some p.0) (signed_abs z None),

@@ -13,7 +13,7 @@ use Rattle.ps_lines.proofs.Digits.{are_digits-from}
 use Rattle.ps_token.proofs.Front.{digits_are}
 use Rattle.ps_grammar.specs.Names.{Names, first_of, position_from}
 use Rattle.ps_print.specs.Canonical.{is_negative, name_of}
-use Rattle.ps_grammar.specs.Fits.{IsKnown}
+use Rattle.ps_grammar.specs.Fits.{IsKnownName}
 use Rattle.ps_grammar.specs.Numbers.{number_value, signed}
 use Rattle.ps_grammar.specs.Trees.{variable_named, variable_or_first}
 
@@ -68,5 +68,5 @@ named_by names x None (Some k) e f known = found_is k x names.locals f
 named_by names x None None e f known = absurd (known refl)
 
 -- the variable of a declared name has that name
-pub named : (names : Names) (x : List ℕ) → IsKnown names x → name_of names (variable_named names x) ≡ x
+pub named : (names : Names) (x : List ℕ) → IsKnownName names x → name_of names (variable_named names x) ≡ x
 named names x known = named_by names x (position_from 0 x names.globals) (position_from 0 x names.locals) refl refl known

@@ -11,7 +11,7 @@ use Rattle.ps_tree.specs.declared.relation.Sign.{Sign}
 use Rattle.ps_tree.specs.declared.relation.Sign.TheVariants as sign
 use Rattle.ps_grammar.specs.Names.{Names}
 use Rattle.ps_print.specs.Canonical.{is_negative, name_of, product_of, product_text, relation_text, sum_text}
-use Rattle.ps_grammar.specs.Fits.{IsKnown, ProductFits, RelationFits, SumFits}
+use Rattle.ps_grammar.specs.Fits.{IsKnownName, ProductFits, RelationFits, SumTextFits}
 use Rattle.ps_grammar.specs.Grammar.{ProductText, name, name_number, number, number_name, RelationText, SumText}
 use Rattle.ps_grammar.specs.Spelling.{further_pieces, minus_pieces, plus_or_minus, product_pieces, relation_pieces, sign_kind, sum_pieces}
 use Rattle.ps_grammar.specs.Numbers.{number_value, signed}
@@ -35,19 +35,19 @@ number_good names z small = record {
   back = ap (λ (m : ℤ). signed (is_negative z) (m, None)) (decimal_value (unsigned_abs z) small) ∙ signed_abs z None;
 }
 
-pub known_again : (names : Names) (x : List ℕ) → IsKnown names x → IsKnown names (name_of names (variable_named names x))
-known_again names x known = subst (λ (y : List ℕ). IsKnown names y) (sym (named names x known)) known
+pub known_again : (names : Names) (x : List ℕ) → IsKnownName names x → IsKnownName names (name_of names (variable_named names x))
+known_again names x known = subst (λ (y : List ℕ). IsKnownName names y) (sym (named names x known)) known
 
-pub name_again : (names : Names) (x : List ℕ) → IsKnown names x → IsName x → IsName (name_of names (variable_named names x))
+pub name_again : (names : Names) (x : List ℕ) → IsKnownName names x → IsName x → IsName (name_of names (variable_named names x))
 name_again names x known is = subst (λ (y : List ℕ). IsName y) (sym (named names x known)) is
 
-pub variable_again : (names : Names) (x : List ℕ) → IsKnown names x → variable_named names (name_of names (variable_named names x)) ≡ variable_named names x
+pub variable_again : (names : Names) (x : List ℕ) → IsKnownName names x → variable_named names (name_of names (variable_named names x)) ≡ variable_named names x
 variable_again names x known = ap (variable_named names) (named names x known)
 
 one_is : (m : ℕ) → (m == 1) ≡ true → m ≡ 1
 one_is m e = grind (arith, e)
 
-times_by : (names : Names) (z : ℤ) (x : List ℕ) → unsigned_abs z < 10 ^ 18 → IsKnown names x → IsName x → (t : Bool) → (unsigned_abs z == 1) ≡ t
+times_by : (names : Names) (z : ℤ) (x : List ℕ) → unsigned_abs z < 10 ^ 18 → IsKnownName names x → IsName x → (t : Bool) → (unsigned_abs z == 1) ≡ t
     → (p : ProductText) → p ≡ (if t then name (name_of names (variable_named names x)) else number_name (decimal (unsigned_abs z)) (name_of names (variable_named names x)))
     → ProductFits names p × ArePieces (product_pieces p) × (signed (is_negative z) (product_tree names p) ≡ (z, Some (variable_named names x)))
 times_by names z x small known is true one p e =
@@ -63,7 +63,7 @@ times_by names z x small known is false other p e =
       ap₂ (λ (m : ℤ) (v : Var). signed (is_negative z) (m, Some v)) (decimal_value (unsigned_abs z) small) (variable_again names x known) ∙ signed_abs z (Some (variable_named names x)),
     )
 
-times_good : (names : Names) (z : ℤ) (x : List ℕ) → unsigned_abs z < 10 ^ 18 → IsKnown names x → IsName x → GoodProduct names (z, Some (variable_named names x))
+times_good : (names : Names) (z : ℤ) (x : List ℕ) → unsigned_abs z < 10 ^ 18 → IsKnownName names x → IsName x → GoodProduct names (z, Some (variable_named names x))
 times_good names z x small known is =
     let h = times_by names z x small known is (unsigned_abs z == 1) refl (product_text names (unsigned_abs z) (Some (variable_named names x))) refl in
     record { fits = h.0; spelled = h.1; back = h.2 }
@@ -121,7 +121,7 @@ further_good names (f ∷ fs) fit h =
     }
 
 pub record GoodSum (names : Names) (s : Sum) : Type 0 where
-  pub fits : SumFits names (sum_text names s)
+  pub fits : SumTextFits names (sum_text names s)
   pub spelled : ArePieces (sum_pieces (sum_text names s))
   pub back : sum_tree names (sum_text names s) ≡ s
 
@@ -129,7 +129,7 @@ pub minus_spelled : (b : Bool) → ArePieces (minus_pieces b)
 minus_spelled true = (tt, tt)
 minus_spelled false = tt
 
-pub sum_good : (names : Names) (s : SumText) → SumFits names s → ArePieces (sum_pieces s) → GoodSum names (sum_tree names s)
+pub sum_good : (names : Names) (s : SumText) → SumTextFits names s → ArePieces (sum_pieces s) → GoodSum names (sum_tree names s)
 sum_good names s fit h =
     let rest = right (minus_pieces s.negative) (product_pieces s.first ++ further_pieces s.further) h in
     let p = product_good names s.negative s.first fit.0 (left (product_pieces s.first) (further_pieces s.further) rest) in

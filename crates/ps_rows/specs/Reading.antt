@@ -1,7 +1,7 @@
 -- Reading rows and multipliers, with the first fault.
 use Rattle.std.specs.Prelude.{ℕ, List, Result, Ok, codes}
 use Rattle.ps_lines.specs.declared.form_fault.FormFault.{FormFault}
-use Rattle.ps_lines.specs.Reading.{At, Read, leaf_at, natural, line_at, end_at, only_at, done_at, header_at, times_at}
+use Rattle.ps_lines.specs.Reading.{Position, Read, leaf_at, natural, line_at, end_at, only_at, done_at, header_at, times_at}
 use Rattle.ps_lines.specs.Steps.{◌>>=◌}
 use Rattle.ps_term.specs.declared.row.Row.{Row}
 use Rattle.ps_term_text.specs.Reading.{term_at}
@@ -25,7 +25,7 @@ multipliers_at count at = do
   Ok (numbers.0, e.1)
 
 -- The whole text: `rows N`, so many rows, so many multipliers, `end`, and nothing after it.
-unfoldable pub claim_at : At → Result Claim FormFault
+unfoldable pub claim_at : Position → Result Claim FormFault
 claim_at at = do
   count ← header_at (codes "rows") MOST_ROWS at
   rows ← times_at row_at count.0 count.1

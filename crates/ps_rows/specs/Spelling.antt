@@ -2,7 +2,7 @@
 use Rattle.std.specs.Prelude.{◌≡◌, ℕ, ◌≤◌, ◌<◌, ◌^◌, List, [], ◌∷◌, ◌++◌, map, length, decimal, codes}
 use Rattle.std.specs.List.{AllByRecursion}
 use Rattle.ps_term.specs.declared.row.Row.{Row}
-use Rattle.ps_term_text.specs.Spelling.{term_fields, TermFits}
+use Rattle.ps_term_text.specs.Spelling.{term_fields, TermHasSpelling}
 use Rattle.ps_rows.specs.declared.claim.Claim.{Claim}
 use Rattle.ps_rows.specs.declared.reading.TheConstants.{MOST_ROWS}
 
@@ -20,12 +20,12 @@ claim_lines claim =
     (codes "rows", decimal (length claim.rows) ∷ []) ∷ (map row_line claim.rows ++ (multipliers_line claim.multipliers ∷ ((codes "end", []) ∷ [])))
 
 -- Which rows have a spelling.
-abbrev pub RowFits : Row → Type 0
-RowFits row = TermFits row.term
+abbrev pub RowHasSpelling : Row → Type 0
+RowHasSpelling row = TermHasSpelling row.term
 
 -- At most so many rows, each with a spelling, and as many multipliers of 128 bits.
-pub record ClaimFits (claim : Claim) : Type 0 where
+pub record ClaimHasSpelling (claim : Claim) : Type 0 where
   pub few : length claim.rows ≤ MOST_ROWS
-  pub rows : AllByRecursion RowFits claim.rows
+  pub rows : AllByRecursion RowHasSpelling claim.rows
   pub as_many : length claim.multipliers ≡ length claim.rows
   pub multipliers : AllByRecursion (λ n. n < 2 ^ 128) claim.multipliers

@@ -2,9 +2,9 @@
 
 ghost use Rattle.std.specs.Prelude.{◌≡◌, ◌+◌, ◌<◌, ◌≤◌, ◌^◌, length, IfOk, Ok};
 ghost use Rattle.ps_lines.specs.Tokens.{text_bytes};
-ghost use Rattle.ps_lines.specs.Reading.{start, Gives, Tells};
+ghost use Rattle.ps_lines.specs.Reading.{text_start, Gives, Tells};
 ghost use Rattle.ps_rows.specs.declared.claim.Claim.{Claim};
-ghost use Rattle.ps_rows.specs.Spelling.{claim_lines, ClaimFits};
+ghost use Rattle.ps_rows.specs.Spelling.{claim_lines, ClaimHasSpelling};
 ghost use Rattle.ps_rows.specs.Reading.{row_at, multipliers_at, claim_at};
 
 use crate::claim::Claim;
@@ -53,7 +53,7 @@ fn take_multipliers<'a>(
 fn whole(alloc: Global, bytes: &[u8], first: u32) -> Result<Claim, FormEnd>
     requires from_one { 1 ≤ first }
     requires room { first + length bytes.now < 2 ^ 32 }
-    ensures { Tells (λ x. x) result (claim_at (start first bytes.now)) }
+    ensures { Tells (λ x. x) result (claim_at (text_start first bytes.now)) }
 {
     let mut reader = Reader::new(bytes, first);
     let count = reader.header(b"rows", MOST_ROWS)?;
@@ -72,12 +72,12 @@ pub fn read_rows(alloc: Global, bytes: &[u8], first: u32) -> Result<Claim, FormE
     requires room { first + length bytes.now < 2 ^ 32 }
     // What is read is spelled so, and is within the limits.
     ensures found { IfOk result
-        (λ claim. ClaimFits claim × (bytes.now ≡ text_bytes (claim_lines claim))) }
+        (λ claim. ClaimHasSpelling claim × (bytes.now ≡ text_bytes (claim_lines claim))) }
     // What is spelled so is read, unless memory runs out.
-    ensures only { (claim : Claim) → ClaimFits claim → bytes.now ≡ text_bytes (claim_lines claim)
+    ensures only { (claim : Claim) → ClaimHasSpelling claim → bytes.now ≡ text_bytes (claim_lines claim)
         → Tells (λ x. x) result (Ok claim) }
     // Which fault it is.
-    ensures exact { Tells (λ x. x) result (claim_at (start first bytes.now)) }
+    ensures exact { Tells (λ x. x) result (claim_at (text_start first bytes.now)) }
 {
     whole(alloc, bytes, first)
 }

@@ -16,7 +16,7 @@ use Rattle.ps_basis.specs.Space.{IsProved}
 use Rattle.ps_config.proofs.Lists.{mapped, from_mapped}
 use Rattle.ps_config.proofs.Occurring.{located_occurs, named_occurs, occurs_cases, of_renamed, renamed_same, renamed_twice}
 use Rattle.ps_config.specs.Configurations.{Configuration, Covers, Embeds, IsAt, threads_at}
-use Rattle.ps_config.specs.Forms.{start}
+use Rattle.ps_config.specs.Forms.{start_configuration}
 use Rattle.ps_graph.proofs.Letters.{Located, located_of_paths, moved_to}
 use Rattle.ps_graph.specs.ErrorTrace.{IsErrorTrace, edges_of, enters_error, error_at_last}
 use Rattle.ps_graph.specs.Facts.{entries_owned, entries_owned_from, is_same_body, owner_of, stay_in_bodies}
@@ -32,7 +32,7 @@ use Rattle.ps_step.specs.Steps.{AreTied, IsAccepting, IsDue, IsOfOnce, Stands}
 use Rattle.ps_step.specs.inner.Back.{moved_at}
 use Rattle.ps_step.specs.inner.Demands.{HitsAll, demands}
 use Rattle.ps_triple.proofs.Membership.{all_of}
-use Rattle.ps_triple.specs.Entries.{Gives, HasInitial, false_atom}
+use Rattle.ps_triple.specs.Entries.{GivesAtom, HasInitial, false_atom}
 use Rattle.ps_triple.specs.declared.entry.Entry.{Entry}
 use Rattle.ps_triple.specs.declared.entry.Entry.TheVariants.{Triple as OfTriple, Initial as OfInitial}
 
@@ -189,7 +189,7 @@ module _ (graph : Graph) (entries : List Entry) (tied : AreTied entries) (config
       given : (d : List Atom) → Demand entries t e.command c.atoms d → ((p : Atom) → Contains d p → IsGood p) → IsWon entries ((k, e.command) ∷ done) g c
       given d demand all = (demand.after, demand.within, (map (renamed g) d, gives, all_of (IsGiven entries done) (map (renamed g) d) each))
         where
-          gives : Gives entries k e.command (map (renamed g) d) (renamed g demand.after)
+          gives : GivesAtom entries k e.command (map (renamed g) d) (renamed g demand.after)
           gives = gives_renamed entries tied t e.command d demand.after demand.gives g k goes
               (λ x y i j h. apart x y (in_atoms demand.after demand.within x i) (in_atoms demand.after demand.within y j) h)
 
@@ -358,7 +358,7 @@ module _ (graph : Graph) (entries : List Entry) (tied : AreTied entries) (config
           ∙ stays_in graph stay n e g off (body j) (ap (owner_of graph.owner) (source ∙ ap at same) ∙ owned j)
       on (inr none_such) = ap (owner_of graph.owner) (moved_there at k e.target j none_such) ∙ owned j
 
-  not_start : (c : Configuration) → Contains configurations c → c ≢ start
+  not_start : (c : Configuration) → Contains configurations c → c ≢ start_configuration
   not_start c i same = inside c i 0 1 (subst (λ (d : Configuration). IsAt d 0 1) (sym same) (here (0, 1) [])) refl
 
   -- a letter that doesn't enter the error
@@ -385,22 +385,22 @@ module _ (graph : Graph) (entries : List Entry) (tied : AreTied entries) (config
       (n k : ℕ) (e : Edge) → slice_get graph.edges n ≡ Some e → e.source ≡ at k → e.target ≡ 1 → Q k →
       IsGiven entries ((k, e.command) ∷ done) false_atom
   won_last at done owned won n k e g source on_error occurs =
-      only (won_after graph entries tied configurations Q at done won (single at owned) start n e g 0 k (λ _. k)
+      only (won_after graph entries tied configurations Q at done won (single at owned) start_configuration n e g 0 k (λ _. k)
       (inl (refl, on_error, refl)) (λ to s. closed.first n 0 to s) refl (λ x y i j h. zero_of x i ∙ sym (zero_of y j)) source occurs placed)
     where
-      zero_of : (x : ℕ) → Contains (0 ∷ threads_at start) x → x ≡ 0
-      zero_of x i = elim (cons_cases 0 (threads_at start) x i) [
+      zero_of : (x : ℕ) → Contains (0 ∷ threads_at start_configuration) x → x ≡ 0
+      zero_of x i = elim (cons_cases 0 (threads_at start_configuration) x i) [
         | inl same ↦ sym same
         | inr j ↦ elim (cons_cases 0 [] x j) [ inl same ↦ sym same | inr none ↦ absurd (nothing x none) ]
       ]
 
-      placed : IsPlaced Q (moved_to at k e.target) (λ _. k) start
+      placed : IsPlaced Q (moved_to at k e.target) (λ _. k) start_configuration
       placed t a i = elim (cons_cases (0, 1) [] (t, a) i) [
         | inl same ↦ (moved_here at k e.target k refl ∙ on_error ∙ ap (λ (p : ℕ × ℕ). p.1) same, occurs)
         | inr none ↦ absurd (nothing (t, a) none)
       ]
 
-      only : IsWon entries ((k, e.command) ∷ done) (λ _. k) start → IsGiven entries ((k, e.command) ∷ done) false_atom
+      only : IsWon entries ((k, e.command) ∷ done) (λ _. k) start_configuration → IsGiven entries ((k, e.command) ∷ done) false_atom
       only (q, i, h) = elim (cons_cases false_atom [] q i) [
         | inl same ↦ subst (λ (p : Atom). IsGiven entries ((k, e.command) ∷ done) (renamed (λ _. k) p)) (sym same) h
         | inr none ↦ absurd (nothing q none)

@@ -11,7 +11,7 @@ use Rattle.ps_step.proofs.Picked.{from_picked, twice_all}
 use Rattle.ps_step.proofs.Pulled.{given_threads}
 use Rattle.ps_step.specs.Steps.{AreTied}
 use Rattle.ps_step.specs.inner.Demands.{demand, demands}
-use Rattle.ps_triple.specs.Entries.{Gives, threads_in}
+use Rattle.ps_triple.specs.Entries.{GivesAtom, threads_in}
 use Rattle.ps_triple.specs.declared.entry.Entry.{Entry}
 use Rattle.ps_triple.specs.declared.entry.Entry.TheVariants.{Triple as OfTriple, Initial as OfInitial}
 
@@ -19,10 +19,10 @@ use Rattle.ps_triple.specs.declared.entry.Entry.TheVariants.{Triple as OfTriple,
 pub record Demand (entries : List Entry) (thread command : ℕ) (atoms before : List Atom) : Type 0 where
   pub after : Atom
   pub within : Contains atoms after
-  pub gives : Gives entries thread command before after
+  pub gives : GivesAtom entries thread command before after
 
 of_entry : (entries : List Entry) (tied : AreTied entries) (thread command : ℕ) (q : Atom) (set : List Atom) (entry : Entry) → Contains entries entry →
-    demand thread command q entry ≡ Some set → Gives entries thread command set q
+    demand thread command q entry ≡ Some set → GivesAtom entries thread command set q
 of_entry entries tied thread command q set (OfTriple t) c e = demanded_given entries thread command q t set (tied (OfTriple t) c) c e
 of_entry entries tied thread command q set (OfInitial i) c e = absurd (let none_such : ⊥ = cc in none_such)
 
@@ -35,7 +35,7 @@ demand_of entries tied atoms thread command set h =
     record { after = w.0; within = w.1; gives = of_entry entries tied thread command w.0 set v.0 v.1 v.2 }
 
 -- the threads of a renamed triple are the mover and those of its post
-image_in : (entries : List Entry) (tied : AreTied entries) (thread command : ℕ) (before : List Atom) (after : Atom) (g : Gives entries thread command before after)
+image_in : (entries : List Entry) (tied : AreTied entries) (thread command : ℕ) (before : List Atom) (after : Atom) (g : GivesAtom entries thread command before after)
     (s : ℕ) → Contains (threads_in g.triple) s → Contains (thread ∷ after.threads) (g.by.new s)
 image_in entries tied thread command before after g s h = elim (given_threads entries thread command before after g (tied (OfTriple g.triple) g.listed) s h) [
   | inl is ↦ subst (λ (x : ℕ). Contains (thread ∷ after.threads) x) is (here thread after.threads)
@@ -43,7 +43,7 @@ image_in entries tied thread command before after g s h = elim (given_threads en
 ]
 
 -- each thread of an atom before is the mover or one of the atom after
-pub before_threads : (entries : List Entry) → AreTied entries → (thread command : ℕ) (before : List Atom) (after : Atom) → Gives entries thread command before after →
+pub before_threads : (entries : List Entry) → AreTied entries → (thread command : ℕ) (before : List Atom) (after : Atom) → GivesAtom entries thread command before after →
     (p : Atom) → Contains before p → (s : ℕ) → Contains p.threads s → Contains (thread ∷ after.threads) s
 before_threads entries tied thread command before after g p i s j =
     let w = from_mapped (renamed g.by.new) g.triple.pre p (subst (λ (qs : List Atom). Contains qs p) g.by.pre i) in
@@ -51,8 +51,8 @@ before_threads entries tied thread command before after g p i s j =
     subst (λ (x : ℕ). Contains (thread ∷ after.threads) x) v.2 (image_in entries tied thread command before after g v.0 (pre_threads g.triple w.0 v.0 w.1 v.1))
 
 -- what a triple gives it gives of renamed threads
-pub gives_renamed : (entries : List Entry) → AreTied entries → (thread command : ℕ) (before : List Atom) (after : Atom) → Gives entries thread command before after →
-    (f : ℕ → ℕ) (k : ℕ) → f thread ≡ k → IsInjectiveOn f (thread ∷ after.threads) → Gives entries k command (map (renamed f) before) (renamed f after)
+pub gives_renamed : (entries : List Entry) → AreTied entries → (thread command : ℕ) (before : List Atom) (after : Atom) → GivesAtom entries thread command before after →
+    (f : ℕ → ℕ) (k : ℕ) → f thread ≡ k → IsInjectiveOn f (thread ∷ after.threads) → GivesAtom entries k command (map (renamed f) before) (renamed f after)
 gives_renamed entries tied thread command before after g f k goes apart = record {
   triple = g.triple;
   listed = g.listed;

@@ -3,7 +3,7 @@ use Rattle.std.proofs.Common.{◌≡◌, refl, sym, ap, ap₂, ◌∙◌, subst,
 use Rattle.std.specs.Prelude.{slice_get, slice_index_or, Option, Some, None, option_map, unwrap_or, IsSome}
 use Rattle.std.specs.Option.{option_and_then}
 use Rattle.std.proofs.lemmas.List.Elements.{All-contains}
-use Rattle.ps_basis.specs.Feasible.{Runs, after_trace, HavocsFit as TraceHavocsFit}
+use Rattle.ps_basis.specs.Feasible.{Runs, after_trace, TraceHavocsFit}
 use Rattle.ps_command.specs.Commands.{ops_of}
 use Rattle.ps_command.specs.Run.{havocs_in, run_by}
 use Rattle.ps_command.specs.declared.command.Command.{Command}

@@ -8,7 +8,7 @@ use Rattle.ps_atom.specs.declared.atom.Atom.{Atom}
 use Rattle.ps_basis.specs.Examples.{bare, counter_entries}
 use Rattle.ps_basis.specs.Space.{IsPart}
 use Rattle.ps_config.specs.Configurations.{Configuration, IsAt, Covers}
-use Rattle.ps_config.specs.Forms.{start}
+use Rattle.ps_config.specs.Forms.{start_configuration}
 use Rattle.ps_graph.specs.Examples.Connections.{edge, counter_edges}
 use Rattle.ps_graph.specs.declared.edge.Edge.{Edge}
 use Rattle.ps_graph.specs.declared.graph.Graph.{Graph}
@@ -18,7 +18,7 @@ use Rattle.ps_step.specs.Examples.{IsCounterGraph, placed, asserting, entering}
 use Rattle.ps_step.specs.Steps.{IsDue, IsNowhere, IsMovedTo, HasOneInOnce, GoesBack, MeetsDemands, StandsBy, Stands, IsSmallest, IsAccepting}
 use Rattle.ps_step.specs.inner.Back.{moved_at}
 use Rattle.ps_step.proofs.Moved.{moved_at_is, pair_is}
-use Rattle.ps_triple.specs.Entries.{Gives, HasInitial}
+use Rattle.ps_triple.specs.Entries.{GivesAtom, HasInitial}
 use Rattle.ps_triple.specs.declared.entry.Entry.{Entry}
 use Rattle.ps_triple.specs.declared.entry.Entry.TheVariants.{Triple as OfTriple, Initial as OfInitial}
 use Rattle.ps_triple.specs.declared.initial.Initial.{Initial}
@@ -38,14 +38,14 @@ all_lead : All Leads counter_entries
 all_lead = All-from_recursion Leads counter_entries (refl, ((refl, refl), ((refl, refl), ((refl, refl), ((refl, refl), ((refl, refl), tt))))))
 
 -- each renamed triple has the one atom before that its command and its atom after say
-pub given : (thread command : ℕ) (a : List Atom) (q : Atom) → Gives counter_entries thread command a q → a ≡ bare (before command q.predicate) ∷ []
+pub given : (thread command : ℕ) (a : List Atom) (q : Atom) → GivesAtom counter_entries thread command a q → a ≡ bare (before command q.predicate) ∷ []
 given thread command a q g =
     let is : Leads (OfTriple g.triple) = All-contains Leads counter_entries (OfTriple g.triple) all_lead g.listed in
     g.by.pre ∙ (ap (λ (qs : List Atom). map (renamed g.by.new) qs) is.0
     ∙ ap₂ (λ (c p : ℕ). bare (before c p) ∷ []) g.same (ap (λ (r : Atom). r.predicate) (sym g.by.post)))
 
 -- each triple is one of any thread
-pub demanded : (thread : ℕ) (t : Triple) → Contains counter_entries (OfTriple t) → Gives counter_entries thread t.command (bare (before t.command t.post.predicate) ∷ []) t.post
+pub demanded : (thread : ℕ) (t : Triple) → Contains counter_entries (OfTriple t) → GivesAtom counter_entries thread t.command (bare (before t.command t.post.predicate) ∷ []) t.post
 demanded thread t listed =
     let is : Leads (OfTriple t) = All-contains Leads counter_entries (OfTriple t) all_lead listed in
     record {
@@ -137,7 +137,7 @@ abbrev first_location : List (ℕ × ℕ) → ℕ
 first_location [] = 0
 first_location (p ∷ ps) = p.1
 
-pub not_start : (location p : ℕ) → location ≢ 1 → placed ((0, location) ∷ []) (bare p ∷ []) ≢ start
+pub not_start : (location p : ℕ) → location ≢ 1 → placed ((0, location) ∷ []) (bare p ∷ []) ≢ start_configuration
 not_start location p other e = other (ap (λ (c : Configuration). first_location c.at) e)
 
 pub edge_cases : (n : ℕ) (e : Edge) → slice_get counter_edges n ≡ Some e → (edge 0 3 0 ≡ e) ⊎ (edge 3 2 1 ≡ e) ⊎ (edge 3 1 2 ≡ e)

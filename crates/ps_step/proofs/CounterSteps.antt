@@ -4,7 +4,7 @@ use Rattle.std.specs.Prelude.{slice_get}
 use Rattle.ps_atom.specs.declared.atom.Atom.{Atom}
 use Rattle.ps_basis.specs.Examples.{bare, counter_entries}
 use Rattle.ps_config.specs.Configurations.{Configuration, IsAt, Covers}
-use Rattle.ps_config.specs.Forms.{start}
+use Rattle.ps_config.specs.Forms.{start_configuration}
 use Rattle.ps_graph.specs.Examples.Connections.{edge, counter_edges}
 use Rattle.ps_graph.specs.Facts.{owner_of}
 use Rattle.ps_graph.specs.declared.edge.Edge.{Edge}
@@ -49,16 +49,16 @@ by_another graph is p source target command atoms other =
 pub from_start : FromStart
 from_start graph is = (
   smallest None graph is ((0, 1) ∷ []) ((0, 3) ∷ []) finds 3 1 2 0 refl has_finds
-      (goes None graph is start (edge 3 1 2) 0 (bare 1 ∷ []) (inl (refl, refl, refl)) (inl (here (0, 1) [])) (any_number None graph is refl asserting)),
-  λ thread to s. elim (stands_by None graph is start to 0 thread (edge 0 3 0) refl s).goes.due [
+      (goes None graph is start_configuration (edge 3 1 2) 0 (bare 1 ∷ []) (inl (refl, refl, refl)) (inl (here (0, 1) [])) (any_number None graph is refl asserting)),
+  λ thread to s. elim (stands_by None graph is start_configuration to 0 thread (edge 0 3 0) refl s).goes.due [
     | inl first ↦ three_not_one first.1
     | inr other ↦ other.0 refl
   ],
-  λ thread to other s. elim (stands_by None graph is start to 2 thread (edge 3 1 2) refl s).goes.due [
+  λ thread to other s. elim (stands_by None graph is start_configuration to 2 thread (edge 3 1 2) refl s).goes.due [
     | inl first ↦ other first.2
     | inr elsewhere ↦ elsewhere.0 refl
   ],
-  λ at s. nothing (bare 1) (demand_met ((0, 1) ∷ []) finds 0 (placed at []) has_finds (stands_by None graph is start (placed at []) 2 0 (edge 3 1 2) refl s).meets),
+  λ at s. nothing (bare 1) (demand_met ((0, 1) ∷ []) finds 0 (placed at []) has_finds (stands_by None graph is start_configuration (placed at []) 2 0 (edge 3 1 2) refl s).meets),
 )
 
 into_error : (graph : Graph) → IsCounterGraph None graph → (location p thread : ℕ) (to : Configuration) → location ≢ 1 → ¬ Stands graph counter_entries (placed ((0, location) ∷ []) (bare p ∷ [])) 2 thread to
@@ -167,7 +167,7 @@ by_entering to c = (entering, there asserting (entering ∷ []) entering (here e
 moved : (graph : Graph) (from to : Configuration) (e : Edge) (thread : ℕ) → StandsBy graph counter_entries from e thread to → IsAt to thread e.source
 moved graph from to e thread s = (s.goes.is thread e.source).1 (inl (refl, refl))
 
-after_first : (graph : Graph) (e : Edge) (thread : ℕ) (to : Configuration) → (edge 0 3 0 ≡ e) ⊎ (edge 3 2 1 ≡ e) ⊎ (edge 3 1 2 ≡ e) → StandsBy graph counter_entries start e thread to → IsCovered both_of to
+after_first : (graph : Graph) (e : Edge) (thread : ℕ) (to : Configuration) → (edge 0 3 0 ≡ e) ⊎ (edge 3 2 1 ≡ e) ⊎ (edge 3 1 2 ≡ e) → StandsBy graph counter_entries start_configuration e thread to → IsCovered both_of to
 after_first graph e thread to (inl is) s = elim s.goes.due [
   | inl first ↦ absurd (three_not_one (ap (λ (f : Edge). f.target) is ∙ first.1))
   | inr other ↦ absurd (other.0 refl)
@@ -177,8 +177,8 @@ after_first graph e thread to (inr (inl is)) s = elim s.goes.due [
   | inr other ↦ absurd (other.0 refl)
 ]
 after_first graph e thread to (inr (inr is)) s =
-    let t : StandsBy graph counter_entries start (edge 3 1 2) thread to = subst (λ (f : Edge). StandsBy graph counter_entries start f thread to) (sym is) s in
-    by_asserting to (one_covers 3 1 to thread (moved graph start to (edge 3 1 2) thread t) (demand_met ((0, 1) ∷ []) finds thread to has_finds t.meets))
+    let t : StandsBy graph counter_entries start_configuration (edge 3 1 2) thread to = subst (λ (f : Edge). StandsBy graph counter_entries start_configuration f thread to) (sym is) s in
+    by_asserting to (one_covers 3 1 to thread (moved graph start_configuration to (edge 3 1 2) thread t) (demand_met ((0, 1) ∷ []) finds thread to has_finds t.meets))
 
 from_error : (graph : Graph) (location p thread : ℕ) (e : Edge) (to : Configuration) → location ≢ 1 → edge 3 1 2 ≡ e → ¬ StandsBy graph counter_entries (placed ((0, location) ∷ []) (bare p ∷ [])) e thread to
 from_error graph location p thread e to other is s = elim s.goes.due [

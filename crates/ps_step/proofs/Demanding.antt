@@ -14,7 +14,7 @@ use Rattle.ps_config.proofs.Sent.{sent_image}
 use Rattle.ps_triple.specs.declared.triple.Triple.{Triple}
 use Rattle.ps_triple.specs.declared.entry.Entry.{Entry}
 use Rattle.ps_triple.specs.declared.entry.Entry.TheVariants.{Triple as OfTriple, Initial as OfInitial}
-use Rattle.ps_triple.specs.Entries.{Gives, threads_in, threads_of}
+use Rattle.ps_triple.specs.Entries.{GivesAtom, threads_in, threads_of}
 use Rattle.ps_triple.specs.Tests.{IsTied, IsTiedTo}
 use Rattle.ps_step.specs.Steps.{AreTied, MeetsDemands}
 use Rattle.ps_step.specs.inner.Demands.{is_renaming, demand, demands, MeetsSet, HitsAll}
@@ -86,7 +86,7 @@ renamed_demanded thread command q t new tied apart runs same post =
     same (sym (ap (λ (a : Atom). a.predicate) post)) (λ s u hs hu. apart s u (post_threads t s hs) (post_threads t u hu)) tied
 
 -- what is demanded is the pre of a renamed triple
-pub demanded_given : (entries : List Entry) (thread command : ℕ) (q : Atom) (t : Triple) (set : List Atom) → IsTied t → Contains entries (OfTriple t) → demand thread command q (OfTriple t) ≡ Some set → Gives entries thread command set q
+pub demanded_given : (entries : List Entry) (thread command : ℕ) (q : Atom) (t : Triple) (set : List Atom) → IsTied t → Contains entries (OfTriple t) → demand thread command q (OfTriple t) ≡ Some set → GivesAtom entries thread command set q
 demanded_given entries thread command q t set tied listed e =
     let ss : List ℕ = 0 ∷ t.post.threads in
     let us : List ℕ = thread ∷ q.threads in

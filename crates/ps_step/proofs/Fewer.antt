@@ -4,11 +4,11 @@ use Rattle.ps_atom.specs.declared.atom.Atom.{Atom}
 use Rattle.ps_config.specs.Configurations.{Configuration}
 use Rattle.ps_graph.specs.declared.graph.Graph.{Graph}
 use Rattle.ps_step.specs.Steps.{Stands}
-use Rattle.ps_triple.specs.Entries.{Gives}
+use Rattle.ps_triple.specs.Entries.{GivesAtom}
 use Rattle.ps_triple.specs.declared.entry.Entry.{Entry}
 use Rattle.ps_triple.specs.declared.entry.Entry.TheVariants.{Triple as OfTriple}
 
-gives_more : (some all : List Entry) → ((entry : Entry) → Contains some entry → Contains all entry) → (thread command : ℕ) (a : List Atom) (q : Atom) → Gives some thread command a q → Gives all thread command a q
+gives_more : (some all : List Entry) → ((entry : Entry) → Contains some entry → Contains all entry) → (thread command : ℕ) (a : List Atom) (q : Atom) → GivesAtom some thread command a q → GivesAtom all thread command a q
 gives_more some all h thread command a q g = record { triple = g.triple; listed = h (OfTriple g.triple) g.listed; same = g.same; by = g.by }
 
 pub stands_less : (graph : Graph) (some all : List Entry) (from to : Configuration) (number thread : ℕ) → ((entry : Entry) → Contains some entry → Contains all entry) →

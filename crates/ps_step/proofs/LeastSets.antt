@@ -12,7 +12,7 @@ use Rattle.std.proofs.lemmas.Map.Keys.{sorted_from_strictly_increasing}
 use Rattle.ps_atom.specs.Atoms.{atom_cmp}
 use Rattle.ps_atom.specs.declared.atom.Atom.{Atom}
 use Rattle.ps_hit.specs.Answer.{HasMore}
-use Rattle.ps_hit.specs.Hitting.{IsListed}
+use Rattle.ps_hit.specs.Hitting.{IsListedHit}
 use Rattle.ps_list.proofs.Members.{here, there}
 use Rattle.ps_config.proofs.Lists.{mapped, from_mapped}
 use Rattle.ps_step.specs.inner.Demands.{IsLeastHit}
@@ -21,8 +21,8 @@ use Rattle.ps_step.proofs.Numbered.{hit_within, listed_least, least_listed, name
 use Rattle.ps_step.specs.inner.Found.{AreLeast, AreAllLeast}
 use Rattle.ps_step.specs.inner.Pools.{HasEach, AreWithin, lists_of}
 
-pub listed_within : (pool : List Atom) (demands : List (List Atom)) (sets hits : List (List ℕ)) → IsNumbered pool demands sets → Each (IsListed sets) hits → (hit : List ℕ) → Contains hits hit → AreWithin pool hit
-listed_within pool demands sets hits is all hit c = hit_within pool demands sets hit is (All-contains (IsListed sets) hits hit all c).is_minimal
+pub listed_within : (pool : List Atom) (demands : List (List Atom)) (sets hits : List (List ℕ)) → IsNumbered pool demands sets → Each (IsListedHit sets) hits → (hit : List ℕ) → Contains hits hit → AreWithin pool hit
+listed_within pool demands sets hits is all hit c = hit_within pool demands sets hit is (All-contains (IsListedHit sets) hits hit all c).is_minimal
 
 each_named : (pool : List Atom) → IsStrictlySortedBy atom_cmp pool → (h : List ℕ) (hs : List (List ℕ)) → AreWithin pool h → ((k : List ℕ) → Contains hs k → AreWithin pool k) → AllByRecursion (λ y. slice_cmp nat_cmp h y ≡ Less) hs
     → AllByRecursion (λ y. slice_cmp atom_cmp (named pool h) y ≡ Less) (map (named pool) hs)
@@ -34,16 +34,16 @@ unfolding IsStrictlySortedBy
 named_ordered pool up [] ws a = tt
 named_ordered pool up (h ∷ hs) ws a = (each_named pool up h hs (ws h (here h hs)) (λ k c. ws k (there h hs k c)) a.0, named_ordered pool up hs (λ k c. ws k (there h hs k c)) a.1)
 
-pub are_least : (pool : List Atom) (demands : List (List Atom)) (sets hits : List (List ℕ)) → IsNumbered pool demands sets → Each (IsListed sets) hits → IsStrictlySortedBy (slice_cmp nat_cmp) hits → AreLeast demands (map (named pool) hits)
+pub are_least : (pool : List Atom) (demands : List (List Atom)) (sets hits : List (List ℕ)) → IsNumbered pool demands sets → Each (IsListedHit sets) hits → IsStrictlySortedBy (slice_cmp nat_cmp) hits → AreLeast demands (map (named pool) hits)
 are_least pool demands sets hits is all up = record {
-  least = λ atoms c. (let w = from_mapped (named pool) hits atoms c in subst (λ (xs : List Atom). IsLeastHit demands xs) w.2 (listed_least pool demands sets w.0 is (All-contains (IsListed sets) hits w.0 all w.1)));
+  least = λ atoms c. (let w = from_mapped (named pool) hits atoms c in subst (λ (xs : List Atom). IsLeastHit demands xs) w.2 (listed_least pool demands sets w.0 is (All-contains (IsListedHit sets) hits w.0 all w.1)));
   ascend = λ atoms c. (let w = from_mapped (named pool) hits atoms c in
-      let listed = All-contains (IsListed sets) hits w.0 all w.1 in
+      let listed = All-contains (IsListedHit sets) hits w.0 all w.1 in
       subst (λ (xs : List Atom). IsStrictlySortedBy atom_cmp xs) w.2 (named_ascend pool is.ascends w.0 (listed_within pool demands sets hits is all w.0 w.1) (sorted_from_strictly_increasing w.0 listed.ascends)));
   ordered = named_ordered pool is.ascends hits (listed_within pool demands sets hits is all) up;
 }
 
-pub are_all : (pool : List Atom) (demands : List (List Atom)) (sets hits : List (List ℕ)) → IsNumbered pool demands sets → ((hit : List ℕ) → IsListed sets hit → Contains hits hit) → AreAllLeast demands (map (named pool) hits)
+pub are_all : (pool : List Atom) (demands : List (List Atom)) (sets hits : List (List ℕ)) → IsNumbered pool demands sets → ((hit : List ℕ) → IsListedHit sets hit → Contains hits hit) → AreAllLeast demands (map (named pool) hits)
 are_all pool demands sets hits is every atoms least =
     let w = least_listed pool demands sets atoms is least in
     (named pool w.0, mapped (named pool) hits w.0 (every w.0 w.1), w.3, w.2)
@@ -67,8 +67,8 @@ moved_numbers {A} {B} p p' s s' n n' d ep es ed en is =
     (subst (λ (x : List (Vec Atom A)). IsNumbered p' (lists_of x) (lists_of n)) es
     (subst (λ (x : List Atom). IsNumbered x (lists_of s) (lists_of n)) ep is)))
 
-pub found_all : {A : Type 0} (pool pool' : List Atom) (demands : List (List Atom)) (sets hits hits' : List (List ℕ)) (list : List (Vec Atom A)) (most : ℕ) → IsNumbered pool demands sets → Each (IsListed sets) hits
-    → ((hit : List ℕ) → IsListed sets hit → Contains hits hit) → IsStrictlySortedBy (slice_cmp nat_cmp) hits → length hits ≤ most → pool' ≡ pool → hits' ≡ hits → lists_of list ≡ map (named pool') hits'
+pub found_all : {A : Type 0} (pool pool' : List Atom) (demands : List (List Atom)) (sets hits hits' : List (List ℕ)) (list : List (Vec Atom A)) (most : ℕ) → IsNumbered pool demands sets → Each (IsListedHit sets) hits
+    → ((hit : List ℕ) → IsListedHit sets hit → Contains hits hit) → IsStrictlySortedBy (slice_cmp nat_cmp) hits → length hits ≤ most → pool' ≡ pool → hits' ≡ hits → lists_of list ≡ map (named pool') hits'
     → AreLeast demands (lists_of list) × AreAllLeast demands (lists_of list) × (length (lists_of list) ≤ most)
 found_all pool pool' demands sets hits hits' list most is all every up few ep eh e =
     let same : lists_of list ≡ map (named pool) hits = e ∙ (ap (λ (p : List Atom). map (named p) hits') ep ∙ ap (map (named pool)) eh) in

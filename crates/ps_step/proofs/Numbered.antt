@@ -16,7 +16,7 @@ use Rattle.std.proofs.lemmas.Map.Keys.{Less-from_sorted, IsStrictlyIncreasing-fr
 use Rattle.std.proofs.lemmas.Map.Lookups.{exact_bytes, exact_unsigned}
 use Rattle.ps_atom.specs.Atoms.{atom_cmp}
 use Rattle.ps_atom.specs.declared.atom.Atom.{Atom}
-use Rattle.ps_hit.specs.Hitting.{Meets, IsHit, IsMinimalHit, IsListed}
+use Rattle.ps_hit.specs.Hitting.{Meets, IsHit, IsMinimalHit, IsListedHit}
 use Rattle.ps_hit.proofs.Critical.{critical}
 use Rattle.ps_list.proofs.Members.{nothing, cons_cases, here, there}
 use Rattle.ps_config.proofs.Lists.{mapped, from_mapped, kept, from_kept}
@@ -171,7 +171,7 @@ pub hit_within : (pool : List Atom) (demands : List (List Atom)) (sets : List (L
 hit_within pool demands sets hit is minimal n h = (let c = critical sets hit minimal n h in is.within c.set n c.listed c.has)
 
 -- a listed set of places is a least set of atoms
-pub listed_least : (pool : List Atom) (demands : List (List Atom)) (sets : List (List ℕ)) (hit : List ℕ) → IsNumbered pool demands sets → IsListed sets hit → IsLeastHit demands (named pool hit)
+pub listed_least : (pool : List Atom) (demands : List (List Atom)) (sets : List (List ℕ)) (hit : List ℕ) → IsNumbered pool demands sets → IsListedHit sets hit → IsLeastHit demands (named pool hit)
 listed_least pool demands sets hit is listed = record {
   hits = hit_named pool demands sets hit is (each_hit sets hit listed.is_minimal.hits);
   least = λ few sub h.
@@ -194,7 +194,7 @@ listed_least pool demands sets hit is listed = record {
 }
 
 -- the list says so of numbers
-listed_of : (sets : List (List ℕ)) (hit : List ℕ) → IsStrictlyIncreasing hit → IsLeastHit sets hit → IsListed sets hit
+listed_of : (sets : List (List ℕ)) (hit : List ℕ) → IsStrictlyIncreasing hit → IsLeastHit sets hit → IsListedHit sets hit
 listed_of sets hit up least = record {
   is_minimal = record { hits = all_hit sets hit least.hits; minimal = λ part strict h. strict.1 (least.least part strict.0 (each_hit sets part h)) };
   ascends = up;
@@ -202,14 +202,14 @@ listed_of sets hit up least = record {
 
 -- what hits has a listed set among its atoms
 pub hit_has_listed : (pool : List Atom) (demands : List (List Atom)) (sets : List (List ℕ)) (xs : List Atom) → IsNumbered pool demands sets → HitsAll demands xs
-    → (hit : List ℕ) × IsListed sets hit × ((q : Atom) → Contains (named pool hit) q → Contains xs q)
+    → (hit : List ℕ) × IsListedHit sets hit × ((q : Atom) → Contains (named pool hit) q → Contains xs q)
 hit_has_listed pool demands sets xs is h =
     let w = least_of cases_eq IsStrictlyIncreasing IsStrictlyIncreasing-filter sets (places pool xs) (places_rise pool xs) (places_hit pool demands sets xs is h) in
     (w.0, listed_of sets w.0 w.1 w.2, λ q c. (let v = of_named pool w.0 q c in subst (λ (r : Atom). Contains xs r) v.2 (of_place pool xs v.0 (w.3 v.0 v.1))))
 
 -- a least set of atoms is a listed one
 pub least_listed : (pool : List Atom) (demands : List (List Atom)) (sets : List (List ℕ)) (xs : List Atom) → IsNumbered pool demands sets → IsLeastHit demands xs
-    → (hit : List ℕ) × IsListed sets hit × ((q : Atom) → Contains (named pool hit) q → Contains xs q) × ((q : Atom) → Contains xs q → Contains (named pool hit) q)
+    → (hit : List ℕ) × IsListedHit sets hit × ((q : Atom) → Contains (named pool hit) q → Contains xs q) × ((q : Atom) → Contains xs q → Contains (named pool hit) q)
 least_listed pool demands sets xs is least =
     let w = hit_has_listed pool demands sets xs is least.hits in
     (w.0, w.1, w.2, least.least (named pool w.0) w.2 (listed_least pool demands sets w.0 is w.1).hits)

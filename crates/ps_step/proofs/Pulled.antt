@@ -16,10 +16,10 @@ use Rattle.ps_graph.specs.declared.graph.Graph.{Graph}
 use Rattle.ps_triple.specs.declared.triple.Triple.{Triple}
 use Rattle.ps_triple.specs.declared.entry.Entry.{Entry}
 use Rattle.ps_triple.specs.declared.entry.Entry.TheVariants.{Triple as OfTriple, Initial as OfInitial}
-use Rattle.ps_triple.specs.Entries.{Gives, threads_in}
+use Rattle.ps_triple.specs.Entries.{GivesAtom, threads_in}
 use Rattle.ps_triple.specs.Tests.{IsTied}
 use Rattle.ps_step.specs.inner.Back.{moved_at}
-use Rattle.ps_config.specs.Forms.{start}
+use Rattle.ps_config.specs.Forms.{start_configuration}
 use Rattle.ps_step.specs.Steps.{AreTied, IsDue, IsOfOnce, GoesBack, MeetsDemands, StandsBy, Stands}
 use Rattle.ps_step.proofs.Moved.{moved_at_is}
 use Rattle.ps_step.proofs.Picked.{twice_all}
@@ -147,7 +147,7 @@ goes_taken f inverse atoms q h c =
     (mapped (renamed inverse) (filter (λ (q : Atom). fixes (λ u. f (inverse u)) q.threads) atoms) (renamed f q) (kept (λ (q : Atom). fixes (λ u. f (inverse u)) q.threads) atoms (renamed f q) c stays))
 
 -- the threads of a renamed triple are the mover or those of its post
-pub given_threads : (entries : List Entry) (thread command : ℕ) (a : List Atom) (q : Atom) (g : Gives entries thread command a q) → IsTied g.triple
+pub given_threads : (entries : List Entry) (thread command : ℕ) (a : List Atom) (q : Atom) (g : GivesAtom entries thread command a q) → IsTied g.triple
     → (s : ℕ) → Contains (threads_in g.triple) s → (thread ≡ g.by.new s) ⊎ Contains q.threads (g.by.new s)
 given_threads entries thread command a q g tied s h = elim (cons_cases 0 g.triple.post.threads s (tied_threads g.triple tied s h)) [
   | inl zero_is ↦ inl (sym g.by.runs ∙ ap g.by.new zero_is)
@@ -234,7 +234,7 @@ pulled_back graph entries small large to new edge k mover tied e s due was is =
 
 fresh_due : (from : Configuration) (edge : Edge) (k fresh : ℕ) → (¬ Contains (threads_at from) k) → IsDue from edge k → IsDue from edge fresh
 fresh_due from edge k fresh new (inl first) =
-    absurd (new (subst (λ (c : Configuration). Contains (threads_at c) k) (sym first.0) (subst (λ (x : ℕ). Contains (threads_at start) x) (sym first.2) (here 0 []))))
+    absurd (new (subst (λ (c : Configuration). Contains (threads_at c) k) (sym first.0) (subst (λ (x : ℕ). Contains (threads_at start_configuration) x) (sym first.2) (here 0 []))))
 fresh_due from edge k fresh new (inr other) = inr other
 
 -- what stands by a thread that doesn't occur covers one that stands by any other that doesn't

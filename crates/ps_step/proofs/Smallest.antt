@@ -3,7 +3,7 @@ use Rattle.std.proofs.Common.{◌≡◌, ◌≢◌, ℕ, List, [], ◌∷◌, ma
 use Rattle.std.specs.Prelude.{slice_get, Option, Some}
 use Rattle.std.proofs.lemmas.Option.{same_Some}
 use Rattle.ps_atom.specs.declared.atom.Atom.{Atom}
-use Rattle.ps_hit.specs.Hitting.{IsListed}
+use Rattle.ps_hit.specs.Hitting.{IsListedHit}
 use Rattle.ps_config.specs.Configurations.{Configuration, IsAt, threads_at, Covers}
 use Rattle.ps_config.proofs.Covering.{covers_more, covers_twice}
 use Rattle.ps_graph.specs.declared.edge.Edge.{Edge}
@@ -79,7 +79,7 @@ covered_by_smallest graph entries from to number thread fresh tied free s =
 
 pub listed_smallest : (graph : Graph) (entries : List Entry) (from : Configuration) (edge : Edge) (number thread : ℕ) (pool : List Atom) (sets : List (List ℕ)) (hit : List ℕ) → AreTied entries
     → slice_get graph.edges number ≡ Some edge → GoesBack graph from edge thread (stepped_to from edge thread pool [])
-    → IsNumbered pool (demands entries from.atoms thread edge.command) sets → IsListed sets hit → IsSmallest graph entries from number thread (stepped_to from edge thread pool hit)
+    → IsNumbered pool (demands entries from.atoms thread edge.command) sets → IsListedHit sets hit → IsSmallest graph entries from number thread (stepped_to from edge thread pool hit)
 listed_smallest graph entries from edge number thread pool sets hit tied is goes numbered listed =
     least_smallest graph entries from (stepped_to from edge thread pool hit) edge number thread tied is
     (goes_same graph from (stepped_to from edge thread pool []) (stepped_to from edge thread pool hit) edge thread (λ t l h. h) (λ t l h. h) goes)
@@ -87,7 +87,7 @@ listed_smallest graph entries from edge number thread pool sets hit tied is goes
 
 pub smallest_listed : (graph : Graph) (entries : List Entry) (from to : Configuration) (edge : Edge) (number thread : ℕ) (pool : List Atom) (sets : List (List ℕ)) → AreTied entries
     → slice_get graph.edges number ≡ Some edge → IsNumbered pool (demands entries from.atoms thread edge.command) sets → IsSmallest graph entries from number thread to
-    → GoesBack graph from edge thread (stepped_to from edge thread pool []) × ((hit : List ℕ) × IsListed sets hit × IsSame (stepped_to from edge thread pool hit) to)
+    → GoesBack graph from edge thread (stepped_to from edge thread pool []) × ((hit : List ℕ) × IsListedHit sets hit × IsSame (stepped_to from edge thread pool hit) to)
 smallest_listed graph entries from to edge number thread pool sets tied is numbered s =
     let same : s.stands.edge ≡ edge = same_Some s.stands.edge edge (sym s.stands.is_edge ∙ is) in
     let goes : GoesBack graph from edge thread to = subst (λ (e : Edge). GoesBack graph from e thread to) same s.stands.stands.goes in

@@ -14,7 +14,7 @@ use Rattle.std.proofs.lemmas.Option.{same_Some, slice_get_read}
 use Rattle.ps_atom.specs.Atoms.{atom_cmp}
 use Rattle.ps_atom.specs.declared.atom.Atom.{Atom}
 use Rattle.ps_config.specs.Configurations.{Configuration, IsAt}
-use Rattle.ps_config.specs.Forms.{AreThreads, HasThreads}
+use Rattle.ps_config.specs.Forms.{AreThreads, HasThreadCount}
 use Rattle.ps_config.specs.declared.config.TheConstants.{MOST_ATOMS, MOST_THREADS}
 use Rattle.ps_config.specs.declared.wide.WideName.{WideName}
 use Rattle.ps_config.specs.declared.wide.WideName.TheVariants.{Sets, Atoms, Threads}
@@ -49,7 +49,7 @@ abbrev by_atoms : Configuration → Configuration → Ordering
 by_atoms a b = slice_cmp atom_cmp a.atoms b.atoms
 
 -- so many threads is no more than so many
-count_le : (c : Configuration) (m n : ℕ) → HasThreads c m → HasThreads c n → n ≤ m
+count_le : (c : Configuration) (m n : ℕ) → HasThreadCount c m → HasThreadCount c n → n ≤ m
 count_le c m n hm hn =
     let le : length hn.0 ≤ length hm.0 = no_longer hn.0 hm.0 (once_ascending hn.0 hn.1.ascend) (λ t h. (hm.1.occurring t).1 ((hn.1.occurring t).0 h)) in
     omega (arith, le, hm.2, hn.2)
@@ -135,9 +135,9 @@ module _ (graph : Graph) (entries : List Entry) (from : Configuration) (edge : E
     atoms_within : (sets : List (List Atom)) → AreAllOf wanted sets → IsFirstOver MOST_ATOMS HasLength sets None → (to : Configuration) → IsWritten graph entries from number thread to → length to.atoms ≤ MOST_ATOMS
     atoms_within sets all within to w = (let n = within to.atoms (written_in sets all to w) in subst (λ (k : ℕ). k ≤ MOST_ATOMS) (sym n.1) n.2)
 
-    threads_within : (list : List (List Atom)) (c : Configuration) (n : ℕ) → c.at ≡ at → ((m : ℕ) × HasThreadsWith at c.atoms m × (m ≤ MOST_THREADS)) → HasThreads c n → n ≤ MOST_THREADS
+    threads_within : (list : List (List Atom)) (c : Configuration) (n : ℕ) → c.at ≡ at → ((m : ℕ) × HasThreadsWith at c.atoms m × (m ≤ MOST_THREADS)) → HasThreadCount c n → n ≤ MOST_THREADS
     threads_within list c n is_at found has =
-        let there_are : HasThreads c found.0 = subst (λ (ps : List (ℕ × ℕ)). HasThreads (record { at = ps; atoms = c.atoms }) found.0) (sym is_at) found.1 in
+        let there_are : HasThreadCount c found.0 = subst (λ (ps : List (ℕ × ℕ)). HasThreadCount (record { at = ps; atoms = c.atoms }) found.0) (sym is_at) found.1 in
         let le : n ≤ found.0 = count_le c found.0 n there_are has in
         omega (arith, le, found.2)
 

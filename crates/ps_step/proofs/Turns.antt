@@ -14,7 +14,7 @@ use Rattle.std.proofs.lemmas.Option.{slice_get_within}
 use Rattle.ps_atom.specs.Atoms.{atom_cmp}
 use Rattle.ps_config.specs.Configurations.{Configuration, threads_at}
 use Rattle.ps_config.specs.Forms.{IsFresh}
-use Rattle.ps_config.specs.Next.{IsNext}
+use Rattle.ps_config.specs.Next.{IsNextThread}
 use Rattle.ps_config.specs.declared.wide.WideStep.{WideStep}
 use Rattle.ps_graph.specs.declared.graph.Graph.{Graph}
 use Rattle.ps_list.proofs.Members.{nothing, here, there}
@@ -144,7 +144,7 @@ module _ (graph : Graph) (entries : List Entry) (from : Configuration) (fresh : 
   pub no_thread : (number : ℕ) (old : List Successor) → AddsSteps graph entries from fresh (IsStepBelow from number 0) old old
   no_thread number old = adds_nothing (IsStepBelow from number 0) old (λ n k step. (let h : k < 0 = step.2 in let f : ⊥ = omega (arith, h) in f))
 
-  pub thread_more : (number at thread next : ℕ) (old mid new : List Successor) → IsFresh from fresh → IsNext (threads_at from) at (Some thread) → next ≡ thread + 1 →
+  pub thread_more : (number at thread next : ℕ) (old mid new : List Successor) → IsFresh from fresh → IsNextThread (threads_at from) at (Some thread) → next ≡ thread + 1 →
       AddsStep graph entries from number thread mid new → AddsSteps graph entries from fresh (IsStepBelow from number at) old mid → AddsSteps graph entries from fresh (IsStepBelow from number next) old new
   thread_more number at thread next old mid new is_fresh found is_next step done =
       adds_both (IsStepBelow from number at) (IsStep number thread) (IsStepBelow from number next) old mid new
@@ -163,7 +163,7 @@ module _ (graph : Graph) (entries : List Entry) (from : Configuration) (fresh : 
       ])
       done (as_steps number thread mid new step)
 
-  pub all_threads : (number at : ℕ) (old mid new : List Successor) → IsFresh from fresh → IsNext (threads_at from) at None →
+  pub all_threads : (number at : ℕ) (old mid new : List Successor) → IsFresh from fresh → IsNextThread (threads_at from) at None →
       AddsStep graph entries from number fresh mid new → AddsSteps graph entries from fresh (IsStepBelow from number at) old mid → AddsSteps graph entries from fresh (IsStepAlong from fresh number) old new
   all_threads number at old mid new is_fresh none step done =
       adds_both (IsStepBelow from number at) (IsStep number fresh) (IsStepAlong from fresh number) old mid new
@@ -175,7 +175,7 @@ module _ (graph : Graph) (entries : List Entry) (from : Configuration) (fresh : 
       done (as_steps number fresh mid new step)
 
   -- the first that is too wide, after those before it
-  pub wide_thread : (number at thread : ℕ) (old mid : List Successor) → IsFresh from fresh → IsNext (threads_at from) at (Some thread) → AddsSteps graph entries from fresh (IsStepBelow from number at) old mid →
+  pub wide_thread : (number at thread : ℕ) (old mid : List Successor) → IsFresh from fresh → IsNextThread (threads_at from) at (Some thread) → AddsSteps graph entries from fresh (IsStepBelow from number at) old mid →
       (w : WideStep) → IsWideAt graph entries from number thread w → IsFirstWideAt graph entries from fresh number w
   wide_thread number at thread old mid is_fresh found done w wide = record {
     edge = wide.0;
@@ -195,7 +195,7 @@ module _ (graph : Graph) (entries : List Entry) (from : Configuration) (fresh : 
         ];
   }
 
-  pub wide_fresh : (number at : ℕ) (old mid : List Successor) → IsFresh from fresh → IsNext (threads_at from) at None → AddsSteps graph entries from fresh (IsStepBelow from number at) old mid →
+  pub wide_fresh : (number at : ℕ) (old mid : List Successor) → IsFresh from fresh → IsNextThread (threads_at from) at None → AddsSteps graph entries from fresh (IsStepBelow from number at) old mid →
       (w : WideStep) → IsWideAt graph entries from number fresh w → IsFirstWideAt graph entries from fresh number w
   wide_fresh number at old mid is_fresh none done w wide = record {
     edge = wide.0;

@@ -5,7 +5,7 @@ use Rattle.ps_atom.specs.Range.{IsInRange}
 use Rattle.ps_atom.specs.declared.atom.Atom.{Atom}
 use Rattle.ps_atom.specs.declared.predicate.Predicate.{Predicate}
 use Rattle.ps_config.specs.Configurations.{Configuration, Covers, IsAt}
-use Rattle.ps_config.specs.Forms.{start}
+use Rattle.ps_config.specs.Forms.{start_configuration}
 use Rattle.ps_graph.specs.declared.graph.Graph.{Graph}
 use Rattle.ps_step.specs.Steps.{IsAccepting, Stands}
 use Rattle.ps_triple.specs.Faults.{EntryHolds}
@@ -19,7 +19,7 @@ IsCovered configurations to = (c : Configuration) × Contains configurations c �
 -- every configuration that is a step back from the start or from a listed one is covered by a listed one, and none of
 -- them is accepting
 pub record IsClosed (graph : Graph) (entries : List Entry) (configurations : List Configuration) : Type 0 where
-  pub first : (number thread : ℕ) (to : Configuration) → Stands graph entries start number thread to →
+  pub first : (number thread : ℕ) (to : Configuration) → Stands graph entries start_configuration number thread to →
       IsCovered configurations to
   pub next : (from : Configuration) → Contains configurations from → (number thread : ℕ) (to : Configuration) →
       Stands graph entries from number thread to → IsCovered configurations to

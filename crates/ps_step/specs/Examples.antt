@@ -5,7 +5,7 @@ use Rattle.std.specs.Prelude.{◌≡◌, ◌≢◌, ℕ, List, [], ◌∷◌, Co
 use Rattle.ps_atom.specs.declared.atom.Atom.{Atom}
 use Rattle.ps_basis.specs.Examples.{bare, counter_entries}
 use Rattle.ps_config.specs.Configurations.{Configuration}
-use Rattle.ps_config.specs.Forms.{start}
+use Rattle.ps_config.specs.Forms.{start_configuration}
 use Rattle.ps_graph.specs.Examples.Connections.{counter_edges}
 use Rattle.ps_graph.specs.declared.graph.Graph.{Graph}
 use Rattle.ps_step.specs.Closed.{IsClosed}
@@ -32,10 +32,10 @@ entering = placed ((0, 0) ∷ []) (bare 2 ∷ [])
 -- from the start, one step: along edge 2 by thread 0
 abbrev pub FromStart : Type 0
 FromStart = (graph : Graph) → IsCounterGraph None graph →
-    IsSmallest graph counter_entries start 2 0 asserting
-    × ((thread : ℕ) (to : Configuration) → ¬ Stands graph counter_entries start 0 thread to)
-    × ((thread : ℕ) (to : Configuration) → thread ≢ 0 → ¬ Stands graph counter_entries start 2 thread to)
-    × ((at : List (ℕ × ℕ)) → ¬ Stands graph counter_entries start 2 0 (placed at []))
+    IsSmallest graph counter_entries start_configuration 2 0 asserting
+    × ((thread : ℕ) (to : Configuration) → ¬ Stands graph counter_entries start_configuration 0 thread to)
+    × ((thread : ℕ) (to : Configuration) → thread ≢ 0 → ¬ Stands graph counter_entries start_configuration 2 thread to)
+    × ((at : List (ℕ × ℕ)) → ¬ Stands graph counter_entries start_configuration 2 0 (placed at []))
 
 -- from before the assertion: along edge 0 by the thread itself and by another one, along edge 1 by another one; not along
 -- edge 1 by the thread, which isn't at its target, and not into the error

@@ -3,11 +3,11 @@ use Rattle.std.specs.Prelude.{◌≡◌, ◌≢◌, ℕ, ◌⊎◌, ◌↔◌, L
 use Rattle.ps_atom.specs.declared.atom.Atom.{Atom}
 use Rattle.ps_basis.specs.Space.{IsPart}
 use Rattle.ps_config.specs.Configurations.{Configuration, IsAt}
-use Rattle.ps_config.specs.Forms.{start}
+use Rattle.ps_config.specs.Forms.{start_configuration}
 use Rattle.ps_graph.specs.Facts.{owner_of}
 use Rattle.ps_graph.specs.declared.edge.Edge.{Edge}
 use Rattle.ps_graph.specs.declared.graph.Graph.{Graph}
-use Rattle.ps_triple.specs.Entries.{Gives, HasInitial}
+use Rattle.ps_triple.specs.Entries.{GivesAtom, HasInitial}
 use Rattle.ps_triple.specs.Tests.{HasNoFreeThread}
 use Rattle.ps_triple.specs.declared.entry.Entry.{Entry}
 
@@ -22,7 +22,7 @@ HasOneInOnce graph c = (s t l m : ℕ) → IsAt c s l → IsAt c t m → IsOfOnc
 -- from the start, thread 0 goes back along an edge that enters the error; from elsewhere, any thread along any other
 abbrev pub IsDue : Configuration → Edge → ℕ → Type 0
 IsDue from edge thread =
-    ((from ≡ start) × (edge.target ≡ 1) × (thread ≡ 0)) ⊎ ((from ≢ start) × (edge.target ≢ 1))
+    ((from ≡ start_configuration) × (edge.target ≡ 1) × (thread ≡ 0)) ⊎ ((from ≢ start_configuration) × (edge.target ≢ 1))
 
 -- the thread has no location
 abbrev pub IsNowhere : Configuration → ℕ → Type 0
@@ -44,7 +44,7 @@ pub record GoesBack (graph : Graph) (from : Configuration) (edge : Edge) (thread
 -- before it is an atom of the second
 abbrev pub MeetsDemands : List Entry → Configuration → ℕ → ℕ → Configuration → Type 0
 MeetsDemands entries from thread command to = (q : Atom) (a : List Atom) → Contains from.atoms q →
-    Gives entries thread command a q → (p : Atom) × Contains a p × Contains to.atoms p
+    GivesAtom entries thread command a q → (p : Atom) × Contains a p × Contains to.atoms p
 
 -- the second configuration is a step back from the first, along this edge by this thread
 pub record StandsBy (graph : Graph) (entries : List Entry) (from : Configuration) (edge : Edge) (thread : ℕ) (to : Configuration) : Type 0 where

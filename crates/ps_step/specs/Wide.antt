@@ -5,7 +5,7 @@ use Rattle.std.specs.List.Sorted.{IsStrictlyIncreasing, IsStrictlySortedBy}
 use Rattle.std.specs.declared.cmp.Ordering.TheVariants.{Less}
 use Rattle.ps_atom.specs.Atoms.{atom_cmp}
 use Rattle.ps_config.specs.Configurations.{Configuration}
-use Rattle.ps_config.specs.Forms.{HasThreads}
+use Rattle.ps_config.specs.Forms.{HasThreadCount}
 use Rattle.ps_config.specs.declared.config.TheConstants.{MOST_ATOMS, MOST_THREADS}
 use Rattle.ps_config.specs.declared.wide.WideName.{WideName}
 use Rattle.ps_config.specs.declared.wide.WideName.TheVariants.{Sets, Atoms, Threads}
@@ -55,7 +55,7 @@ IsWideBy graph entries from number thread Atoms count =
 IsWideBy graph entries from number thread Threads count =
     (¬ HasMoreThan MOST_SETS graph entries from number thread)
     × ((to : Configuration) → IsWritten graph entries from number thread to → length to.atoms ≤ MOST_ATOMS)
-    × IsFirstAbove MOST_THREADS HasThreads graph entries from number thread count
+    × IsFirstAbove MOST_THREADS HasThreadCount graph entries from number thread count
 
 -- the step passes no limit
 abbrev pub IsNarrow : Graph → List Entry → Configuration → ℕ → ℕ → Type 0

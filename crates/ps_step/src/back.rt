@@ -1,7 +1,7 @@
 //! Whether a step goes back, and where its threads are then.
 ghost use Rattle.std.specs.Prelude.{◌≡◌, ◌↔◌, ◌++◌, ◌∷◌, [], ◌&&◌, ◌==◌, IfOk, IsTrue, OnOk, ltb, option_map};
 ghost use Rattle.std.specs.List.{filter, list_any};
-ghost use Rattle.ps_config.specs.Forms.{start};
+ghost use Rattle.ps_config.specs.Forms.{start_configuration};
 ghost use Rattle.ps_graph.specs.Facts.{owner_of};
 ghost use Rattle.ps_step.specs.Steps.{IsDue};
 ghost use Rattle.ps_step.specs.inner.Going.{IsStepTo, are_alone, is_alone, is_body, may_move, of_once};
@@ -24,7 +24,7 @@ pub(crate) fn is_due(config: &Config, edge: &Edge, thread: u32) -> bool
 }
 
 fn is_start(config: &Config) -> bool
-    ensures { IsTrue result ↔ (config.now ≡ start) }
+    ensures { IsTrue result ↔ (config.now ≡ start_configuration) }
 {
     if !is_only_place(config.at()) {
         return false;

@@ -18,11 +18,11 @@ use Rattle.ps_lines.specs.declared.form_fault.FormFault.{FormFault}
 use Rattle.ps_lines.specs.declared.form_end.FormEnd.{FormEnd}
 use Rattle.ps_lines.specs.declared.form_end.FormEnd.TheVariants.{Fault, Memory}
 use Rattle.ps_lines.proofs.Loop.{read_of, read_is}
-use Rattle.ps_lines.specs.Tokens.{Token, Field, after_blank}
+use Rattle.ps_lines.specs.Tokens.{Piece, Field, after_blank}
 use Rattle.std.proofs.lemmas.List.{append-nil}
 use Rattle.ps_lines.specs.Decimal.{counts_as_decimal, u32_of, i128_of}
 use Rattle.ps_lines.specs.Parts.{cut_at}
-use Rattle.ps_lines.specs.Reading.{At, Gives, Tells, leaf_at, list_at, integer}
+use Rattle.ps_lines.specs.Reading.{Position, Gives, Tells, leaf_at, list_at, integer}
 use Rattle.ps_lines.proofs.Bytes.{IsPlain, IsClean}
 use Rattle.ps_lines.proofs.Cutting.{cut_found, cut_again, decimal_free, signed_decimal_free, free_has_none, has_middle}
 use Rattle.ps_lines.proofs.Digits.{u32_is, u32_from, i128_is, i128_from}
@@ -30,8 +30,8 @@ use Rattle.ps_lines.proofs.Decimals.{decimal-of, decimal-is, signed_decimal-of, 
 use Rattle.ps_lines.proofs.Exact.{Finds, Gets, found_bind, found_end, gets_bind, gets_end, Exact, Always, leaf_exact}
 use Rattle.ps_lines.proofs.Forms.{IsMember, Chain, Stops, member_tokens, list_exact}
 use Rattle.ps_term_text.specs.declared.limits.TheConstants.{MOST_NUMBER}
-use Rattle.ps_term_text.specs.Spelling.{variable_text, VariableFits, pair_text, PairFits, term_fields, TermFits}
-use Rattle.ps_term_text.specs.Reading.{looks_local, looks_variable, in_range, number_of, local_of, variable_of, pair_of, ascends, ordered, pair_from, pair_after, has_star, term_at}
+use Rattle.ps_term_text.specs.Spelling.{variable_text, VariableHasSpelling, pair_text, PairHasSpelling, term_fields, TermHasSpelling}
+use Rattle.ps_term_text.specs.Reading.{looks_local, looks_variable, in_range, number_of, local_of, variable_in_field, pair_of, comes_after, ordered, pair_from, pair_after, has_star, term_at}
 
 -- ---- numbers of variables
 
@@ -54,35 +54,35 @@ option_map_some : {A B : Type 0} (g : A → B) (o : Option A) (y : B) → option
 option_map_some g None y e = absurd (none-some y e)
 option_map_some g (Some x) y e = (x, refl, same_Some (g x) y e)
 
-local_is : (f : List ℕ) (r : Option (List ℕ × List ℕ)) (x : Var) → ((parts : List ℕ × List ℕ) → r ≡ Some parts → f ≡ parts.0 ++ 64 ∷ parts.1) → local_of r ≡ Some x → (108 ∷ f ≡ variable_text x) × VariableFits x
+local_is : (f : List ℕ) (r : Option (List ℕ × List ℕ)) (x : Var) → ((parts : List ℕ × List ℕ) → r ≡ Some parts → f ≡ parts.0 ++ 64 ∷ parts.1) → local_of r ≡ Some x → (108 ∷ f ≡ variable_text x) × VariableHasSpelling x
 local_is f None x cut e = absurd (none-some x e)
 local_is f (Some parts) x cut e =
     option_and_then_some (λ n. option_map (λ s. Local s n) (number_of parts.1)) (number_of parts.0) x e (λ n first inner.
     let second = option_map_some (λ s. Local s n) (number_of parts.1) x inner in
     let p = number_is parts.0 n first in
     let q = number_is parts.1 second.0 second.1 in
-    subst (λ (y : Var). (108 ∷ f ≡ variable_text y) × VariableFits y) second.2
+    subst (λ (y : Var). (108 ∷ f ≡ variable_text y) × VariableHasSpelling y) second.2
     (ap (λ (r : List ℕ). 108 ∷ r) (cut parts refl ∙ ap (λ (r : List ℕ). r ++ 64 ∷ parts.1) p.0 ∙ ap (λ (r : List ℕ). decimal n ++ 64 ∷ r) q.0), (p.1, q.1)))
 
-variable_is_at : (b : ℕ) (bs : List ℕ) (x : Var) (t u : Bool) → eqb b 103 ≡ t → eqb b 108 ≡ u → (if t then counts_as_decimal bs else (if u then looks_local (cut_at 64 bs) else false)) ≡ true → (if t then option_map Global (number_of bs) else local_of (cut_at 64 bs)) ≡ Some x → (b ∷ bs ≡ variable_text x) × VariableFits x
+variable_is_at : (b : ℕ) (bs : List ℕ) (x : Var) (t u : Bool) → eqb b 103 ≡ t → eqb b 108 ≡ u → (if t then counts_as_decimal bs else (if u then looks_local (cut_at 64 bs) else false)) ≡ true → (if t then option_map Global (number_of bs) else local_of (cut_at 64 bs)) ≡ Some x → (b ∷ bs ≡ variable_text x) × VariableHasSpelling x
 variable_is_at b bs x true u global local looks e =
     let n = option_map_some Global (number_of bs) x e in
     let p = number_is bs n.0 n.1 in
-    subst (λ (y : Var). (b ∷ bs ≡ variable_text y) × VariableFits y) n.2 (ap (λ (c : ℕ). c ∷ bs) (eqb-true _ _ global) ∙ ap (λ (r : List ℕ). 103 ∷ r) p.0, p.1)
+    subst (λ (y : Var). (b ∷ bs ≡ variable_text y) × VariableHasSpelling y) n.2 (ap (λ (c : ℕ). c ∷ bs) (eqb-true _ _ global) ∙ ap (λ (r : List ℕ). 103 ∷ r) p.0, p.1)
 variable_is_at b bs x false true global local looks e =
     let p = local_is bs (cut_at 64 bs) x (λ parts h. cut_found 64 bs parts.0 parts.1 h) e in
     (ap (λ (c : ℕ). c ∷ bs) (eqb-true _ _ local) ∙ p.0, p.1)
 variable_is_at b bs x false false global local looks e = absurd cc
 
 -- what is read as a variable is spelled so
-pub variable_is : (f : List ℕ) (x : Var) → looks_variable f ≡ true → variable_of f ≡ Some x → (f ≡ variable_text x) × VariableFits x
+pub variable_is : (f : List ℕ) (x : Var) → looks_variable f ≡ true → variable_in_field f ≡ Some x → (f ≡ variable_text x) × VariableHasSpelling x
 variable_is [] x looks e = absurd cc
 variable_is (b ∷ bs) x looks e = variable_is_at b bs x (eqb b 103) (eqb b 108) refl refl looks e
 
 -- a variable's spelling is read as it
 pub record IsSpelled (x : Var) (f : List ℕ) : Type 0 where
   pub looks : looks_variable f ≡ true
-  pub is : variable_of f ≡ Some x
+  pub is : variable_in_field f ≡ Some x
   pub plain : IsPlain f
 
 plain_append : (xs ys : List ℕ) → IsPlain xs → IsPlain ys → IsPlain (xs ++ ys)
@@ -98,7 +98,7 @@ local_spelled s n ln ls =
       plain = (record { no_blank = refl; no_feed = refl }, plain_append (decimal n) (64 ∷ decimal s) (decimal_plain n (omega (arith, ln))) (record { no_blank = refl; no_feed = refl }, decimal_plain s (omega (arith, ls))));
     }
 
-pub variable_spelled : (x : Var) → VariableFits x → IsSpelled x (variable_text x)
+pub variable_spelled : (x : Var) → VariableHasSpelling x → IsSpelled x (variable_text x)
 variable_spelled (Global n) fit = record {
   looks = number_counts n fit;
   is = ap (option_map Global) (number_from n fit);
@@ -111,9 +111,9 @@ variable_spelled (Havoc n) fit = absurd fit
 
 -- a pair that may stand after the one before it
 pub record PairAfter (before : Option (Var × ℤ)) (p : Var × ℤ) : Type 0 where
-  pub fits : PairFits p
+  pub fits : PairHasSpelling p
   pub some : p.1 ≢ pos 0
-  pub above : ascends before p.0 ≡ true
+  pub above : comes_after before p.0 ≡ true
 
 abbrev done : Var × ℤ → Result (Var × ℤ) FormName
 done p = Ok p
@@ -125,9 +125,9 @@ done_is p q e = cc
 record Passed (before o : Option (Var × ℤ)) (p : Var × ℤ) : Type 0 where
   pub is : o ≡ Some p
   pub some : p.1 ≢ pos 0
-  pub above : ascends before p.0 ≡ true
+  pub above : comes_after before p.0 ≡ true
 
-passed_by_tests : (before : Option (Var × ℤ)) (q p : Var × ℤ) (t u : Bool) → int_eq q.1 (pos 0) ≡ t → ascends before q.0 ≡ u → (if t then Err name.Order else (if u then done q else Err name.Order)) ≡ done p → Passed before (Some q) p
+passed_by_tests : (before : Option (Var × ℤ)) (q p : Var × ℤ) (t u : Bool) → int_eq q.1 (pos 0) ≡ t → comes_after before q.0 ≡ u → (if t then Err name.Order else (if u then done q else Err name.Order)) ≡ done p → Passed before (Some q) p
 passed_by_tests before q p true u zero_test above e = absurd cc
 passed_by_tests before q p false false zero_test above e = absurd cc
 passed_by_tests before q p false true zero_test above e =
@@ -143,15 +143,15 @@ passed_by_tests before q p false true zero_test above e =
 
 ordered_is : (before o : Option (Var × ℤ)) (p : Var × ℤ) → ordered before o ≡ done p → Passed before o p
 ordered_is before None p e = absurd cc
-ordered_is before (Some q) p e = passed_by_tests before q p (int_eq q.1 (pos 0)) (ascends before q.0) refl refl e
+ordered_is before (Some q) p e = passed_by_tests before q p (int_eq q.1 (pos 0)) (comes_after before q.0) refl refl e
 
-pair_is : (parts : List ℕ × List ℕ) (p : Var × ℤ) → looks_variable parts.1 ≡ true → pair_of parts ≡ Some p → (parts.0 ≡ signed_decimal p.1) × (parts.1 ≡ variable_text p.0) × PairFits p
+pair_is : (parts : List ℕ × List ℕ) (p : Var × ℤ) → looks_variable parts.1 ≡ true → pair_of parts ≡ Some p → (parts.0 ≡ signed_decimal p.1) × (parts.1 ≡ variable_text p.0) × PairHasSpelling p
 pair_is parts p looks e =
-    option_and_then_some (λ c. option_map (λ x. (x, c)) (variable_of parts.1)) (i128_of parts.0) p e (λ c first inner.
-    let x = option_map_some (λ y. (y, c)) (variable_of parts.1) p inner in
+    option_and_then_some (λ c. option_map (λ x. (x, c)) (variable_in_field parts.1)) (i128_of parts.0) p e (λ c first inner.
+    let x = option_map_some (λ y. (y, c)) (variable_in_field parts.1) p inner in
     let number = i128_is parts.0 c first in
     let v = variable_is parts.1 x.0 looks x.1 in
-    subst (λ (q : Var × ℤ). (parts.0 ≡ signed_decimal q.1) × (parts.1 ≡ variable_text q.0) × PairFits q) x.2 (signed_decimal-of parts.0 c number.0 number.1, v.0, record { coefficient = number.0; variable = v.1 }))
+    subst (λ (q : Var × ℤ). (parts.0 ≡ signed_decimal q.1) × (parts.1 ≡ variable_text q.0) × PairHasSpelling q) x.2 (signed_decimal-of parts.0 c number.0 number.1, v.0, record { coefficient = number.0; variable = v.1 }))
 
 pair_found_parts : (before : Option (Var × ℤ)) (f : List ℕ) (parts : List ℕ × List ℕ) → f ≡ parts.0 ++ 42 ∷ parts.1 → (t : Bool) → (counts_as_decimal parts.0 && looks_variable parts.1) ≡ t → (r : Result (Var × ℤ) FormName) → ordered before (pair_of parts) ≡ r → IfOk (if t then r else Err name.Field) (λ p. (f ≡ pair_text p) × PairAfter before p)
 pair_found_parts before f parts cut false looks r e = tt
@@ -194,7 +194,7 @@ pairs_exact = list_exact has_star pair_after last pair_text PairAfter pair_is_me
 -- the first pair comes after the one before it
 abbrev pub Above : Option (Var × ℤ) → List (Var × ℤ) → Type 0
 Above before [] = Unit {0}
-Above before (p ∷ ps) = ascends before p.0 ≡ true
+Above before (p ∷ ps) = comes_after before p.0 ≡ true
 
 chain_above : (before : Option (Var × ℤ)) (ps : List (Var × ℤ)) → Chain last PairAfter before ps → Above before ps
 chain_above before [] c = tt
@@ -209,29 +209,29 @@ above_from p [] h = tt
 above_from p (q ∷ ps) h = h
 
 -- pairs that were read one after the other are canonical
-pub chain_canonical : (before : Option (Var × ℤ)) (ps : List (Var × ℤ)) → Chain last PairAfter before ps → IsCanonical ps × AllByRecursion PairFits ps
+pub chain_canonical : (before : Option (Var × ℤ)) (ps : List (Var × ℤ)) → Chain last PairAfter before ps → IsCanonical ps × AllByRecursion PairHasSpelling ps
 chain_canonical before [] c = (tt, tt)
 chain_canonical before (p ∷ ps) c =
     let rest = chain_canonical (Some p) ps c.1 in
     ((c.0.some, below_from p ps (chain_above (Some p) ps c.1), rest.0), (c.0.fits, rest.1))
 
-canonical_chain : (before : Option (Var × ℤ)) (ps : List (Var × ℤ)) → IsCanonical ps → AllByRecursion PairFits ps → Above before ps → Chain last PairAfter before ps
+canonical_chain : (before : Option (Var × ℤ)) (ps : List (Var × ℤ)) → IsCanonical ps → AllByRecursion PairHasSpelling ps → Above before ps → Chain last PairAfter before ps
 canonical_chain before [] n fit above = tt
 canonical_chain before (p ∷ ps) n fit above = (record { fits = fit.0; some = n.0; above = above }, canonical_chain (Some p) ps n.2 fit.1 (above_from p ps n.1))
 
 -- what the loop over pairs gave
-pub pairs_canonical : (at after : At) (ps : List (Var × ℤ)) → list_at has_star pair_after last None at ≡ Ok (ps, after) → IsCanonical ps
+pub pairs_canonical : (at after : Position) (ps : List (Var × ℤ)) → list_at has_star pair_after last None at ≡ Ok (ps, after) → IsCanonical ps
 pairs_canonical at after ps e =
     let h = subst (λ s. IfOk s (λ y. (at.tokens ≡ member_tokens pair_text y.0 ++ y.1.tokens) × Chain last PairAfter None y.0)) e (pairs_exact.found at).is in
     (chain_canonical None ps h.1).0
 
 -- the fields of a term as tokens
-abbrev pub term_tokens : Term → List Token
+abbrev pub term_tokens : Term → List Piece
 term_tokens t = map Field (term_fields t)
 
-pub fields_split : (ps : List (Var × ℤ)) (c : List ℕ) (rest : List Token) → map Field (map pair_text ps ++ c ∷ []) ++ rest ≡ member_tokens pair_text ps ++ Field c ∷ rest
+pub fields_split : (ps : List (Var × ℤ)) (c : List ℕ) (rest : List Piece) → map Field (map pair_text ps ++ c ∷ []) ++ rest ≡ member_tokens pair_text ps ++ Field c ∷ rest
 fields_split [] c rest = refl
-fields_split (p ∷ ps) c rest = ap (λ (ts : List Token). Field (pair_text p) ∷ ts) (fields_split ps c rest)
+fields_split (p ∷ ps) c rest = ap (λ (ts : List Piece). Field (pair_text p) ∷ ts) (fields_split ps c rest)
 
 constant_exact : Exact (leaf_at integer) (λ z. Field (signed_decimal z) ∷ []) (FitsSigned w128) Always
 constant_exact = leaf_exact integer signed_decimal (FitsSigned w128) integer_is_leaf
@@ -239,13 +239,13 @@ constant_exact = leaf_exact integer signed_decimal (FitsSigned w128) integer_is_
 constant_stops : (z : ℤ) → FitsSigned w128 z → has_star (signed_decimal z) ≡ false
 constant_stops z fits = free_has_none 42 (signed_decimal z) (signed_decimal_free 42 z (omega arith) refl fits)
 
-term_found : (at : At) → Finds (term_at at) (λ y. (at.tokens ≡ term_tokens y.0 ++ y.1.tokens) × TermFits y.0)
+term_found : (at : Position) → Finds (term_at at) (λ y. (at.tokens ≡ term_tokens y.0 ++ y.1.tokens) × TermHasSpelling y.0)
 unfolding term_at
 term_found at =
     found_bind _ _ _ _ (pairs_exact.found at) (λ ps p.
     found_bind _ _ _ _ (constant_exact.found ps.1) (λ c q.
     let n = chain_canonical None ps.0 p.1 in
-    found_end _ _ (p.0 ∙ ap (λ (ts : List Token). member_tokens pair_text ps.0 ++ ts) q.0 ∙ sym (fields_split ps.0 (signed_decimal c.0) c.1.tokens), record { canonical = n.0; pairs = n.1; constant = q.1 })))
+    found_end _ _ (p.0 ∙ ap (λ (ts : List Piece). member_tokens pair_text ps.0 ++ ts) q.0 ∙ sym (fields_split ps.0 (signed_decimal c.0) c.1.tokens), record { canonical = n.0; pairs = n.1; constant = q.1 })))
 
 abbrev make_term : List (Var × ℤ) → ℤ → Term
 make_term ps c = record { pairs = ps; constant = c }
@@ -257,7 +257,7 @@ above_none : (ps : List (Var × ℤ)) → Above None ps
 above_none [] = tt
 above_none (p ∷ ps) = refl
 
-term_again : (at : At) (t : Term) (rest : List Token) → TermFits t → at.tokens ≡ term_tokens t ++ rest → Unit {0} → Gets (term_at at) (λ y. (y.0 ≡ t) × (y.1.tokens ≡ rest))
+term_again : (at : Position) (t : Term) (rest : List Piece) → TermHasSpelling t → at.tokens ≡ term_tokens t ++ rest → Unit {0} → Gets (term_at at) (λ y. (y.0 ≡ t) × (y.1.tokens ≡ rest))
 unfolding term_at
 term_again at t rest fit e h =
     gets_bind _ _ _ _ (pairs_exact.again at t.pairs (Field (signed_decimal t.constant) ∷ rest) (canonical_chain None t.pairs fit.canonical fit.pairs (above_none t.pairs)) (e ∙ fields_split t.pairs (signed_decimal t.constant) rest) (constant_stops t.constant fit.constant)) (λ ps p.
@@ -269,7 +269,7 @@ clean_fields [] c p q = (q, tt)
 clean_fields (r ∷ ps) c p q = (p.0, clean_fields ps c p.1 q)
 
 -- what is read as a term is spelled so, and a term that fits is read from its spelling
-pub term_exact : Exact term_at term_tokens TermFits Always
+pub term_exact : Exact term_at term_tokens TermHasSpelling Always
 term_exact = record {
   found = term_found;
   again = term_again;
@@ -277,22 +277,22 @@ term_exact = record {
 }
 
 -- the two laws, of what a call answers
-pub term_is_found : (at now : At) (r : Result Term FormEnd) → Gives (λ x. x) r now (term_at at) → IfOk r (λ t. TermFits t × (at.tokens ≡ term_tokens t ++ now.tokens))
+pub term_is_found : (at now : Position) (r : Result Term FormEnd) → Gives (λ x. x) r now (term_at at) → IfOk r (λ t. TermHasSpelling t × (at.tokens ≡ term_tokens t ++ now.tokens))
 term_is_found at now (Ok t) h =
-    let p = subst (λ s. IfOk s (λ y. (at.tokens ≡ term_tokens y.0 ++ y.1.tokens) × TermFits y.0)) h (term_exact.found at).is in
+    let p = subst (λ s. IfOk s (λ y. (at.tokens ≡ term_tokens y.0 ++ y.1.tokens) × TermHasSpelling y.0)) h (term_exact.found at).is in
     (p.1, p.0)
 term_is_found at now (Err e) h = tt
 
-pub term_is_read : (at now : At) (r : Result Term FormEnd) → Gives (λ x. x) r now (term_at at) → (t : Term) (rest : List Token) → TermFits t → at.tokens ≡ term_tokens t ++ rest → Tells (λ x. x) r (Ok t)
+pub term_is_read : (at now : Position) (r : Result Term FormEnd) → Gives (λ x. x) r now (term_at at) → (t : Term) (rest : List Piece) → TermHasSpelling t → at.tokens ≡ term_tokens t ++ rest → Tells (λ x. x) r (Ok t)
 term_is_read at now r h t rest fit e =
     let g = term_exact.again at t rest fit e tt in
-    told r now g.value t (subst (λ (s : Result (Term × At) FormFault). Gives (λ x. x) r now s) g.ok h) g.is.0
+    told r now g.value t (subst (λ (s : Result (Term × Position) FormFault). Gives (λ x. x) r now s) g.ok h) g.is.0
   where
-    differ : (y : Term × At) (f : FormFault) → read_of y ≡ Err f → ⊥
+    differ : (y : Term × Position) (f : FormFault) → read_of y ≡ Err f → ⊥
     differ y f h = absurd cc
 
-    told : (r : Result Term FormEnd) (now : At) (y : Term × At) (t : Term) → Gives (λ x. x) r now (Ok y) → y.0 ≡ t → Tells (λ x. x) r (Ok t)
-    told (Ok x) now y t h same = ap (λ (u : Term). Ok u) (sym same ∙ ap (λ (p : Term × At). p.0) (read_is y (x, now) h))
+    told : (r : Result Term FormEnd) (now : Position) (y : Term × Position) (t : Term) → Gives (λ x. x) r now (Ok y) → y.0 ≡ t → Tells (λ x. x) r (Ok t)
+    told (Ok x) now y t h same = ap (λ (u : Term). Ok u) (sym same ∙ ap (λ (p : Term × Position). p.0) (read_is y (x, now) h))
     told (Err (Fault f)) now y t h same = absurd (differ y f h)
     told (Err (Memory m)) now y t h same = tt
 

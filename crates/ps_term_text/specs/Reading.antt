@@ -41,24 +41,24 @@ local_of None = None
 local_of (Some parts) = option_and_then (λ n. option_map (λ s. Local s n) (number_of parts.1)) (number_of parts.0)
 
 -- The variable of a field of its form.
-abbrev pub variable_of : List ℕ → Option Var
-variable_of field = if slice_index field 0 == 103 then option_map Global (number_of (drop 1 field)) else local_of (cut_at 64 (drop 1 field))
+abbrev pub variable_in_field : List ℕ → Option Var
+variable_in_field field = if slice_index field 0 == 103 then option_map Global (number_of (drop 1 field)) else local_of (cut_at 64 (drop 1 field))
 
 -- ---- pairs
 
 -- The pair of a coefficient and a variable, where both are in range.
 abbrev pub pair_of : List ℕ × List ℕ → Option (Var × ℤ)
-pair_of parts = option_and_then (λ c. option_map (λ x. (x, c)) (variable_of parts.1)) (i128_of parts.0)
+pair_of parts = option_and_then (λ c. option_map (λ x. (x, c)) (variable_in_field parts.1)) (i128_of parts.0)
 
 -- The variable comes after that of the pair before, if there is one.
-abbrev pub ascends : Option (Var × ℤ) → Var → Bool
-ascends None x = true
-ascends (Some before) x = var_lt before.0 x
+abbrev pub comes_after : Option (Var × ℤ) → Var → Bool
+comes_after None x = true
+comes_after (Some before) x = var_lt before.0 x
 
 -- A pair may stand where its coefficient isn't 0 and the variables ascend.
 abbrev pub ordered : Option (Var × ℤ) → Option (Var × ℤ) → Result (Var × ℤ) FormName
 ordered before None = Err Number
-ordered before (Some p) = if int_eq p.1 (pos 0) then Err Order else (if ascends before p.0 then Ok p else Err Order)
+ordered before (Some p) = if int_eq p.1 (pos 0) then Err Order else (if comes_after before p.0 then Ok p else Err Order)
 
 -- The pair of the parts round a `*`, after the one before it.
 abbrev pub pair_from : Option (Var × ℤ) → Option (List ℕ × List ℕ) → Result (Var × ℤ) FormName

@@ -16,26 +16,26 @@ variable_text (Local s n) = 108 ∷ (decimal n ++ 64 ∷ decimal s)
 variable_text (Havoc n) = []
 
 -- The numbers are in range, and the variable isn't a havoc.
-abbrev pub VariableFits : Var → Type 0
-VariableFits (Global n) = n ≤ MOST_NUMBER
-VariableFits (Local s n) = (n ≤ MOST_NUMBER) × (s ≤ MOST_NUMBER)
-VariableFits (Havoc n) = ⊥
+abbrev pub VariableHasSpelling : Var → Type 0
+VariableHasSpelling (Global n) = n ≤ MOST_NUMBER
+VariableHasSpelling (Local s n) = (n ≤ MOST_NUMBER) × (s ≤ MOST_NUMBER)
+VariableHasSpelling (Havoc n) = ⊥
 
 -- The coefficient, `*`, and the variable.
 abbrev pub pair_text : Var × ℤ → List ℕ
 pair_text p = signed_decimal p.1 ++ 42 ∷ variable_text p.0
 
 -- Which pairs have a spelling.
-pub record PairFits (p : Var × ℤ) : Type 0 where
+pub record PairHasSpelling (p : Var × ℤ) : Type 0 where
   pub coefficient : FitsSigned w128 p.1
-  pub variable : VariableFits p.0
+  pub variable : VariableHasSpelling p.0
 
 -- The fields of a term: its pairs, and then its constant.
 abbrev pub term_fields : Term → List (List ℕ)
 term_fields t = map pair_text t.pairs ++ signed_decimal t.constant ∷ []
 
 -- Which terms have a spelling: the pairs are canonical, and each number is in its range.
-pub record TermFits (t : Term) : Type 0 where
+pub record TermHasSpelling (t : Term) : Type 0 where
   pub canonical : IsCanonical t.pairs
-  pub pairs : AllByRecursion PairFits t.pairs
+  pub pairs : AllByRecursion PairHasSpelling t.pairs
   pub constant : FitsSigned w128 t.constant

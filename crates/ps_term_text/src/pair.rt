@@ -3,7 +3,7 @@
 ghost use Rattle.std.specs.Prelude.{◌≡◌, option_map, true};
 ghost use Rattle.ps_term.specs.Var.{var_lt};
 ghost use Rattle.ps_lines.specs.Reading.{Reads, leaf_at};
-ghost use Rattle.ps_term_text.specs.Reading.{ascends, ordered, pair_of, pair_from, pair_after, has_star};
+ghost use Rattle.ps_term_text.specs.Reading.{comes_after, ordered, pair_of, pair_from, pair_after, has_star};
 
 use crate::variable::{looks_variable, variable_of};
 use ps_term::{Var, is_before};
@@ -22,7 +22,7 @@ fn pair_of(parts: (&[u8], &[u8])) -> Option<(Var, i128)>
 }
 
 fn ascends(before: Option<(Var, i128)>, variable: Var) -> bool
-    ensures { result ≡ ascends before variable }
+    ensures { result ≡ comes_after before variable }
 {
     match before {
         Some(pair) => is_before(pair.0, variable),

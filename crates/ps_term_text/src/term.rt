@@ -2,10 +2,10 @@
 
 ghost use Rattle.std.specs.Prelude.{◌≡◌, ◌++◌, List, map, IfOk, Ok};
 ghost use Rattle.ps_term.specs.declared.term.Term.{Term};
-ghost use Rattle.ps_lines.specs.Tokens.{Token, Field};
+ghost use Rattle.ps_lines.specs.Tokens.{Piece, Field};
 ghost use Rattle.ps_lines.specs.Reading.{Gives, Tells};
 ghost use Rattle.ps_term_text.specs.Reading.{term_at};
-ghost use Rattle.ps_term_text.specs.Spelling.{term_fields, TermFits};
+ghost use Rattle.ps_term_text.specs.Spelling.{term_fields, TermHasSpelling};
 
 use crate::pair::PairLeaf;
 use ps_term::{Pairs, Term};
@@ -26,10 +26,10 @@ fn fields_of_term<'a>(alloc: Global, reader: &mut Reader<'a>) -> Result<Term, Fo
 pub fn take_term<'a>(alloc: Global, reader: &mut Reader<'a>) -> Result<Term, FormEnd>
     // What is read is spelled so.
     ensures found { IfOk result
-        (λ term. TermFits term
+        (λ term. TermHasSpelling term
         × (reader.old.tokens ≡ map Field (term_fields term) ++ reader.new.tokens)) }
     // What is spelled so is read, unless memory runs out.
-    ensures only { (term : Term) (rest : List Token) → TermFits term
+    ensures only { (term : Term) (rest : List Piece) → TermHasSpelling term
         → reader.old.tokens ≡ map Field (term_fields term) ++ rest
         → Tells (λ x. x) result (Ok term) }
     // Which fault it is, and where the reader stands.

@@ -1,7 +1,7 @@
 //! Variables: `gN`, and `lN@S` for local N of thread or slot S.
 
 ghost use Rattle.std.specs.Prelude.{◌≡◌, option_map};
-ghost use Rattle.ps_term_text.specs.Reading.{looks_local, looks_variable, in_range, number_of, local_of, variable_of};
+ghost use Rattle.ps_term_text.specs.Reading.{looks_local, looks_variable, in_range, number_of, local_of, variable_in_field};
 
 use crate::limits::MOST_NUMBER;
 use ps_term::Var;
@@ -57,7 +57,7 @@ fn local_of(parts: Option<(&[u8], &[u8])>) -> Option<Var>
 }
 
 pub(crate) fn variable_of(field: &[u8]) -> Option<Var>
-    ensures { result ≡ variable_of field.now }
+    ensures { result ≡ variable_in_field field.now }
 {
     match field {
         [b'g', number @ ..] => match number_of(number) {

@@ -5,7 +5,7 @@ use Rattle.std.proofs.lemmas.List.{length-take, take-append-drop, length-drop, d
 use Rattle.ps_token.specs.declared.place.Place.{Place}
 use Rattle.ps_token.specs.declared.token.Token.{Token}
 use Rattle.ps_token.specs.declared.token_kind.TokenKind.{TokenKind}
-use Rattle.ps_token.specs.Lexing.{next_place, place_after, first_place, place_of, IsTokenOf, IsGapBetween, AreUpTo, AreTokens, IsBadAt, StartsNoToken}
+use Rattle.ps_token.specs.Lexing.{next_place, place_after, text_begin, place_of, IsTokenOf, IsGapBetween, AreUpTo, AreTokens, IsBadAt, StartsNoToken}
 use Rattle.ps_token.specs.inner.Scanning.{gap_len, token_at, IsFrom}
 use Rattle.ps_token.proofs.Gaps.{gap_is, gap_stops, starts_no_gap}
 use Rattle.ps_token.proofs.Front.{IsAhead, Ahead, token_ahead, token_found}
@@ -17,7 +17,7 @@ place_push place [] b = refl
 place_push place (c ∷ bytes) b = place_push (next_place place c) bytes b
 
 pub place_more : (bytes : List ℕ) (at : ℕ) → at < length bytes → place_of bytes (at + 1) ≡ next_place (place_of bytes at) (get_or bytes at 0)
-place_more bytes at h = ap (place_after first_place) (take_more bytes at 0 h) ∙ place_push first_place (take at bytes) (get_or bytes at 0)
+place_more bytes at h = ap (place_after text_begin) (take_more bytes at 0 h) ∙ place_push text_begin (take at bytes) (get_or bytes at 0)
 
 -- Both numbers of a place are at most this one.
 pub record IsBelow (most : ℕ) (place : Place) : Type 0 where
@@ -36,7 +36,7 @@ place_below most place (b ∷ bytes) h =
 
 pub place_of_below : (bytes : List ℕ) (at : ℕ) → IsBelow (at + 1) (place_of bytes at)
 place_of_below bytes at =
-    let k = place_below 1 first_place (take at bytes) (record { line = omega arith; column = omega arith }) in
+    let k = place_below 1 text_begin (take at bytes) (record { line = omega arith; column = omega arith }) in
     record { line = omega (arith, length-take at bytes); column = omega (arith, length-take at bytes) }
 
 pub place_is_below : (bytes : List ℕ) (at : ℕ) (place : Place) → place ≡ place_of bytes at → IsBelow (at + 1) place

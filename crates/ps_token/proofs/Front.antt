@@ -14,7 +14,7 @@ use Rattle.ps_token.specs.declared.token_kind.TokenKind.{TokenKind}
 use Rattle.ps_token.specs.declared.token_kind.TokenKind.TheVariants.{Name, Number, Global, Local, Init, Thread, Havoc, Assume, Assert, Skip, Atomic, If, Else, While, Becomes, LessEq, GreaterEq, EqualEqual, NotEqual, And, Or, Less, Greater, Not, Equal, Plus, Minus, Star, OpenParen, CloseParen, OpenBrace, CloseBrace, Semicolon}
 use Rattle.ps_lines.specs.Decimal.{are_digits}
 use Rattle.ps_token.specs.Lexing.{is_letter, is_digit, is_name_byte, spelling, IsWord, IsName, IsNumber, IsSpelled, carries_on, IsWhole, IsToken}
-use Rattle.ps_token.specs.inner.Scanning.{first_spelled, reserved, double_signs, single_signs, word_kind, double_sign, single_sign, sign_at, number_at, word_at, token_at}
+use Rattle.ps_token.specs.inner.Scanning.{first_spelled, reserved, double_signs, single_signs, word_kind, double_sign, single_sign, sign_token, number_token, word_token, token_at}
 
 -- ---- runs of bytes that pass a test
 
@@ -172,7 +172,7 @@ word_front (b ∷ bs) h =
     let n : prefix_len is_name_byte (b ∷ bs) ≡ suc (prefix_len is_name_byte bs) = rw name (omega arith) in
     rw n (h, front_passes is_name_byte bs)
 
-word_ahead : (bytes : List ℕ) → is_letter (slice_index bytes 0) ≡ true → Ahead bytes (word_at (prefix_len is_name_byte bytes) bytes)
+word_ahead : (bytes : List ℕ) → is_letter (slice_index bytes 0) ≡ true → Ahead bytes (word_token (prefix_len is_name_byte bytes) bytes)
 word_ahead bytes h =
     let n = prefix_len is_name_byte bytes in
     let name : is_name_byte (slice_index bytes 0) ≡ true = rw h refl in
@@ -266,12 +266,12 @@ double_ahead a (b ∷ bs) (Some kind) h = record {
   within = omega arith;
 }
 
-sign_ahead : (bytes : List ℕ) → Ahead bytes (sign_at (slice_index bytes 0) (slice_index bytes 1))
+sign_ahead : (bytes : List ℕ) → Ahead bytes (sign_token (slice_index bytes 0) (slice_index bytes 1))
 sign_ahead [] = tt
 sign_ahead (a ∷ bs) = double_ahead a bs (double_sign a (slice_index bs 0)) (double_is a (slice_index bs 0))
 
 ahead_by : (bytes : List ℕ) (letter digit : Bool) → is_letter (slice_index bytes 0) ≡ letter → is_digit (slice_index bytes 0) ≡ digit
-    → Ahead bytes (cond letter (word_at (prefix_len is_name_byte bytes) bytes) (cond digit (number_at (prefix_len is_digit bytes)) (sign_at (slice_index bytes 0) (slice_index bytes 1))))
+    → Ahead bytes (cond letter (word_token (prefix_len is_name_byte bytes) bytes) (cond digit (number_token (prefix_len is_digit bytes)) (sign_token (slice_index bytes 0) (slice_index bytes 1))))
 ahead_by bytes true digit e f = word_ahead bytes e
 ahead_by bytes false true e f = number_ahead bytes (leb (prefix_len is_digit bytes) 18) f refl
 ahead_by bytes false false e f = sign_ahead bytes
@@ -286,8 +286,8 @@ word_found kind [] after w h s = absurd w
 word_found kind (b ∷ bs) after w h s =
     let n : prefix_len is_name_byte (b ∷ (bs ++ after)) ≡ length (b ∷ bs) = run_len is_name_byte (b ∷ bs) after (word_passes (b ∷ bs) w) s in
     let front : take (length (b ∷ bs)) (b ∷ (bs ++ after)) ≡ b ∷ bs = take-append_seam (b ∷ bs) after in
-    let of_len : token_at (b ∷ (bs ++ after)) ≡ word_at (prefix_len is_name_byte (b ∷ (bs ++ after))) (b ∷ (bs ++ after)) = ap (λ (t : Bool). cond t (word_at (prefix_len is_name_byte (b ∷ (bs ++ after))) (b ∷ (bs ++ after))) (cond (is_digit b) (number_at (prefix_len is_digit (b ∷ (bs ++ after)))) (sign_at b (slice_index (bs ++ after) 0)))) (w.0) in
-    of_len ∙ ap (λ (m : ℕ). word_at m (b ∷ (bs ++ after))) n ∙ ap (λ (t : List ℕ). Some (word_kind t, length (b ∷ bs))) front ∙ ap (λ (k : TokenKind). Some (k, length (b ∷ bs))) h
+    let of_len : token_at (b ∷ (bs ++ after)) ≡ word_token (prefix_len is_name_byte (b ∷ (bs ++ after))) (b ∷ (bs ++ after)) = ap (λ (t : Bool). cond t (word_token (prefix_len is_name_byte (b ∷ (bs ++ after))) (b ∷ (bs ++ after))) (cond (is_digit b) (number_token (prefix_len is_digit (b ∷ (bs ++ after)))) (sign_token b (slice_index (bs ++ after) 0)))) (w.0) in
+    of_len ∙ ap (λ (m : ℕ). word_token m (b ∷ (bs ++ after))) n ∙ ap (λ (t : List ℕ). Some (word_kind t, length (b ∷ bs))) front ∙ ap (λ (k : TokenKind). Some (k, length (b ∷ bs))) h
 
 digit_no_letter : (b : ℕ) → is_digit b ≡ true → is_letter b ≡ false
 digit_no_letter b h = grind (arith, nat_tests)
@@ -300,8 +300,8 @@ number_found (b ∷ bs) after w s =
     let d : is_digit b ≡ true = (and_parts (is_digit b) (list_all is_digit bs) digits).0 in
     let l : is_letter b ≡ false = digit_no_letter b d in
     let few : leb (length (b ∷ bs)) 18 ≡ true = (let k = w.few in grind (arith, nat_tests)) in
-    let of_letter : token_at (b ∷ (bs ++ after)) ≡ cond (is_digit b) (number_at (prefix_len is_digit (b ∷ (bs ++ after)))) (sign_at b (slice_index (bs ++ after) 0)) = ap (λ (t : Bool). cond t (word_at (prefix_len is_name_byte (b ∷ (bs ++ after))) (b ∷ (bs ++ after))) (cond (is_digit b) (number_at (prefix_len is_digit (b ∷ (bs ++ after)))) (sign_at b (slice_index (bs ++ after) 0)))) l in
-    of_letter ∙ ap (λ (t : Bool). cond t (number_at (prefix_len is_digit (b ∷ (bs ++ after)))) (sign_at b (slice_index (bs ++ after) 0))) d ∙ ap number_at n ∙ ap (λ (t : Bool). cond t (Some (Number, length (b ∷ bs))) None) few
+    let of_letter : token_at (b ∷ (bs ++ after)) ≡ cond (is_digit b) (number_token (prefix_len is_digit (b ∷ (bs ++ after)))) (sign_token b (slice_index (bs ++ after) 0)) = ap (λ (t : Bool). cond t (word_token (prefix_len is_name_byte (b ∷ (bs ++ after))) (b ∷ (bs ++ after))) (cond (is_digit b) (number_token (prefix_len is_digit (b ∷ (bs ++ after)))) (sign_token b (slice_index (bs ++ after) 0)))) l in
+    of_letter ∙ ap (λ (t : Bool). cond t (number_token (prefix_len is_digit (b ∷ (bs ++ after)))) (sign_token b (slice_index (bs ++ after) 0))) d ∙ ap number_token n ∙ ap (λ (t : Bool). cond t (Some (Number, length (b ∷ bs))) None) few
 
 less_found : (after : List ℕ) → IsWhole Less after → token_at (60 ∷ after) ≡ Some (Less, 1)
 less_found [] w = refl

@@ -152,12 +152,12 @@ place_after place [] = place
 place_after place (b ∷ bs) = place_after (next_place place b) bs
 
 -- Where a text begins.
-abbrev pub first_place : Place
-first_place = record { line = 1; column = 1 }
+abbrev pub text_begin : Place
+text_begin = record { line = 1; column = 1 }
 
 -- The place of the byte at an index.
 abbrev pub place_of : List ℕ → ℕ → Place
-place_of bytes at = place_after first_place (take at bytes)
+place_of bytes at = place_after text_begin (take at bytes)
 
 -- ---- a whole text
 
@@ -209,9 +209,9 @@ pub record IsBadAt (bytes : List ℕ) (place : Place) : Type 0 where
   pub is : place ≡ place_of bytes at
 
 -- Why a text isn't cut: a bad byte at its place. Of memory nothing is said.
-abbrev pub IsRefused : List ℕ → TokenEnd → Type 0
-IsRefused bytes (BadToken place) = IsBadAt bytes place
-IsRefused bytes (Memory e) = Unit {0}
+abbrev pub IsBadText : List ℕ → TokenEnd → Type 0
+IsBadText bytes (BadToken place) = IsBadAt bytes place
+IsBadText bytes (Memory e) = Unit {0}
 
 -- ---- texts that are written word by word
 

@@ -3,7 +3,7 @@
 ghost use Rattle.std.specs.Prelude.{◌≡◌, ◌≤◌, ◌<◌, length, slice_index, Some, None};
 ghost use Rattle.std.specs.List.{prefix_len};
 ghost use Rattle.ps_token.specs.Lexing.{is_blank, is_letter, is_digit, is_name_byte};
-ghost use Rattle.ps_token.specs.inner.Scanning.{first_spelled, gap_step, gap_len, word_kind, double_sign, single_sign, sign_at, number_at, token_at};
+ghost use Rattle.ps_token.specs.inner.Scanning.{first_spelled, gap_step, gap_len, word_kind, double_sign, single_sign, sign_token, number_token, token_at};
 
 use crate::number::MOST_DIGITS;
 use crate::token_kind::TokenKind;
@@ -161,7 +161,7 @@ fn single_sign(first: u8) -> Option<TokenKind>
 
 // The sign at the front, the longer one first, and how many bytes it has.
 fn sign_at(first: u8, second: u8) -> Option<(TokenKind, usize)>
-    ensures { result ≡ sign_at first second }
+    ensures { result ≡ sign_token first second }
 {
     match double_sign(first, second) {
         Some(kind) => Some((kind, 2)),
@@ -174,7 +174,7 @@ fn sign_at(first: u8, second: u8) -> Option<(TokenKind, usize)>
 
 // A number has no more digits than the most.
 fn number_at(digits: usize) -> Option<(TokenKind, usize)>
-    ensures { result ≡ number_at digits }
+    ensures { result ≡ number_token digits }
 {
     if digits <= MOST_DIGITS {
         Some((TokenKind::Number, digits))

@@ -1,7 +1,7 @@
 //! Cutting a program text into tokens.
 
 ghost use Rattle.std.specs.Prelude.{◌≡◌, ◌+◌, ◌<◌, ◌≤◌, ◌^◌, length, drop, IfOk, IfErr, All};
-ghost use Rattle.ps_token.specs.Lexing.{next_place, place_of, AreTokens, IsRefused, IsInside};
+ghost use Rattle.ps_token.specs.Lexing.{next_place, place_of, AreTokens, IsBadText, IsInside};
 ghost use Rattle.ps_token.specs.inner.Scanning.{gap_len, IsFrom};
 
 use crate::place::Place;
@@ -83,7 +83,7 @@ pub fn end_place(bytes: &[u8]) -> Place
 pub fn tokens(alloc: Global, bytes: &[u8]) -> Result<Vec<Token>, TokenEnd>
     requires { length bytes.now + 1 < 2 ^ 32 }
     ensures tokens { IfOk result (λ list. AreTokens bytes.now list.items) }
-    ensures bad { IfErr result (IsRefused bytes.now) }
+    ensures bad { IfErr result (IsBadText bytes.now) }
     // So each token's bytes can be taken out of the text.
     ensures inside { IfOk result (λ list. All (IsInside (length bytes.now)) list.items) }
 {

@@ -7,8 +7,8 @@ use Rattle.ps_trace.specs.declared.step.Step.{Step}
 use Rattle.ps_trace.specs.declared.witness.Witness.{Witness}
 
 -- the state that a witness starts from
-abbrev pub start_of : Witness → State
-start_of w = record { globals = w.globals; locals = w.locals }
+abbrev pub witness_state : Witness → State
+witness_state w = record { globals = w.globals; locals = w.locals }
 
 -- its steps, as pairs of a thread and its choices
 abbrev pub steps_of : Witness → List (ℕ × List ℤ)
@@ -17,4 +17,4 @@ steps_of w = map (λ (s : Step). let m : ℕ × List ℤ = (s.thread, s.choices)
 -- The execution from these values with these threads and choices exists, a thread becomes Failed at its last step, and
 -- none at an earlier one.
 abbrev pub Reaches : Program → Witness → Type 0
-Reaches p w = IsTrue (reaches p (start_of w) (steps_of w))
+Reaches p w = IsTrue (reaches p (witness_state w) (steps_of w))

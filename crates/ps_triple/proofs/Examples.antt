@@ -24,7 +24,7 @@ use Rattle.ps_atom.proofs.Chains.{pairs_from_chain}
 use Rattle.ps_atom.specs.Range.{IsDeclared}
 use Rattle.ps_atom.specs.declared.atom.Atom.{Atom}
 use Rattle.ps_triple.specs.Examples.{bare, begins, counter_entries, counter_predicates, counter_setting, keeps, leads, local_predicates, local_setting, of_threads}
-use Rattle.ps_triple.specs.Faults.{EntryHolds, IsFirstFault}
+use Rattle.ps_triple.specs.Faults.{EntryHolds, IsFirstEntryFault}
 use Rattle.ps_triple.specs.Fits.{MakingFits, entry_rows, lambda_of}
 use Rattle.ps_triple.specs.Rows.{predicate_of}
 use Rattle.ps_triple.specs.Tests.{HasDistinctThreads, HasNoFreeThread, HasThreadsOnce, IsAtomOf, IsThere, IsTiedTo, NamesThings}
@@ -211,10 +211,10 @@ counter_entries_hold entry within = All-contains CounterHolds counter_entries en
 stops_named : (lambda : List ℕ) → NamesThings counter_setting counter_predicates (leads 1 2 0 lambda)
 stops_named lambda = leads_names 1 2 0 lambda there_1 (omega arith) there_0 refl refl
 
-pub too_few : IsFirstFault counter_setting counter_predicates (leads 1 2 0 (1 ∷ 1 ∷ [])) (Length 2 3)
+pub too_few : IsFirstEntryFault counter_setting counter_predicates (leads 1 2 0 (1 ∷ 1 ∷ [])) (Length 2 3)
 too_few = ((refl, refl, (λ e. let none_such : ⊥ = omega (arith, e) in none_such)), (stops_named (1 ∷ 1 ∷ []), leads_distinct 1 2 0 (1 ∷ 1 ∷ []), leads_tied 1 2 0 (1 ∷ 1 ∷ [])))
 
-pub no_constant : IsFirstFault counter_setting counter_predicates (leads 1 2 0 (1 ∷ 0 ∷ 0 ∷ [])) Sum
+pub no_constant : IsFirstEntryFault counter_setting counter_predicates (leads 1 2 0 (1 ∷ 0 ∷ 0 ∷ [])) Sum
 no_constant = (
   (λ r. let e : negsuc 0 ≡ pos 0 = r.cancels x in let none_such : ⊥ = cc in none_such),
   (
@@ -232,13 +232,13 @@ no_constant = (
 abbrev great : List ℕ
 great = (2 ^ 128 - 1) ∷ 1 ∷ 0 ∷ []
 
-pub too_great : IsFirstFault counter_setting counter_predicates (leads 1 2 0 great) Past128
+pub too_great : IsFirstEntryFault counter_setting counter_predicates (leads 1 2 0 great) Past128
 too_great = (
   (λ fits. let f : FitsSigned w128 (pos (2 ^ 128 - 1) *ℤ pos 1) = fits.1.1.0.0 in let none_such : ⊥ = omega (arith, ints, f.sfits) in none_such),
   (stops_named great, leads_distinct 1 2 0 great, leads_tied 1 2 0 great, refl),
 )
 
-pub no_command : IsFirstFault counter_setting counter_predicates (leads 1 7 0 (1 ∷ 1 ∷ [])) BadNumber
+pub no_command : IsFirstEntryFault counter_setting counter_predicates (leads 1 7 0 (1 ∷ 1 ∷ [])) BadNumber
 no_command = ((λ names. let below : 7 < 3 = names.0 in let none_such : ⊥ = omega (arith, below) in none_such), tt)
 
 -- ---- threads
@@ -265,7 +265,7 @@ member_of_one n k within = elim (cons_cases n [] k within) [
   | inr h ↦ absurd (nothing k h)
 ]
 
-pub free_thread : IsFirstFault local_setting local_predicates (keeps (2 ∷ []) (1 ∷ []) []) FreeThread
+pub free_thread : IsFirstEntryFault local_setting local_predicates (keeps (2 ∷ []) (1 ∷ []) []) FreeThread
 free_thread = (
   (λ tied. elim (All-head (λ (n : ℕ). (n ≡ 0) ⊎ Contains (1 ∷ []) n) 2 [] (All-head (IsTiedTo (1 ∷ [])) (of_threads (2 ∷ [])) [] tied)) [
     | inl e ↦ (let none_such : ⊥ = omega (arith, e) in none_such)
@@ -274,9 +274,9 @@ free_thread = (
   (keeps_names 2 1, keeps_distinct 2 1),
 )
 
-pub mover_is_not_free : ¬ IsFirstFault local_setting local_predicates (keeps (0 ∷ []) (1 ∷ []) []) FreeThread
+pub mover_is_not_free : ¬ IsFirstEntryFault local_setting local_predicates (keeps (0 ∷ []) (1 ∷ []) []) FreeThread
 mover_is_not_free fault = fault.0 (All-cons (IsTiedTo (1 ∷ [])) (of_threads (0 ∷ [])) []
     (All-cons (λ (n : ℕ). (n ≡ 0) ⊎ Contains (1 ∷ []) n) 0 [] (inl refl) (All-nil (λ (n : ℕ). (n ≡ 0) ⊎ Contains (1 ∷ []) n))) (All-nil (IsTiedTo (1 ∷ []))))
 
-pub slots_are_few : IsFirstFault local_setting local_predicates (keeps (1 ∷ 1 ∷ []) (1 ∷ []) []) BadNumber
+pub slots_are_few : IsFirstEntryFault local_setting local_predicates (keeps (1 ∷ 1 ∷ []) (1 ∷ []) []) BadNumber
 slots_are_few = ((λ names. let h : IsLocalAtom (of_threads (1 ∷ 1 ∷ [])) = All-head IsLocalAtom (of_threads (1 ∷ 1 ∷ [])) [] names.1 in let e : 2 ≡ 1 = h.1 in let none_such : ⊥ = omega (arith, e) in none_such), tt)

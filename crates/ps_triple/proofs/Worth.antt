@@ -3,7 +3,7 @@ use Rattle.std.proofs.Common.{◌≡◌, refl, sym, ◌∙◌, List}
 use Rattle.ps_farkas.proofs.Soundness.{Refutes-no_values}
 use Rattle.ps_atom.specs.declared.predicate.Predicate.{Predicate}
 use Rattle.ps_command.specs.declared.setting.Setting.{Setting}
-use Rattle.ps_triple.specs.Faults.{EntryHolds, IsFirstFault}
+use Rattle.ps_triple.specs.Faults.{EntryHolds, IsFirstEntryFault}
 use Rattle.ps_triple.specs.Rows.{initial_rows, triple_rows}
 use Rattle.ps_triple.specs.Validity.{IsTrueAtFirst, IsValidTriple}
 use Rattle.ps_triple.specs.declared.entry.Entry.{Entry}
@@ -22,7 +22,7 @@ pub initially : (setting : Setting) (predicates : List Predicate) (i : Initial) 
 initially setting predicates i h =
     true_at_first setting predicates i (Refutes-no_values (initial_rows setting predicates i) i.lambda h.refutes) setting.once_declared setting.each_declared
 
-pub no_fault : (setting : Setting) (predicates : List Predicate) (entry : Entry) (fault : EntryFault) → EntryHolds setting predicates entry → ¬ IsFirstFault setting predicates entry fault
+pub no_fault : (setting : Setting) (predicates : List Predicate) (entry : Entry) (fault : EntryFault) → EntryHolds setting predicates entry → ¬ IsFirstEntryFault setting predicates entry fault
 no_fault setting predicates entry BadNumber h f = f.0 h.names
 no_fault setting predicates entry ThreadTwice h f = f.0 h.distinct
 no_fault setting predicates entry FreeThread h f = f.0 h.tied
@@ -31,7 +31,7 @@ no_fault setting predicates entry Past128 h f = f.0 h.fits
 no_fault setting predicates entry Sum h f = f.0 h.refutes
 
 -- two first faults are one
-pub one_fault : (setting : Setting) (predicates : List Predicate) (entry : Entry) (one other : EntryFault) → IsFirstFault setting predicates entry one → IsFirstFault setting predicates entry other → one ≡ other
+pub one_fault : (setting : Setting) (predicates : List Predicate) (entry : Entry) (one other : EntryFault) → IsFirstEntryFault setting predicates entry one → IsFirstEntryFault setting predicates entry other → one ≡ other
 one_fault setting predicates entry BadNumber BadNumber a b = refl
 one_fault setting predicates entry BadNumber ThreadTwice a b = absurd (a.0 (b.1))
 one_fault setting predicates entry BadNumber FreeThread a b = absurd (a.0 (b.1.0))

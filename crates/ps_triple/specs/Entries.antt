@@ -26,7 +26,7 @@ pub record IsRenamed (triple : Triple) (thread : ℕ) (before : List Atom) (afte
   pub post : after ≡ renamed new triple.post
 
 -- some listed triple is, renamed, this one
-pub record Gives (entries : List Entry) (thread command : ℕ) (before : List Atom) (after : Atom) : Type 0 where
+pub record GivesAtom (entries : List Entry) (thread command : ℕ) (before : List Atom) (after : Atom) : Type 0 where
   pub triple : Triple
   pub listed : Contains entries (OfTriple triple)
   pub same : triple.command ≡ command

@@ -42,6 +42,6 @@ HasNoneBefore setting predicates entry Sum =
     × (length (lambda_of entry) ≡ length (entry_rows setting predicates entry)) × EntryFits setting predicates entry
 
 -- the fault is the first one of the entry
-abbrev pub IsFirstFault : Setting → List Predicate → Entry → EntryFault → Type 0
-IsFirstFault setting predicates entry fault =
+abbrev pub IsFirstEntryFault : Setting → List Predicate → Entry → EntryFault → Type 0
+IsFirstEntryFault setting predicates entry fault =
     HasFault setting predicates entry fault × HasNoneBefore setting predicates entry fault

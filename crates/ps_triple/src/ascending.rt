@@ -1,6 +1,6 @@
 //! The order of atoms before a command.
 ghost use Rattle.std.specs.Prelude.{◌≡◌};
-ghost use Rattle.ps_triple.specs.Ascending.{ascend, is_before_all};
+ghost use Rattle.ps_triple.specs.Ascending.{ascend, atom_is_before_all};
 
 use ps_atom::Atom;
 
@@ -20,7 +20,7 @@ pub fn ascends(atoms: &[Atom]) -> bool
 
 // Whether the atom comes before the first of the others, if there is one.
 fn is_before_all(atom: &Atom, others: &[Atom]) -> bool
-    ensures { result ≡ is_before_all atom.now others.now }
+    ensures { result ≡ atom_is_before_all atom.now others.now }
 {
     match others.first() {
         None => true,

@@ -1,7 +1,7 @@
 //! The check of an entry.
 ghost use Rattle.std.specs.Prelude.{IfErr, MatchOption, OnOk};
 ghost use Rattle.ps_triple.specs.Ends.{EndsBy};
-ghost use Rattle.ps_triple.specs.Faults.{EntryHolds, IsFirstFault};
+ghost use Rattle.ps_triple.specs.Faults.{EntryHolds, IsFirstEntryFault};
 ghost use Rattle.ps_triple.specs.Short.{AreShort};
 ghost use Rattle.ps_triple.specs.Tests.{HasDistinctThreads, HasNoFreeThread, NamesThings};
 
@@ -31,7 +31,7 @@ pub fn check_entry(
 ) -> Result<(), EntryEnd>
     requires { AreShort setting.now entry.now }
     ensures holds { OnOk result (EntryHolds setting.now predicates.now entry.now) }
-    ensures fault { IfErr result (EndsBy (IsFirstFault setting.now predicates.now entry.now)) }
+    ensures fault { IfErr result (EndsBy (IsFirstEntryFault setting.now predicates.now entry.now)) }
 {
     let list = predicates.list();
     if let Some(fault) = first_fault(setting, list, entry) {
@@ -61,7 +61,7 @@ pub fn check_entry(
 fn first_fault(setting: &Setting, predicates: &[Predicate], entry: &Entry) -> Option<EntryFault>
     ensures { MatchOption result
         (NamesThings setting.now predicates.now entry.now × HasDistinctThreads entry.now × HasNoFreeThread entry.now)
-        (IsFirstFault setting.now predicates.now entry.now) }
+        (IsFirstEntryFault setting.now predicates.now entry.now) }
 {
     if !names_things(setting, predicates, entry) {
         return Some(EntryFault::BadNumber);

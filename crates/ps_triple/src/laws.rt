@@ -3,7 +3,7 @@ ghost use Rattle.std.specs.Prelude.{◌≡◌, List};
 ghost use Rattle.ps_atom.specs.declared.predicate.Predicate.{Predicate};
 ghost use Rattle.ps_command.specs.declared.setting.Setting.{Setting};
 ghost use Rattle.ps_triple.specs.Entries.{AreAlike};
-ghost use Rattle.ps_triple.specs.Faults.{EntryHolds, IsFirstFault};
+ghost use Rattle.ps_triple.specs.Faults.{EntryHolds, IsFirstEntryFault};
 ghost use Rattle.ps_triple.specs.Fits.{entry_rows, lambda_of};
 ghost use Rattle.ps_triple.specs.Validity.{IsTrueAtFirst, IsValidTriple};
 ghost use Rattle.ps_triple.specs.declared.entry.Entry.{Entry};
@@ -38,7 +38,7 @@ pub fn alike_entries_differ_in_multipliers()
 /// An entry that holds has no first fault, and no entry has two.
 pub fn first_faults_are_one()
     ensures none { (setting : Setting) (predicates : List Predicate) (entry : Entry) (fault : EntryFault)
-        → EntryHolds setting predicates entry → ¬ IsFirstFault setting predicates entry fault }
+        → EntryHolds setting predicates entry → ¬ IsFirstEntryFault setting predicates entry fault }
     ensures one { (setting : Setting) (predicates : List Predicate) (entry : Entry) (one other : EntryFault)
-        → IsFirstFault setting predicates entry one → IsFirstFault setting predicates entry other → one ≡ other }
+        → IsFirstEntryFault setting predicates entry one → IsFirstEntryFault setting predicates entry other → one ≡ other }
 {}

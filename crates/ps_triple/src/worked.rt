@@ -4,7 +4,7 @@ ghost use Rattle.ps_farkas.specs.Examples.{bare_row, row_on_x};
 ghost use Rattle.ps_command.specs.Examples.{row};
 ghost use Rattle.ps_term.specs.declared.var.Var.TheVariants.{Local};
 ghost use Rattle.ps_triple.specs.Examples.{at_least_0, begins, counter_entries, counter_predicates, counter_setting, keeps, leads, local_predicates, local_setting};
-ghost use Rattle.ps_triple.specs.Faults.{EntryHolds, IsFirstFault};
+ghost use Rattle.ps_triple.specs.Faults.{EntryHolds, IsFirstEntryFault};
 ghost use Rattle.ps_triple.specs.Fits.{entry_rows};
 ghost use Rattle.ps_triple.specs.declared.entry.Entry.{Entry};
 ghost use Rattle.ps_triple.specs.declared.entry_end.EntryFault.TheVariants.{BadNumber, FreeThread, Length, Past128, Sum};
@@ -40,16 +40,16 @@ pub fn entries_of_the_counter_hold()
 
 /// One of these with other multipliers, or with a command that isn't there, has a first fault, so it doesn't hold.
 pub fn other_multipliers_do_not()
-    ensures few { IsFirstFault counter_setting counter_predicates (leads 1 2 0 (1 ∷ 1 ∷ [])) (Length 2 3) }
-    ensures sum { IsFirstFault counter_setting counter_predicates (leads 1 2 0 (1 ∷ 0 ∷ 0 ∷ [])) Sum }
-    ensures past { IsFirstFault counter_setting counter_predicates
+    ensures few { IsFirstEntryFault counter_setting counter_predicates (leads 1 2 0 (1 ∷ 1 ∷ [])) (Length 2 3) }
+    ensures sum { IsFirstEntryFault counter_setting counter_predicates (leads 1 2 0 (1 ∷ 0 ∷ 0 ∷ [])) Sum }
+    ensures past { IsFirstEntryFault counter_setting counter_predicates
         (leads 1 2 0 ((2 ^ 128 - 1) ∷ 1 ∷ 0 ∷ [])) Past128 }
-    ensures number { IsFirstFault counter_setting counter_predicates (leads 1 7 0 (1 ∷ 1 ∷ [])) BadNumber }
+    ensures number { IsFirstEntryFault counter_setting counter_predicates (leads 1 7 0 (1 ∷ 1 ∷ [])) BadNumber }
 {}
 
 /// A thread before the command that is neither 0 nor a thread after it is free.
 pub fn other_threads_are_faults()
-    ensures free { IsFirstFault local_setting local_predicates (keeps (2 ∷ []) (1 ∷ []) []) FreeThread }
-    ensures mover { ¬ IsFirstFault local_setting local_predicates (keeps (0 ∷ []) (1 ∷ []) []) FreeThread }
-    ensures slots { IsFirstFault local_setting local_predicates (keeps (1 ∷ 1 ∷ []) (1 ∷ []) []) BadNumber }
+    ensures free { IsFirstEntryFault local_setting local_predicates (keeps (2 ∷ []) (1 ∷ []) []) FreeThread }
+    ensures mover { ¬ IsFirstEntryFault local_setting local_predicates (keeps (0 ∷ []) (1 ∷ []) []) FreeThread }
+    ensures slots { IsFirstEntryFault local_setting local_predicates (keeps (1 ∷ 1 ∷ []) (1 ∷ []) []) BadNumber }
 {}

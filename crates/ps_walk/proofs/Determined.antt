@@ -8,10 +8,10 @@ use Rattle.ps_term.specs.declared.var.Var.{Var}
 use Rattle.ps_term.specs.Pairs.{coefficient}
 use Rattle.ps_term.proofs.Ring.{mul-zero}
 use Rattle.ps_walk.specs.Answer.{AllowsNone, IsWalk, StagePast}
-use Rattle.ps_walk.specs.Bounds.{Allows, HoldsAt, IsNearest, LowerRowsHold, StageFits, UpperRowsHold}
-use Rattle.ps_walk.specs.Rows.{Fails, FirstAt, IsPast, Passes}
-use Rattle.ps_walk.specs.Values.{value_in}
-use Rattle.ps_walk.specs.Walking.{AreFound, IsFound, StopsAt}
+use Rattle.ps_walk.specs.Bounds.{Allows, HoldsWith, IsNearest, LowerRowsHold, StageFits, UpperRowsHold}
+use Rattle.ps_walk.specs.Rows.{Fails, FirstAt, IsPast, PassesRow}
+use Rattle.ps_walk.specs.Values.{value_found}
+use Rattle.ps_walk.specs.Walking.{AreFound, IsFound, WalkStopsAt}
 use Rattle.ps_walk.specs.declared.answer.Walk.{Walk}
 use Rattle.ps_walk.specs.declared.answer.Walk.TheVariants.{Values, NoInteger, Misses, Past128}
 use Rattle.ps_walk.proofs.Bounding.{same_lower, same_upper, times_neg}
@@ -29,7 +29,7 @@ no_size (pos a) h = ap pos (omega arith)
 no_size (negsuc a) h = absurd (omega arith)
 
 -- a row that holds at a number and at its negation holds at 0
-holds_at_zero : (v : Var → ℤ) (x : Var) (r : Row) (n : ℤ) → HoldsAt v x r n → HoldsAt v x r (neg_ℤ n) → HoldsAt v x r (pos 0)
+holds_at_zero : (v : Var → ℤ) (x : Var) (r : Row) (n : ℤ) → HoldsWith v x r n → HoldsWith v x r (neg_ℤ n) → HoldsWith v x r (pos 0)
 holds_at_zero v x r n h k =
     let ps = r.term.pairs in
     let a = split_value v x n ps in
@@ -63,7 +63,7 @@ found_once (s ∷ ss) (p ∷ ps) [] f g = absurd g
 found_once (s ∷ ss) (p ∷ ps) (q ∷ qs) f g =
     let rest : qs ≡ ps = found_once ss ps qs f.1 g.1 in
     let there : IsFound ps s q = subst (λ (rs : List (Var × ℤ)). IsFound rs s q) rest g.0 in
-    let number : q.1 ≡ p.1 = nearest_is_one (value_in ps) s.variable s.rows p.1 q.1 f.0.nearest there.nearest in
+    let number : q.1 ≡ p.1 = nearest_is_one (value_found ps) s.variable s.rows p.1 q.1 f.0.nearest there.nearest in
     let variable : q.0 ≡ p.0 = there.variable ∙ sym f.0.variable in
     ap (λ (x : Var). (x, q.1) ∷ qs) variable ∙ (ap (λ (n : ℤ). (p.0, n) ∷ qs) number ∙ ap (λ (rs : List (Var × ℤ)). p ∷ rs) rest)
 
@@ -76,7 +76,7 @@ stops_after : (reason : List (Var × ℤ) → Stage → Type 0) (before : List S
 stops_after reason [] s after later f why = inl (later, f, why)
 stops_after reason (b ∷ before) s after later f why = inr (stops_after reason before s after later f why)
 
-stops_by : (reason : List (Var × ℤ) → Stage → Type 0) (stages : List Stage) → StopsAt reason stages → Stops reason stages
+stops_by : (reason : List (Var × ℤ) → Stage → Type 0) (stages : List Stage) → WalkStopsAt reason stages → Stops reason stages
 stops_by reason stages w =
     subst (λ (ss : List Stage). Stops reason ss) (sym w.is) (stops_after reason w.before w.here w.after w.later w.found w.stops)
 
@@ -101,7 +101,7 @@ both_stop R Q r q (s ∷ ss) (inr a) (inr b) = both_stop R Q r q ss a b
 
 none_excludes : (x : Var) (l u : ℤ) → Excludes (AllowsNone x l u)
 none_excludes x l u later s p w f =
-    let allowed : Allows (value_in later) x s.rows p.1 = subst (λ (y : Var). Allows (value_in later) y s.rows p.1) (sym w.variable) f.nearest.allows in
+    let allowed : Allows (value_found later) x s.rows p.1 = subst (λ (y : Var). Allows (value_found later) y s.rows p.1) (sym w.variable) f.nearest.allows in
     let low : l ≤ℤ p.1 = (w.is_lower p.1).0 allowed.0 in
     let high : p.1 ≤ℤ u = (w.is_upper p.1).0 allowed.1 in
     omega (arith, ints, low, high, w.apart)
@@ -112,38 +112,38 @@ past_excludes later s p w f = w f.fits
 same_none : (x y : Var) (l u k m : ℤ) (later : List (Var × ℤ)) (s : Stage) → AllowsNone x l u later s → AllowsNone y k m later s → NoInteger x l u ≡ NoInteger y k m
 same_none x y l u k m later s w z =
     let ev : x ≡ y = w.variable ∙ sym z.variable in
-    let z_lower : (n : ℤ) → LowerRowsHold (value_in later) x s.rows n ↔ (k ≤ℤ n) = subst (λ (i : Var). (n : ℤ) → LowerRowsHold (value_in later) i s.rows n ↔ (k ≤ℤ n)) (sym ev) z.is_lower in
-    let z_upper : (n : ℤ) → UpperRowsHold (value_in later) x s.rows n ↔ (n ≤ℤ m) = subst (λ (i : Var). (n : ℤ) → UpperRowsHold (value_in later) i s.rows n ↔ (n ≤ℤ m)) (sym ev) z.is_upper in
-    let el : k ≡ l = same_lower (LowerRowsHold (value_in later) x s.rows) l k w.is_lower z_lower in
-    let eu : m ≡ u = same_upper (UpperRowsHold (value_in later) x s.rows) u m w.is_upper z_upper in
+    let z_lower : (n : ℤ) → LowerRowsHold (value_found later) x s.rows n ↔ (k ≤ℤ n) = subst (λ (i : Var). (n : ℤ) → LowerRowsHold (value_found later) i s.rows n ↔ (k ≤ℤ n)) (sym ev) z.is_lower in
+    let z_upper : (n : ℤ) → UpperRowsHold (value_found later) x s.rows n ↔ (n ≤ℤ m) = subst (λ (i : Var). (n : ℤ) → UpperRowsHold (value_found later) i s.rows n ↔ (n ≤ℤ m)) (sym ev) z.is_upper in
+    let el : k ≡ l = same_lower (LowerRowsHold (value_found later) x s.rows) l k w.is_lower z_lower in
+    let eu : m ≡ u = same_upper (UpperRowsHold (value_found later) x s.rows) u m w.is_upper z_upper in
     rw (ev, el, eu) refl
 
 none_not_past : (x : Var) (l u : ℤ) (later : List (Var × ℤ)) (s : Stage) → AllowsNone x l u later s → StagePast later s → ⊥
 none_not_past x l u later s w p =
-    p (subst (λ (y : Var). StageFits (value_in later) y s.rows) w.variable w.fits)
+    p (subst (λ (y : Var). StageFits (value_found later) y s.rows) w.variable w.fits)
 
 -- ---- the first row that doesn't pass, by recursion
 abbrev First : ((Var → ℤ) → Row → Type 0) → (Var → ℤ) → List Row → ℕ → Type 0
 First reason v [] n = ⊥
 First reason v (r ∷ rs) zero = reason v r
-First reason v (r ∷ rs) (suc n) = Passes v r × First reason v rs n
+First reason v (r ∷ rs) (suc n) = PassesRow v r × First reason v rs n
 
-first_after : (reason : (Var → ℤ) → Row → Type 0) (v : Var → ℤ) (before : List Row) (r : Row) (after : List Row) → All (Passes v) before → reason v r → First reason v (before ++ r ∷ after) (length before)
+first_after : (reason : (Var → ℤ) → Row → Type 0) (v : Var → ℤ) (before : List Row) (r : Row) (after : List Row) → All (PassesRow v) before → reason v r → First reason v (before ++ r ∷ after) (length before)
 first_after reason v [] r after passed why = why
 first_after reason v (b ∷ before) r after passed why =
-    (All-head (Passes v) b before passed, first_after reason v before r after (All-tail (Passes v) b before passed) why)
+    (All-head (PassesRow v) b before passed, first_after reason v before r after (All-tail (PassesRow v) b before passed) why)
 
 first_by : (reason : (Var → ℤ) → Row → Type 0) (v : Var → ℤ) (rows : List Row) (n : ℕ) → FirstAt reason v rows n → First reason v rows n
 first_by reason v rows n w =
     rw (w.is, w.number_is) (first_after reason v w.before w.here w.after w.passed w.stops)
 
 abbrev Denies : ((Var → ℤ) → Row → Type 0) → Type 0
-Denies reason = (v : Var → ℤ) (r : Row) → reason v r → Passes v r → ⊥
+Denies reason = (v : Var → ℤ) (r : Row) → reason v r → PassesRow v r → ⊥
 
-passed_or_first : (reason : (Var → ℤ) → Row → Type 0) → Denies reason → (v : Var → ℤ) (rows : List Row) (n : ℕ) → All (Passes v) rows → First reason v rows n → ⊥
+passed_or_first : (reason : (Var → ℤ) → Row → Type 0) → Denies reason → (v : Var → ℤ) (rows : List Row) (n : ℕ) → All (PassesRow v) rows → First reason v rows n → ⊥
 passed_or_first reason never v [] n h w = w
-passed_or_first reason never v (r ∷ rs) zero h w = never v r w (All-head (Passes v) r rs h)
-passed_or_first reason never v (r ∷ rs) (suc n) h w = passed_or_first reason never v rs n (All-tail (Passes v) r rs h) w.1
+passed_or_first reason never v (r ∷ rs) zero h w = never v r w (All-head (PassesRow v) r rs h)
+passed_or_first reason never v (r ∷ rs) (suc n) h w = passed_or_first reason never v rs n (All-tail (PassesRow v) r rs h) w.1
 
 both_first : (R Q : (Var → ℤ) → Row → Type 0) → Denies R → Denies Q → (v : Var → ℤ) (rows : List Row) (n m : ℕ) → First R v rows n → First Q v rows m → (n ≡ m) × (r : Row) × R v r × Q v r
 both_first R Q never nor v [] n m w u = absurd w
@@ -161,30 +161,30 @@ past_denies : Denies IsPast
 past_denies v r w p = w p.0
 
 -- ---- the answer is determined
-rows_once : (R Q : (Var → ℤ) → Row → Type 0) → Denies R → Denies Q → (rows : List Row) (stages : List Stage) (ps qs : List (Var × ℤ)) (n m : ℕ) → AreFound stages ps → AreFound stages qs → FirstAt R (value_in ps) rows n → FirstAt Q (value_in qs) rows m → (n ≡ m) × (r : Row) × R (value_in ps) r × Q (value_in ps) r
+rows_once : (R Q : (Var → ℤ) → Row → Type 0) → Denies R → Denies Q → (rows : List Row) (stages : List Stage) (ps qs : List (Var × ℤ)) (n m : ℕ) → AreFound stages ps → AreFound stages qs → FirstAt R (value_found ps) rows n → FirstAt Q (value_found qs) rows m → (n ≡ m) × (r : Row) × R (value_found ps) r × Q (value_found ps) r
 rows_once R Q r q rows stages ps qs n m f g w u =
-    let same : FirstAt Q (value_in ps) rows m = subst (λ (xs : List (Var × ℤ)). FirstAt Q (value_in xs) rows m) (found_once stages ps qs f g) u in
-    both_first R Q r q (value_in ps) rows n m (first_by R (value_in ps) rows n w) (first_by Q (value_in ps) rows m same)
+    let same : FirstAt Q (value_found ps) rows m = subst (λ (xs : List (Var × ℤ)). FirstAt Q (value_found xs) rows m) (found_once stages ps qs f g) u in
+    both_first R Q r q (value_found ps) rows n m (first_by R (value_found ps) rows n w) (first_by Q (value_found ps) rows m same)
 
-rows_pass : (R : (Var → ℤ) → Row → Type 0) → Denies R → (rows : List Row) (stages : List Stage) (ps qs : List (Var × ℤ)) (n : ℕ) → AreFound stages ps → AreFound stages qs → All (Passes (value_in ps)) rows → FirstAt R (value_in qs) rows n → ⊥
+rows_pass : (R : (Var → ℤ) → Row → Type 0) → Denies R → (rows : List Row) (stages : List Stage) (ps qs : List (Var × ℤ)) (n : ℕ) → AreFound stages ps → AreFound stages qs → All (PassesRow (value_found ps)) rows → FirstAt R (value_found qs) rows n → ⊥
 rows_pass R r rows stages ps qs n f g h u =
-    let same : FirstAt R (value_in ps) rows n = subst (λ (xs : List (Var × ℤ)). FirstAt R (value_in xs) rows n) (found_once stages ps qs f g) u in
-    passed_or_first R r (value_in ps) rows n h (first_by R (value_in ps) rows n same)
+    let same : FirstAt R (value_found ps) rows n = subst (λ (xs : List (Var × ℤ)). FirstAt R (value_found xs) rows n) (found_once stages ps qs f g) u in
+    passed_or_first R r (value_found ps) rows n h (first_by R (value_found ps) rows n same)
 
-never_stops : (reason : List (Var × ℤ) → Stage → Type 0) → Excludes reason → (stages : List Stage) (ps : List (Var × ℤ)) → AreFound stages ps → StopsAt reason stages → ⊥
+never_stops : (reason : List (Var × ℤ) → Stage → Type 0) → Excludes reason → (stages : List Stage) (ps : List (Var × ℤ)) → AreFound stages ps → WalkStopsAt reason stages → ⊥
 never_stops reason r stages ps f w = found_or_stops reason r stages ps f (stops_by reason stages w)
 
-none_once : (stages : List Stage) (x y : Var) (l u k m : ℤ) → StopsAt (AllowsNone x l u) stages → StopsAt (AllowsNone y k m) stages → NoInteger y k m ≡ NoInteger x l u
+none_once : (stages : List Stage) (x y : Var) (l u k m : ℤ) → WalkStopsAt (AllowsNone x l u) stages → WalkStopsAt (AllowsNone y k m) stages → NoInteger y k m ≡ NoInteger x l u
 none_once stages x y l u k m w z =
     let both = both_stop (AllowsNone x l u) (AllowsNone y k m) (none_excludes x l u) (none_excludes y k m) stages (stops_by (AllowsNone x l u) stages w) (stops_by (AllowsNone y k m) stages z) in
     sym (same_none x y l u k m both.0 both.1 both.2 both.3)
 
-none_or_past : (stages : List Stage) (x : Var) (l u : ℤ) → StopsAt (AllowsNone x l u) stages → StopsAt StagePast stages → ⊥
+none_or_past : (stages : List Stage) (x : Var) (l u : ℤ) → WalkStopsAt (AllowsNone x l u) stages → WalkStopsAt StagePast stages → ⊥
 none_or_past stages x l u w z =
     let both = both_stop (AllowsNone x l u) StagePast (none_excludes x l u) past_excludes stages (stops_by (AllowsNone x l u) stages w) (stops_by StagePast stages z) in
     none_not_past x l u both.0 both.1 both.2 both.3
 
-misses_or_past : (rows : List Row) (stages : List Stage) (ps qs : List (Var × ℤ)) (n m : ℕ) → AreFound stages ps → AreFound stages qs → FirstAt Fails (value_in ps) rows n → FirstAt IsPast (value_in qs) rows m → ⊥
+misses_or_past : (rows : List Row) (stages : List Stage) (ps qs : List (Var × ℤ)) (n m : ℕ) → AreFound stages ps → AreFound stages qs → FirstAt Fails (value_found ps) rows n → FirstAt IsPast (value_found qs) rows m → ⊥
 misses_or_past rows stages ps qs n m f g w u =
     let both = rows_once Fails IsPast fails_denies past_denies rows stages ps qs n m f g w u in
     both.3 both.2.0

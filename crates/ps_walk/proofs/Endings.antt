@@ -4,9 +4,9 @@ use Rattle.std.proofs.lemmas.List.{drop_more}
 use Rattle.std.proofs.lemmas.List.Elements.{All-more}
 use Rattle.ps_term.specs.declared.row.Row.{Row}
 use Rattle.ps_term.specs.declared.var.Var.{Var}
-use Rattle.ps_walk.specs.Rows.{FirstAt, Passes}
+use Rattle.ps_walk.specs.Rows.{FirstAt, PassesRow}
 
-pub first_at : (reason : (Var → ℤ) → Row → Type 0) (v : Var → ℤ) (rows : List Row) (i : ℕ) (r : Row) → i < length rows → r ≡ get_or rows i r → All (Passes v) (take i rows) → reason v r → FirstAt reason v rows i
+pub first_at : (reason : (Var → ℤ) → Row → Type 0) (v : Var → ℤ) (rows : List Row) (i : ℕ) (r : Row) → i < length rows → r ≡ get_or rows i r → All (PassesRow v) (take i rows) → reason v r → FirstAt reason v rows i
 first_at reason v rows i r l is passed why =
     let parts : rows ≡ take i rows ++ drop i rows = sym (take-append-drop i rows) in
     record {
@@ -19,6 +19,6 @@ first_at reason v rows i r l is passed why =
       stops = why;
     }
 
-pub passed_more : (v : Var → ℤ) (rows : List Row) (i : ℕ) (r : Row) → i < length rows → r ≡ get_or rows i r → All (Passes v) (take i rows) → Passes v r → All (Passes v) (take (i + 1) rows)
+pub passed_more : (v : Var → ℤ) (rows : List Row) (i : ℕ) (r : Row) → i < length rows → r ≡ get_or rows i r → All (PassesRow v) (take i rows) → PassesRow v r → All (PassesRow v) (take (i + 1) rows)
 passed_more v rows i r l is passed p =
-    All-more (Passes v) rows i r l passed (subst (λ (s : Row). Passes v s) is p)
+    All-more (PassesRow v) rows i r l passed (subst (λ (s : Row). PassesRow v s) is p)

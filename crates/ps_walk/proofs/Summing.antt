@@ -12,7 +12,7 @@ use Rattle.ps_term.specs.Var.{var_eq}
 use Rattle.ps_term.proofs.Ring.{distribute_right, mul-zero, zero-mul}
 use Rattle.ps_walk.specs.inner.Findings.{others, values_beside}
 use Rattle.ps_term.specs.Evaluation.{EvaluationFitsFrom}
-use Rattle.ps_walk.specs.Values.{with_value, without}
+use Rattle.ps_walk.specs.Values.{with_number, without}
 
 pub record Summed (values : Var → ℤ) (pairs : List (Var × ℤ)) (constant so_far : ℤ) (rest : List (Var × ℤ)) : Type 0 where
   pub total : (so_far +ℤ pairs_value values rest) ≡ pairs_value values pairs
@@ -49,12 +49,12 @@ var_eq_sym (Havoc _) (Global _) = refl
 var_eq_sym (Havoc _) (Local _ _) = refl
 
 -- a variable's part of a sum, and the rest
-pub split_value : (v : Var → ℤ) (x : Var) (n : ℤ) (ps : List (Var × ℤ)) → pairs_value (with_value x n v) ps ≡ ((coefficient x ps *ℤ n) +ℤ pairs_value v (without x ps))
+pub split_value : (v : Var → ℤ) (x : Var) (n : ℤ) (ps : List (Var × ℤ)) → pairs_value (with_number x n v) ps ≡ ((coefficient x ps *ℤ n) +ℤ pairs_value v (without x ps))
 split_value v x n [] = omega (arith, ints, zero-mul n)
 split_value v x n (p ∷ ps) =
     split_front v x n p ps (var_eq x p.0) (var_eq p.0 x) (var_eq_sym x p.0) (split_value v x n ps)
   where
-    split_front : (v : Var → ℤ) (x : Var) (n : ℤ) (p : Var × ℤ) (ps : List (Var × ℤ)) (t u : Bool) → t ≡ u → pairs_value (with_value x n v) ps ≡ ((coefficient x ps *ℤ n) +ℤ pairs_value v (without x ps)) → ((p.1 *ℤ (if u then n else v p.0)) +ℤ pairs_value (with_value x n v) ps) ≡ ((((if t then p.1 else pos 0) +ℤ coefficient x ps) *ℤ n) +ℤ pairs_value v (cond (not t) (p ∷ without x ps) (without x ps)))
+    split_front : (v : Var → ℤ) (x : Var) (n : ℤ) (p : Var × ℤ) (ps : List (Var × ℤ)) (t u : Bool) → t ≡ u → pairs_value (with_number x n v) ps ≡ ((coefficient x ps *ℤ n) +ℤ pairs_value v (without x ps)) → ((p.1 *ℤ (if u then n else v p.0)) +ℤ pairs_value (with_number x n v) ps) ≡ ((((if t then p.1 else pos 0) +ℤ coefficient x ps) *ℤ n) +ℤ pairs_value v (cond (not t) (p ∷ without x ps) (without x ps)))
     split_front v x n p ps true true e h = omega (arith, ints, h, distribute_right p.1 (coefficient x ps) n)
     split_front v x n p ps false false e h = omega (arith, ints, h, distribute_right (pos 0) (coefficient x ps) n, zero-mul n)
     split_front v x n p ps true false e h = cc
@@ -74,15 +74,15 @@ same_scaled s a z e f =
     let same : (s +ℤ (a *ℤ z)) ≡ s = omega (arith, ints, none) in
     ((subst (λ (k : ℤ). FitsSigned w128 k) (sym none) zero_fits, subst (λ (k : ℤ). FitsSigned w128 k) (sym same) f), same)
 
-without_fits : (x : Var) (v : Var → ℤ) (s : ℤ) (ps : List (Var × ℤ)) (c : ℤ) → FitsSigned w128 s → EvaluationFitsFrom (with_value x (pos 0) v) s ps c ↔ EvaluationFitsFrom v s (without x ps) c
+without_fits : (x : Var) (v : Var → ℤ) (s : ℤ) (ps : List (Var × ℤ)) (c : ℤ) → FitsSigned w128 s → EvaluationFitsFrom (with_number x (pos 0) v) s ps c ↔ EvaluationFitsFrom v s (without x ps) c
 without_fits x v s [] c f = (λ h. h, λ h. h)
 without_fits x v s (p ∷ ps) c f =
     front x v s p ps c f (var_eq x p.0) (var_eq p.0 x) (var_eq_sym x p.0) (λ t. without_fits x v t ps c)
   where
-    front : (x : Var) (v : Var → ℤ) (s : ℤ) (p : Var × ℤ) (ps : List (Var × ℤ)) (c : ℤ) → FitsSigned w128 s → (t u : Bool) → t ≡ u → ((z : ℤ) → FitsSigned w128 z → EvaluationFitsFrom (with_value x (pos 0) v) z ps c ↔ EvaluationFitsFrom v z (without x ps) c) → (ScaledFits s p.1 (if u then pos 0 else v p.0) × EvaluationFitsFrom (with_value x (pos 0) v) (s +ℤ (p.1 *ℤ (if u then pos 0 else v p.0))) ps c) ↔ EvaluationFitsFrom v s (cond (not t) (p ∷ without x ps) (without x ps)) c
+    front : (x : Var) (v : Var → ℤ) (s : ℤ) (p : Var × ℤ) (ps : List (Var × ℤ)) (c : ℤ) → FitsSigned w128 s → (t u : Bool) → t ≡ u → ((z : ℤ) → FitsSigned w128 z → EvaluationFitsFrom (with_number x (pos 0) v) z ps c ↔ EvaluationFitsFrom v z (without x ps) c) → (ScaledFits s p.1 (if u then pos 0 else v p.0) × EvaluationFitsFrom (with_number x (pos 0) v) (s +ℤ (p.1 *ℤ (if u then pos 0 else v p.0))) ps c) ↔ EvaluationFitsFrom v s (cond (not t) (p ∷ without x ps) (without x ps)) c
     front x v s p ps c f true true e h =
         let same = same_scaled s p.1 (pos 0) refl f in
-        (λ a. (h s f).0 (subst (λ (z : ℤ). EvaluationFitsFrom (with_value x (pos 0) v) z ps c) same.1 a.1), λ b. (same.0, subst (λ (z : ℤ). EvaluationFitsFrom (with_value x (pos 0) v) z ps c) (sym same.1) ((h s f).1 b)))
+        (λ a. (h s f).0 (subst (λ (z : ℤ). EvaluationFitsFrom (with_number x (pos 0) v) z ps c) same.1 a.1), λ b. (same.0, subst (λ (z : ℤ). EvaluationFitsFrom (with_number x (pos 0) v) z ps c) (sym same.1) ((h s f).1 b)))
     front x v s p ps c f false false e h =
         (λ a. (a.0, (h (s +ℤ (p.1 *ℤ v p.0)) a.0.1).0 a.1), λ b. (b.0, (h (s +ℤ (p.1 *ℤ v p.0)) b.0.1).1 b.1))
     front x v s p ps c f true false e h = absurd (cc)

@@ -11,9 +11,9 @@ use Rattle.ps_term.specs.declared.var.Var.{Var}
 use Rattle.ps_term.specs.declared.var.Var.TheVariants.{Global, Local, Havoc}
 use Rattle.ps_term.specs.Var.{var_eq}
 use Rattle.ps_walk.specs.Answer.{AllowsNone, StagePast}
-use Rattle.ps_walk.specs.inner.Findings.{IsFinding, values_of, var_cmp}
-use Rattle.ps_walk.specs.Values.{value_in}
-use Rattle.ps_walk.specs.Walking.{AreFound, StopsAt}
+use Rattle.ps_walk.specs.inner.Findings.{IsFinding, found_values, var_cmp}
+use Rattle.ps_walk.specs.Values.{value_found}
+use Rattle.ps_walk.specs.Walking.{AreFound, WalkStopsAt}
 use Rattle.ps_walk.specs.declared.finding.Finding.TheVariants.{Value, Nothing, Past128 as FoundPast}
 
 -- the map's order tells variables apart as the test of equality does
@@ -31,7 +31,7 @@ cmp_is_eq (Havoc _) (Local _ _) = refl
 -- the pairs in the list, which has those of later stages first, are the values of the stages that are done
 pub record Walked (stages : List Stage) (found : BTreeMap Var ℤ) (pairs : List (Var × ℤ)) (left : ℕ) : Type 0 where
   pub within : left ≤ length stages
-  pub known : values_of found ≡ value_in (reverse pairs)
+  pub known : found_values found ≡ value_found (reverse pairs)
   pub are_found : AreFound (drop left stages) (reverse pairs)
 
 pub Walked-start : (stages : List Stage) (found : BTreeMap Var ℤ) (pairs : List (Var × ℤ)) → found.entries ≡ [] → pairs ≡ [] → Walked stages found pairs (length stages)
@@ -47,28 +47,28 @@ value_more false false w old new e o h = h
 value_more true false w old new e o h = cc
 value_more false true w old new e o h = cc
 
-known_more : (found new : BTreeMap Var ℤ) (pairs : List (Var × ℤ)) (x : Var) (n : ℤ) → values_of found ≡ value_in pairs → tree.Updates var_cmp found new x (Some n) → values_of new ≡ value_in ((x, n) ∷ pairs)
+known_more : (found new : BTreeMap Var ℤ) (pairs : List (Var × ℤ)) (x : Var) (n : ℤ) → found_values found ≡ value_found pairs → tree.Updates var_cmp found new x (Some n) → found_values new ≡ value_found ((x, n) ∷ pairs)
 known_more found new pairs x n known up =
-    fun_ext (λ y. ap (λ (o : Option ℤ). unwrap_or o (pos 0)) (up.0 y) ∙ value_more (is_eq (var_cmp x y)) (var_eq y x) n (value_in pairs y) (pos 0) (cmp_is_eq x y) (tree.get var_cmp found y) (ap (λ (f : Var → ℤ). f y) known))
+    fun_ext (λ y. ap (λ (o : Option ℤ). unwrap_or o (pos 0)) (up.0 y) ∙ value_more (is_eq (var_cmp x y)) (var_eq y x) n (value_found pairs y) (pos 0) (cmp_is_eq x y) (tree.get var_cmp found y) (ap (λ (f : Var → ℤ). f y) known))
 
 front_at : (stages : List Stage) (left : ℕ) (s : Stage) → 0 < left → left ≤ length stages → s ≡ get_or stages (left - 1) s → drop (left - 1) stages ≡ s ∷ drop left stages
 front_at stages left s h l is =
     let next : left - 1 + 1 ≡ left = omega arith in
     drop_more stages (left - 1) s (omega arith) ∙ (ap (λ (z : Stage). z ∷ drop (left - 1 + 1) stages) (sym is) ∙ ap (λ (k : ℕ). s ∷ drop k stages) next)
 
-pub Walked-step : (stages : List Stage) (found new : BTreeMap Var ℤ) (pairs more : List (Var × ℤ)) (left : ℕ) (s : Stage) (n : ℤ) → Walked stages found pairs left → 0 < left → s ≡ get_or stages (left - 1) s → IsFinding (values_of found) s.variable s.rows (Value n) → tree.Updates var_cmp found new s.variable (Some n) → more ≡ pairs ++ (s.variable, n) ∷ [] → Walked stages new more (left - 1)
+pub Walked-step : (stages : List Stage) (found new : BTreeMap Var ℤ) (pairs more : List (Var × ℤ)) (left : ℕ) (s : Stage) (n : ℤ) → Walked stages found pairs left → 0 < left → s ≡ get_or stages (left - 1) s → IsFinding (found_values found) s.variable s.rows (Value n) → tree.Updates var_cmp found new s.variable (Some n) → more ≡ pairs ++ (s.variable, n) ∷ [] → Walked stages new more (left - 1)
 Walked-step stages found new pairs more left s n w h is f up e =
     let back : reverse more ≡ (s.variable, n) ∷ reverse pairs = ap (λ (ps : List (Var × ℤ)). reverse ps) e ∙ reverse-append pairs ((s.variable, n) ∷ []) in
-    let fits : IsFinding (value_in (reverse pairs)) s.variable s.rows (Value n) = subst (λ (v : Var → ℤ). IsFinding v s.variable s.rows (Value n)) w.known f in
+    let fits : IsFinding (value_found (reverse pairs)) s.variable s.rows (Value n) = subst (λ (v : Var → ℤ). IsFinding v s.variable s.rows (Value n)) w.known f in
     let within : left - 1 ≤ length stages = omega (arith, w.within) in
     record {
       within = within;
-      known = known_more found new (reverse pairs) s.variable n w.known up ∙ ap (λ (ps : List (Var × ℤ)). value_in ps) (sym back);
+      known = known_more found new (reverse pairs) s.variable n w.known up ∙ ap (λ (ps : List (Var × ℤ)). value_found ps) (sym back);
       are_found = rw (front_at stages left s h w.within is, back) (record { variable = refl; fits = fits.0; nearest = fits.1 }, w.are_found);
     }
 
 -- ---- a stage at which the walk stops
-stops_at : (reason : List (Var × ℤ) → Stage → Type 0) (stages : List Stage) (found : BTreeMap Var ℤ) (pairs : List (Var × ℤ)) (left : ℕ) (s : Stage) → Walked stages found pairs left → 0 < left → s ≡ get_or stages (left - 1) s → reason (reverse pairs) s → StopsAt reason stages
+stops_at : (reason : List (Var × ℤ) → Stage → Type 0) (stages : List Stage) (found : BTreeMap Var ℤ) (pairs : List (Var × ℤ)) (left : ℕ) (s : Stage) → Walked stages found pairs left → 0 < left → s ≡ get_or stages (left - 1) s → reason (reverse pairs) s → WalkStopsAt reason stages
 stops_at reason stages found pairs left s w h is why = record {
   before = take (left - 1) stages;
   here = s;
@@ -79,9 +79,9 @@ stops_at reason stages found pairs left s w h is why = record {
   stops = why;
 }
 
-pub stops_apart : (stages : List Stage) (found : BTreeMap Var ℤ) (pairs : List (Var × ℤ)) (left : ℕ) (s : Stage) (l u : ℤ) → Walked stages found pairs left → 0 < left → s ≡ get_or stages (left - 1) s → IsFinding (values_of found) s.variable s.rows (Nothing l u) → StopsAt (AllowsNone s.variable l u) stages
+pub stops_apart : (stages : List Stage) (found : BTreeMap Var ℤ) (pairs : List (Var × ℤ)) (left : ℕ) (s : Stage) (l u : ℤ) → Walked stages found pairs left → 0 < left → s ≡ get_or stages (left - 1) s → IsFinding (found_values found) s.variable s.rows (Nothing l u) → WalkStopsAt (AllowsNone s.variable l u) stages
 stops_apart stages found pairs left s l u w h is f =
-    let here : IsFinding (value_in (reverse pairs)) s.variable s.rows (Nothing l u) = subst (λ (v : Var → ℤ). IsFinding v s.variable s.rows (Nothing l u)) w.known f in
+    let here : IsFinding (value_found (reverse pairs)) s.variable s.rows (Nothing l u) = subst (λ (v : Var → ℤ). IsFinding v s.variable s.rows (Nothing l u)) w.known f in
     stops_at (AllowsNone s.variable l u) stages found pairs left s w h is (record {
       variable = refl;
       fits = here.0;
@@ -90,7 +90,7 @@ stops_apart stages found pairs left s l u w h is f =
       apart = here.3;
     })
 
-pub stops_past : (stages : List Stage) (found : BTreeMap Var ℤ) (pairs : List (Var × ℤ)) (left : ℕ) (s : Stage) → Walked stages found pairs left → 0 < left → s ≡ get_or stages (left - 1) s → IsFinding (values_of found) s.variable s.rows FoundPast → StopsAt StagePast stages
+pub stops_past : (stages : List Stage) (found : BTreeMap Var ℤ) (pairs : List (Var × ℤ)) (left : ℕ) (s : Stage) → Walked stages found pairs left → 0 < left → s ≡ get_or stages (left - 1) s → IsFinding (found_values found) s.variable s.rows FoundPast → WalkStopsAt StagePast stages
 stops_past stages found pairs left s w h is f =
     stops_at StagePast stages found pairs left s w h is (subst (λ (v : Var → ℤ). IsFinding v s.variable s.rows FoundPast) w.known f)
 

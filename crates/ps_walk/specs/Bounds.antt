@@ -6,19 +6,19 @@ use Rattle.ps_term.specs.declared.var.Var.{Var}
 use Rattle.ps_term.specs.Pairs.{coefficient}
 use Rattle.ps_term.specs.Row.{Holds}
 use Rattle.ps_term.specs.Evaluation.{EvaluationFitsFrom}
-use Rattle.ps_walk.specs.Values.{with_value, without}
+use Rattle.ps_walk.specs.Values.{with_number, without}
 
 -- the row holds where the variable x is n
-abbrev pub HoldsAt : (Var → ℤ) → Var → Row → ℤ → Type 0
-HoldsAt values x r n = Holds (with_value x n values) r
+abbrev pub HoldsWith : (Var → ℤ) → Var → Row → ℤ → Type 0
+HoldsWith values x r n = Holds (with_number x n values) r
 
 -- the rows with a negative coefficient, which bound the variable from below, hold where it is n
 abbrev pub LowerRowsHold : (Var → ℤ) → Var → List Row → ℤ → Type 0
-LowerRowsHold values x rows n = All (λ r. coefficient x r.term.pairs <ℤ pos 0 → HoldsAt values x r n) rows
+LowerRowsHold values x rows n = All (λ r. coefficient x r.term.pairs <ℤ pos 0 → HoldsWith values x r n) rows
 
 -- the rows with a positive coefficient, which bound the variable from above, hold where it is n
 abbrev pub UpperRowsHold : (Var → ℤ) → Var → List Row → ℤ → Type 0
-UpperRowsHold values x rows n = All (λ r. pos 0 <ℤ coefficient x r.term.pairs → HoldsAt values x r n) rows
+UpperRowsHold values x rows n = All (λ r. pos 0 <ℤ coefficient x r.term.pairs → HoldsWith values x r n) rows
 
 -- the rows of both kinds hold where the variable is n
 abbrev pub Allows : (Var → ℤ) → Var → List Row → ℤ → Type 0
@@ -37,11 +37,11 @@ pub record IsNearest (allowed : ℤ → Type 0) (n : ℤ) : Type 0 where
   pub nearest : (m : ℤ) → allowed m → unsigned_abs n ≤ unsigned_abs m
 
 -- at the values of the other variables the row is evaluated, and bounds the variable, within 128 bits
-pub record RowFits (values : Var → ℤ) (x : Var) (r : Row) : Type 0 where
+pub record BoundFits (values : Var → ℤ) (x : Var) (r : Row) : Type 0 where
   pub sum : EvaluationFitsFrom values (pos 0) (without x r.term.pairs) r.term.constant
-  pub lower : (b : ℤ) → ((n : ℤ) → HoldsAt values x r n ↔ (b ≤ℤ n)) → FitsSigned w128 b
-  pub upper : (b : ℤ) → ((n : ℤ) → HoldsAt values x r n ↔ (n ≤ℤ b)) → FitsSigned w128 b
+  pub lower : (b : ℤ) → ((n : ℤ) → HoldsWith values x r n ↔ (b ≤ℤ n)) → FitsSigned w128 b
+  pub upper : (b : ℤ) → ((n : ℤ) → HoldsWith values x r n ↔ (n ≤ℤ b)) → FitsSigned w128 b
 
 -- so is, and so does, each row that has the variable
 abbrev pub StageFits : (Var → ℤ) → Var → List Row → Type 0
-StageFits values x rows = All (λ r. coefficient x r.term.pairs ≢ pos 0 → RowFits values x r) rows
+StageFits values x rows = All (λ r. coefficient x r.term.pairs ≢ pos 0 → BoundFits values x r) rows

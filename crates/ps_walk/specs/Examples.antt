@@ -5,8 +5,8 @@ use Rattle.ps_term.specs.declared.row.Row.{Row}
 use Rattle.ps_term.specs.declared.var.Var.{Var}
 use Rattle.ps_term.specs.declared.var.Var.TheVariants.{Global}
 use Rattle.ps_walk.specs.Answer.{IsWalk}
-use Rattle.ps_walk.specs.Bounds.{IsLower, IsNearest, RowFits}
-use Rattle.ps_walk.specs.Values.{value_in, without}
+use Rattle.ps_walk.specs.Bounds.{IsLower, IsNearest, BoundFits}
+use Rattle.ps_walk.specs.Values.{value_found, without}
 use Rattle.ps_walk.specs.declared.answer.Walk.TheVariants.{Values, NoInteger, Misses, Past128}
 
 -- the row of these pairs and this constant
@@ -52,8 +52,8 @@ second_of_three = stage_of (Global 1) ((0 ∷ 0 ∷ 1 ∷ []) ∷ (1 ∷ 1 ∷ 0
 -- a list gives a variable its value, and 0 to one that it lacks
 abbrev pub ValuesAreTaken : Type 0
 ValuesAreTaken =
-    (value_in ((Global 0, pos 6) ∷ (Global 1, pos 2) ∷ []) (Global 1) ≡ pos 2)
-    × (value_in ((Global 0, pos 6) ∷ []) (Global 1) ≡ pos 0)
+    (value_found ((Global 0, pos 6) ∷ (Global 1, pos 2) ∷ []) (Global 1) ≡ pos 2)
+    × (value_found ((Global 0, pos 6) ∷ []) (Global 1) ≡ pos 0)
 
 -- without g0 the pair of g1 is left
 abbrev pub OthersAreLeft : Type 0
@@ -69,7 +69,7 @@ SixIsNearest = IsNearest (λ n. pos 6 ≤ℤ n) (pos 6)
 
 -- the bound 2^127 is past 128 bits
 abbrev pub FarIsPast : Type 0
-FarIsPast = (values : Var → ℤ) → ¬ RowFits values (Global 0) far
+FarIsPast = (values : Var → ℤ) → ¬ BoundFits values (Global 0) far
 
 -- no rows and no stages: no values
 abbrev pub NothingIsWalked : Type 0

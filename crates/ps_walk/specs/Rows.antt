@@ -11,8 +11,8 @@ abbrev pub IsEvaluated : (Var → ℤ) → Row → Type 0
 IsEvaluated values r = EvaluationFits values r.term
 
 -- the row is evaluated, and holds
-abbrev pub Passes : (Var → ℤ) → Row → Type 0
-Passes values r = IsEvaluated values r × Holds values r
+abbrev pub PassesRow : (Var → ℤ) → Row → Type 0
+PassesRow values r = IsEvaluated values r × Holds values r
 
 -- of the row with this number this is so, and those before it pass
 pub record FirstAt (reason : (Var → ℤ) → Row → Type 0) (values : Var → ℤ) (rows : List Row) (number : ℕ) : Type 0 where
@@ -21,7 +21,7 @@ pub record FirstAt (reason : (Var → ℤ) → Row → Type 0) (values : Var →
   pub after : List Row
   pub is : rows ≡ before ++ here ∷ after
   pub number_is : number ≡ length before
-  pub passed : All (Passes values) before
+  pub passed : All (PassesRow values) before
   pub stops : reason values here
 
 -- the row is evaluated, and doesn't hold

@@ -5,13 +5,13 @@ use Rattle.ps_term.specs.declared.var.Var.{Var}
 use Rattle.ps_term.specs.Var.{var_eq}
 
 -- the value that the list gives to a variable, or 0 where it gives none
-abbrev pub value_in : List (Var × ℤ) → Var → ℤ
-value_in [] x = pos 0
-value_in (p ∷ ps) x = if var_eq x p.0 then p.1 else value_in ps x
+abbrev pub value_found : List (Var × ℤ) → Var → ℤ
+value_found [] x = pos 0
+value_found (p ∷ ps) x = if var_eq x p.0 then p.1 else value_found ps x
 
 -- the same values, but n for the variable x
-abbrev pub with_value : Var → ℤ → (Var → ℤ) → Var → ℤ
-with_value x n values y = if var_eq y x then n else values y
+abbrev pub with_number : Var → ℤ → (Var → ℤ) → Var → ℤ
+with_number x n values y = if var_eq y x then n else values y
 
 -- the pairs of the other variables
 abbrev pub without : Var → List (Var × ℤ) → List (Var × ℤ)

@@ -2,8 +2,8 @@
 ghost use Rattle.std.specs.Prelude.{◌≡◌, ◌≢◌, ◌↔◌, ℤ, pos, ◌+ℤ◌, ◌*ℤ◌, ◌<ℤ◌, ◌≤ℤ◌, FitsSigned, IfNone, IfSome, OnSome};
 ghost use Rattle.std.specs.Int.{w128};
 ghost use Rattle.ps_term.specs.Pairs.{coefficient};
-ghost use Rattle.ps_walk.specs.Bounds.{RowFits};
-ghost use Rattle.ps_walk.specs.inner.Findings.{IsRowBound, values_of};
+ghost use Rattle.ps_walk.specs.Bounds.{BoundFits};
+ghost use Rattle.ps_walk.specs.inner.Findings.{IsRowBound, found_values};
 
 use crate::sum::value_at;
 use ps_term::{Row, Var, ceil_div};
@@ -21,10 +21,10 @@ pub(crate) enum RowBound {
 // The row's bound, or `None` where the sum of the rest of the row, or the bound, lies outside `i128`.
 pub(crate) fn bound_of(found: &BTreeMap<Var, i128>, variable: Var, row: &Row) -> Option<RowBound>
     ensures fits { OnSome result
-        (coefficient variable row.now.term.pairs ≢ pos 0 → RowFits (values_of found.now) variable row.now) }
+        (coefficient variable row.now.term.pairs ≢ pos 0 → BoundFits (found_values found.now) variable row.now) }
     ensures past { IfNone result
-        (¬ (coefficient variable row.now.term.pairs ≢ pos 0 → RowFits (values_of found.now) variable row.now)) }
-    ensures bound { IfSome result (IsRowBound (values_of found.now) variable row.now) }
+        (¬ (coefficient variable row.now.term.pairs ≢ pos 0 → BoundFits (found_values found.now) variable row.now)) }
+    ensures bound { IfSome result (IsRowBound (found_values found.now) variable row.now) }
 {
     let coefficient = row.term.pairs.coefficient(variable);
     if coefficient == 0 {

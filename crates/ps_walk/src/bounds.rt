@@ -1,7 +1,7 @@
 // The bounds that rows give to a variable, and the number between them that is nearest to 0.
 ghost use Rattle.std.specs.Prelude.{◌↔◌, ◌≤ℤ◌, ℤ, Some, IfNone, IfSome, OnSome};
 ghost use Rattle.ps_walk.specs.Bounds.{StageFits};
-ghost use Rattle.ps_walk.specs.inner.Findings.{AreBounds, IsAtLeast, IsAtMost, IsChoice, IsFinding, lower_of, upper_of, values_of};
+ghost use Rattle.ps_walk.specs.inner.Findings.{AreBounds, IsAtLeast, IsAtMost, IsChoice, IsFinding, lower_of, upper_of, found_values};
 
 use crate::bound::{RowBound, bound_of};
 use crate::finding::Finding;
@@ -17,7 +17,7 @@ pub(crate) struct Bounds {
 
 // What the rows of a stage leave to its variable, at the values of the later ones. It takes one pass over the rows.
 pub(crate) fn find(found: &BTreeMap<Var, i128>, variable: Var, rows: &[Row]) -> Finding
-    ensures { IsFinding (values_of found.now) variable rows.now result }
+    ensures { IsFinding (found_values found.now) variable rows.now result }
 {
     match bounds_of(found, variable, rows) {
         None => Finding::Past128,
@@ -26,9 +26,9 @@ pub(crate) fn find(found: &BTreeMap<Var, i128>, variable: Var, rows: &[Row]) -> 
 }
 
 fn bounds_of(found: &BTreeMap<Var, i128>, variable: Var, rows: &[Row]) -> Option<Bounds>
-    ensures fits { OnSome result (StageFits (values_of found.now) variable rows.now) }
-    ensures past { IfNone result (¬ StageFits (values_of found.now) variable rows.now) }
-    ensures bounds { IfSome result (AreBounds (values_of found.now) variable rows.now) }
+    ensures fits { OnSome result (StageFits (found_values found.now) variable rows.now) }
+    ensures past { IfNone result (¬ StageFits (found_values found.now) variable rows.now) }
+    ensures bounds { IfSome result (AreBounds (found_values found.now) variable rows.now) }
 {
     let mut bounds = Bounds {
         lower: None,

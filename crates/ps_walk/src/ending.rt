@@ -1,6 +1,6 @@
 // The given rows at the values that were found.
 ghost use Rattle.std.specs.Prelude.{◌<◌, ◌^◌, length};
-ghost use Rattle.ps_walk.specs.inner.Findings.{IsEnding, values_of};
+ghost use Rattle.ps_walk.specs.inner.Findings.{IsEnding, found_values};
 
 use crate::sum::value_at;
 use ps_term::{Row, Var};
@@ -19,7 +19,7 @@ pub(crate) enum Ending {
 
 pub(crate) fn ending_of(found: &BTreeMap<Var, i128>, rows: &[Row]) -> Ending
     requires { length rows.now < 2 ^ 32 }
-    ensures { IsEnding (values_of found.now) rows.now result }
+    ensures { IsEnding (found_values found.now) rows.now result }
 {
     for (i, row) in rows.iter().enumerate() {
         match value_at(found, row, None) {

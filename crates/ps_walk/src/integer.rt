@@ -3,7 +3,7 @@ ghost use Rattle.std.specs.Prelude.{◌≡◌, ◌<◌, ◌^◌, All, IfOk, leng
 ghost use Rattle.ps_term.specs.Row.{Holds};
 ghost use Rattle.ps_elim.specs.Ascending.{Ascend};
 ghost use Rattle.ps_walk.specs.Answer.{IsWalk, OnValues};
-ghost use Rattle.ps_walk.specs.Values.{value_in};
+ghost use Rattle.ps_walk.specs.Values.{value_found};
 
 use crate::answer::Walk;
 use crate::bounds::find;
@@ -29,7 +29,7 @@ pub fn integer_walk(alloc: Global, rows: &[Row], stages: &[Stage]) -> Result<Wal
     requires { length rows.now < 2 ^ 32 }
     ensures answer { IfOk result (IsWalk rows.now stages.now) }
     ensures satisfied { IfOk result (λ walk. OnValues walk (λ values.
-        All (Holds (value_in values)) rows.now)) }
+        All (Holds (value_found values)) rows.now)) }
     ensures variables { IfOk result (λ walk. OnValues walk (λ values.
         map (λ p. p.0) values ≡ map (λ s. s.variable) stages.now)) }
     ensures ascending { IfOk result (λ walk. OnValues walk (λ values.

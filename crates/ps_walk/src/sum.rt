@@ -1,7 +1,7 @@
 // The value of a row's term at the values found so far.
 ghost use Rattle.std.specs.Prelude.{◌≡◌, pos, SomeIff};
 ghost use Rattle.ps_term.specs.Term.{value};
-ghost use Rattle.ps_walk.specs.inner.Findings.{others, values_beside, values_of};
+ghost use Rattle.ps_walk.specs.inner.Findings.{others, values_beside, found_values};
 ghost use Rattle.ps_term.specs.Evaluation.{EvaluationFitsFrom};
 
 use ps_term::{Row, Var, is_same, scaled_sum};
@@ -15,8 +15,8 @@ pub(crate) fn value_at(
     left_out: Option<Var>,
 ) -> Option<i128>
     ensures { SomeIff result
-        (EvaluationFitsFrom (values_of found.now) (pos 0) (others left_out row.now.term.pairs) row.now.term.constant)
-        (value (values_of found.now) (record { pairs = others left_out row.now.term.pairs; constant = row.now.term.constant })) }
+        (EvaluationFitsFrom (found_values found.now) (pos 0) (others left_out row.now.term.pairs) row.now.term.constant)
+        (value (found_values found.now) (record { pairs = others left_out row.now.term.pairs; constant = row.now.term.constant })) }
 {
     let mut sum: i128 = 0;
     for pair in row.term.pairs.as_slice() {
@@ -26,7 +26,7 @@ pub(crate) fn value_at(
 }
 
 fn value_beside(found: &BTreeMap<Var, i128>, left_out: Option<Var>, variable: Var) -> i128
-    ensures { result ≡ values_beside left_out (values_of found.now) variable }
+    ensures { result ≡ values_beside left_out (found_values found.now) variable }
 {
     match left_out {
         None => value_of(found, variable),
@@ -42,7 +42,7 @@ fn value_beside(found: &BTreeMap<Var, i128>, left_out: Option<Var>, variable: Va
 
 // The variable's value, or 0 where none was found.
 fn value_of(found: &BTreeMap<Var, i128>, variable: Var) -> i128
-    ensures { result ≡ values_of found.now variable }
+    ensures { result ≡ found_values found.now variable }
 {
     found.get(&variable).copied().unwrap_or(0)
 }

@@ -26,8 +26,8 @@ in_slots slot [] = []
 in_slots slot (own ∷ rest) = in_slot slot own ++ in_slots (slot + 1) rest
 
 -- the globals, the threads in the order of their slots, and the havocs
-abbrev pub placed : List (List (ℕ × ℤ)) → List (Var × ℤ) → List (Var × ℤ)
-placed owns pairs = filter (λ pair. is_global pair.0) pairs ++ (in_slots 0 owns ++ filter (λ pair. is_havoc pair.0) pairs)
+abbrev pub put_in_slots : List (List (ℕ × ℤ)) → List (Var × ℤ) → List (Var × ℤ)
+put_in_slots owns pairs = filter (λ pair. is_global pair.0) pairs ++ (in_slots 0 owns ++ filter (λ pair. is_havoc pair.0) pairs)
 
 -- the thread of a local, unless it is the last one that was met
 abbrev pub next_thread : Option ℕ → Var → Option ℕ

@@ -3,7 +3,7 @@ use Rattle.std.specs.Prelude.{◌≡◌, true, false, ℕ, ◌+◌, List, [], �
 use Rattle.ps_command.specs.declared.op.Op.{Op}
 use Rattle.ps_compile.specs.Checks.{Check, NoneIsExceeded, checks}
 use Rattle.ps_graph.specs.Follows.{going_to}
-use Rattle.ps_compile.specs.Layout.{Site, Planned, all_planned, opened_of, own_site, start_of}
+use Rattle.ps_compile.specs.Layout.{Site, Planned, all_planned, opened_of, own_site, block_start}
 use Rattle.ps_compile.specs.Ops.{ops_on}
 use Rattle.ps_graph.specs.Paths.{Act, is_failing, picks_of, ways}
 use Rattle.ps_tree.specs.declared.cond.Test.{Test}
@@ -51,20 +51,20 @@ Lays {T} result body old new ss size =
 abbrev pub if_site : Place → StmtKind → Test → List Stmt → List Stmt → ℕ → ℕ → ℕ → Site
 if_site place k t held failed a b next =
     own_site place k a (next + (opened_of held + opened_of failed))
-    (going_to (start_of held b next) (ways true t) ++ going_to (start_of failed b (next + opened_of held)) (ways false t))
+    (going_to (block_start held b next) (ways true t) ++ going_to (block_start failed b (next + opened_of held)) (ways false t))
 
 abbrev pub while_site : Place → StmtKind → Test → List Stmt → ℕ → ℕ → ℕ → Site
 while_site place k t block a b next =
     own_site place k a (next + opened_of block)
-    (going_to (start_of block a next) (ways true t) ++ going_to b (ways false t))
+    (going_to (block_start block a next) (ways true t) ++ going_to b (ways false t))
 
 -- the edges of an `if` were added, and its blocks start at these locations
 pub record OpensIf (body : ℕ) (old new : Plan) (place : Place) (k : StmtKind) (t : Test) (held failed : List Stmt) (a b : ℕ) (starts : ℕ × ℕ) : Type 0 where
-  pub first : starts.0 ≡ start_of held b (length old.owners.items)
-  pub second : starts.1 ≡ start_of failed b (length old.owners.items + opened_of held)
+  pub first : starts.0 ≡ block_start held b (length old.owners.items)
+  pub second : starts.1 ≡ block_start failed b (length old.owners.items + opened_of held)
   pub grows : Grows body old new (if_site place k t held failed a b (length old.owners.items) ∷ []) (opened_of held + opened_of failed)
 
 -- the edges of a `while` were added, and its block starts at this location
 pub record OpensWhile (body : ℕ) (old new : Plan) (place : Place) (k : StmtKind) (t : Test) (block : List Stmt) (a b : ℕ) (first : ℕ) : Type 0 where
-  pub start : first ≡ start_of block a (length old.owners.items)
+  pub start : first ≡ block_start block a (length old.owners.items)
   pub grows : Grows body old new (while_site place k t block a b (length old.owners.items) ∷ []) (opened_of block)

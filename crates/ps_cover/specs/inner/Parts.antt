@@ -2,10 +2,10 @@
 use Rattle.std.specs.Prelude.{◌≡◌, ◌≢◌, ℕ, ◌+◌, ◌<◌, ◌≤◌, ◌⊎◌, ◌==◌, Bool, true, false, List, [], ◌∷◌, length, slice_index, if◌then◌else◌}
 
 -- each number is the first one that is left of the second list
-abbrev pub is_part : List ℕ → List ℕ → Bool
-is_part [] ys = true
-is_part (x ∷ xs) [] = false
-is_part (x ∷ xs) (y ∷ ys) = if x == y then is_part xs ys else is_part (x ∷ xs) ys
+abbrev pub is_sublist : List ℕ → List ℕ → Bool
+is_sublist [] ys = true
+is_sublist (x ∷ xs) [] = false
+is_sublist (x ∷ xs) (y ∷ ys) = if x == y then is_sublist xs ys else is_sublist (x ∷ xs) ys
 
 -- one more is found where the number is the next one
 abbrev pub IsFoundMore : List ℕ → ℕ → ℕ → ℕ → Type 0

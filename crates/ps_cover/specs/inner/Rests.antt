@@ -33,9 +33,9 @@ pub record IsFirstRest (small large : Configuration) (threads to left rest : Lis
   pub first : (other : List ℕ) → Fits small large (threads ++ left) (to ++ other) → slice_cmp nat_cmp rest other ≢ Greater
 
 -- the images so far and the first way to go on, or none where there is no way
-abbrev pub IsAnswer : Configuration → Configuration → Partial → List ℕ → Option (List ℕ) → Type 0
-IsAnswer small large p left None = NoWay small large p.threads p.to
-IsAnswer small large p left (Some all) = (rest : List ℕ) × (all ≡ p.to ++ rest) × IsFirstRest small large p.threads p.to left rest
+abbrev pub IsRestAnswer : Configuration → Configuration → Partial → List ℕ → Option (List ℕ) → Type 0
+IsRestAnswer small large p left None = NoWay small large p.threads p.to
+IsRestAnswer small large p left (Some all) = (rest : List ℕ) × (all ≡ p.to ++ rest) × IsFirstRest small large p.threads p.to left rest
 
 -- the first of the threads that are left goes to the image too
 abbrev pub one_more : Partial → List ℕ → ℕ → Partial
@@ -43,9 +43,9 @@ one_more p left image = record { threads = p.threads ++ slice_index left 0 ∷ [
 
 -- with the image the search goes on, or there is no way
 abbrev pub IsTrial : Configuration → Configuration → Partial → List ℕ → ℕ → Trial → Type 0
-IsTrial small large p left image (Found all) = IsAnswer small large (one_more p left image) (drop 1 left) (Some all)
-IsTrial small large p left image Failed = IsAnswer small large (one_more p left image) (drop 1 left) None × (¬ Contains p.to image)
-IsTrial small large p left image Unfit = IsAnswer small large (one_more p left image) (drop 1 left) None
+IsTrial small large p left image (Found all) = IsRestAnswer small large (one_more p left image) (drop 1 left) (Some all)
+IsTrial small large p left image Failed = IsRestAnswer small large (one_more p left image) (drop 1 left) None × (¬ Contains p.to image)
+IsTrial small large p left image Unfit = IsRestAnswer small large (one_more p left image) (drop 1 left) None
 
 -- with this image for the thread there is no way
 abbrev pub Ends : Configuration → Configuration → Partial → ℕ → ℕ → Type 0

@@ -14,6 +14,6 @@ pub record IsLeastAmong (ws : List Weighted) (best : Weighted) : Type 0 where
   pub least : All (λ w. IsPositive w → ¬ IsTrue (is_less w.vector best.vector)) ws
 
 -- the lesser one, and of two that are alike the first
-abbrev pub lesser_of : Option Weighted → Weighted → Weighted
-lesser_of None w = w
-lesser_of (Some best) w = if is_less w.vector best.vector then w else best
+abbrev pub lesser_vector : Option Weighted → Weighted → Weighted
+lesser_vector None w = w
+lesser_vector (Some best) w = if is_less w.vector best.vector then w else best

@@ -1,9 +1,9 @@
 -- Vectors as the elimination holds them, with their rows and supports.
 use Rattle.std.specs.Prelude.{◌≡◌, ◌≤◌, ◌<◌, ℕ, ℤ, pos, Bool, List, length, map, All, IsTrue, int_lt}
 use Rattle.std.specs.Ordering.{int_eq}
-use Rattle.ps_elim.specs.Combining.{AllFit, PairFits, eliminated, width}
+use Rattle.ps_elim.specs.Combining.{AllFit, CombinationFits, eliminated, width}
 use Rattle.ps_elim.specs.Places.{support_of}
-use Rattle.ps_elim.specs.Stages.{Passes}
+use Rattle.ps_elim.specs.Stages.{PassesStage}
 use Rattle.ps_elim.specs.Vectors.{IsSum}
 use Rattle.ps_elim.specs.declared.limits.TheConstants.{MOST_VECTORS}
 use Rattle.ps_elim.specs.declared.next.Next.{Next}
@@ -50,11 +50,11 @@ ArePairable rows sign x ws = All (IsPairable rows sign x) ws
 
 -- the making of each pair of a first and a second vector stays within 128 bits
 abbrev pub AllPairsFit : List Row → Var → List (List ℕ) → List (List ℕ) → Type 0
-AllPairsFit rows x ps qs = All (λ p. All (PairFits rows x p) qs) ps
+AllPairsFit rows x ps qs = All (λ p. All (CombinationFits rows x p) qs) ps
 
 -- what comes after a set of vectors by the elimination of a variable
-abbrev pub IsNext : List Row → Var → List (List ℕ) → Next → Type 0
-IsNext rows x vs (Set ws) =
-    Passes rows vs x × All (IsWeighted rows) ws.items × (vectors_of ws.items ≡ eliminated rows x vs) × (length ws.items ≤ MOST_VECTORS)
-IsNext rows x vs (TooWide count) = (MOST_VECTORS < width rows x vs) × (count ≡ width rows x vs)
-IsNext rows x vs Past128 = (width rows x vs ≤ MOST_VECTORS) × ¬ AllFit rows x vs
+abbrev pub IsNextSet : List Row → Var → List (List ℕ) → Next → Type 0
+IsNextSet rows x vs (Set ws) =
+    PassesStage rows vs x × All (IsWeighted rows) ws.items × (vectors_of ws.items ≡ eliminated rows x vs) × (length ws.items ≤ MOST_VECTORS)
+IsNextSet rows x vs (TooWide count) = (MOST_VECTORS < width rows x vs) × (count ≡ width rows x vs)
+IsNextSet rows x vs Past128 = (width rows x vs ≤ MOST_VECTORS) × ¬ AllFit rows x vs

@@ -7,12 +7,12 @@ use Rattle.ps_term.specs.Pairs.{coefficient}
 use Rattle.ps_term.specs.Var.{var_lt}
 
 -- of two variables, where they are there, the lesser
-abbrev pub lesser_of : Option Var → Option Var → Option Var
-lesser_of None b = b
-lesser_of (Some x) None = Some x
-lesser_of (Some x) (Some y) = if var_lt y x then Some y else Some x
+abbrev pub lesser_variable : Option Var → Option Var → Option Var
+lesser_variable None b = b
+lesser_variable (Some x) None = Some x
+lesser_variable (Some x) (Some y) = if var_lt y x then Some y else Some x
 
 -- no variable of the rows stands between the last one and the next, which stands in some row
-pub record IsNext (last : Option Var) (rows : List Row) (next : Option Var) : Type 0 where
+pub record IsNextVariable (last : Option Var) (rows : List Row) (next : Option Var) : Type 0 where
   pub skipped : (x : Var) → IsAfter last x → IsBefore x next → All (λ r. coefficient x r.term.pairs ≡ pos 0) rows
   pub stands : IfSome next (λ x. IsAfter last x × Any (λ r. coefficient x r.term.pairs ≢ pos 0) rows)

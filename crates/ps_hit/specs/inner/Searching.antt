@@ -12,7 +12,7 @@ pub record IsNode (sets : List (List ℕ)) (node : Node) : Type 0 where
   pub distinct : IsDistinct nat_eq node.chosen.items
 
 -- the set has what the node chose, and nothing that it barred
-pub record IsBelow (node : Node) (hit : List ℕ) : Type 0 where
+pub record IsUnderNode (node : Node) (hit : List ℕ) : Type 0 where
   pub chosen : IsSubset node.chosen.items hit
   pub barred : ¬ Meets node.barred.items hit
 
@@ -47,5 +47,5 @@ AddsChild sets node number passed before after =
 pub record Branches (sets : List (List ℕ)) (node : Node) (set : List ℕ) (before after : List Node) : Type 0 where
   pub nodes : All (IsNode sets) before → All (IsNode sets) after
   pub stays : (other : Node) → Contains before other → Contains after other
-  pub reached : (hit : List ℕ) → IsMinimalHit sets hit → IsBelow node hit → Meets hit set → (child : Node) × Contains after child × IsBelow child hit
+  pub reached : (hit : List ℕ) → IsMinimalHit sets hit → IsUnderNode node hit → Meets hit set → (child : Node) × Contains after child × IsUnderNode child hit
   pub work_falls : (most : ℕ) → 1 ≤ most → works most after ≤ works most before + length set * work most (unmet node.covers.items - 1)

@@ -2,10 +2,10 @@
 use Rattle.std.specs.Prelude.{◌≡◌, ℕ, ◌+◌, ◌≤◌, ◌<◌, Bool, false, ◌||◌, List, [], ◌∷◌, map, length, drop, Option, Some, None, Result, Ok, ◌==◌, if◌then◌else◌, All}
 use Rattle.ps_lines.specs.declared.form_name.FormName.{FormName}
 use Rattle.ps_lines.specs.declared.span.Span.{Span}
-use Rattle.ps_lines.specs.Lines.{IsWithin, lines_of, span_text}
+use Rattle.ps_lines.specs.Lines.{IsSpanWithin, lines_of, span_text}
 use Rattle.ps_lines.specs.Reading.{Read, leaf_at}
 use Rattle.ps_lines.specs.Steps.{◌>>=◌}
-use Rattle.ps_lines.specs.Tokens.{next_field, tokens}
+use Rattle.ps_lines.specs.Tokens.{next_field, pieces}
 
 -- How many bytes stand before the first blank or line feed.
 abbrev pub field_len : List ℕ → ℕ
@@ -14,15 +14,15 @@ field_len (b ∷ bs) = if b == 32 || b == 10 then 0 else field_len bs + 1
 
 -- The line that begins at a place: its spans and the place after it, or none where no line ends ahead.
 abbrev pub IsLineAhead : List ℕ → ℕ → Option (List Span × ℕ) → Type 0
-IsLineAhead bytes start None = lines_of (tokens (drop start bytes)) ≡ []
+IsLineAhead bytes start None = lines_of (pieces (drop start bytes)) ≡ []
 IsLineAhead bytes start (Some p) =
-    (lines_of (tokens (drop start bytes)) ≡ map (span_text bytes) p.0 ∷ lines_of (tokens (drop p.1 bytes))) × All (IsWithin (length bytes)) p.0 × (start < p.1) × (p.1 ≤ length bytes)
+    (lines_of (pieces (drop start bytes)) ≡ map (span_text bytes) p.0 ∷ lines_of (pieces (drop p.1 bytes))) × All (IsSpanWithin (length bytes)) p.0 × (start < p.1) × (p.1 ≤ length bytes)
 
 -- Whether a list goes on with what stands next.
-abbrev pub goes_on : (List ℕ → Bool) → Option (List ℕ) → Bool
-goes_on goes None = false
-goes_on goes (Some f) = goes f
+abbrev pub list_goes_on : (List ℕ → Bool) → Option (List ℕ) → Bool
+list_goes_on goes None = false
+list_goes_on goes (Some f) = goes f
 
 -- The next member of a list, or none where the list ends.
 abbrev pub member_at : {A : Type 0} → (List ℕ → Bool) → (List ℕ → Result A FormName) → Read (Option A)
-member_at goes leaf at = if goes_on goes (next_field at.tokens) then (leaf_at leaf at >>= λ x. Ok (Some x.0, x.1)) else Ok (None, at)
+member_at goes leaf at = if list_goes_on goes (next_field at.tokens) then (leaf_at leaf at >>= λ x. Ok (Some x.0, x.1)) else Ok (None, at)

@@ -6,7 +6,7 @@ use Rattle.ps_token.specs.Lexing.{IsNumber}
 use Rattle.ps_parse.specs.Reading.{is_kind}
 
 -- The token's bytes are within the text, and those of a number are 1 to 18 digits.
-pub record IsWithin (bytes : List ℕ) (token : Token) : Type 0 where
+pub record IsTokenWithin (bytes : List ℕ) (token : Token) : Type 0 where
   pub ordered : token.start ≤ token.end
   pub inside : token.end ≤ length bytes
   pub number : is_kind token.kind Number ≡ true → IsNumber (slice_range bytes token.start token.end)
@@ -14,4 +14,4 @@ pub record IsWithin (bytes : List ℕ) (token : Token) : Type 0 where
 -- All of them are.
 abbrev pub AreWithin : List ℕ → List Token → Type 0
 AreWithin bytes [] = Unit {0}
-AreWithin bytes (t ∷ ts) = IsWithin bytes t × AreWithin bytes ts
+AreWithin bytes (t ∷ ts) = IsTokenWithin bytes t × AreWithin bytes ts

@@ -1,7 +1,7 @@
 -- The least sets of atoms of a step as successors, and the limits that they pass.
 use Rattle.std.specs.Prelude.{◌≡◌, ℕ, ◌<◌, ◌≤◌, ◌+◌, List, ◌∷◌, ◌++◌, length, map, Contains, Option, Some, None}
 use Rattle.ps_atom.specs.declared.atom.Atom.{Atom}
-use Rattle.ps_config.specs.Forms.{HasThreads, IsConfig}
+use Rattle.ps_config.specs.Forms.{HasThreadCount, IsConfig}
 use Rattle.ps_config.specs.declared.config.TheConstants.{MOST_ATOMS, MOST_THREADS}
 use Rattle.ps_config.specs.declared.wide.WideName.{WideName}
 use Rattle.ps_config.specs.declared.wide.WideName.TheVariants.{Sets, Atoms, Threads}
@@ -23,7 +23,7 @@ HasLength set n = length set ≡ n
 
 -- with these locations
 abbrev pub HasThreadsWith : List (ℕ × ℕ) → List Atom → ℕ → Type 0
-HasThreadsWith at set n = HasThreads (record { at = at; atoms = set }) n
+HasThreadsWith at set n = HasThreadCount (record { at = at; atoms = set }) n
 
 -- the sets pass a limit of configurations
 abbrev pub IsPastBy : List (ℕ × ℕ) → List (List Atom) → WideName → ℕ → Type 0

@@ -51,22 +51,22 @@ abbrev pub single_sign : ℕ → Option TokenKind
 single_sign first = first_spelled (λ kind. Some kind) None single_signs (first ∷ [])
 
 -- The sign at the front, the longer one first, and how many bytes it has.
-abbrev pub sign_at : ℕ → ℕ → Option (TokenKind × ℕ)
-sign_at first second = elim (double_sign first second) [ None ↦ option_map (λ kind. (kind, 1)) (single_sign first) | Some kind ↦ Some (kind, 2) ]
+abbrev pub sign_token : ℕ → ℕ → Option (TokenKind × ℕ)
+sign_token first second = elim (double_sign first second) [ None ↦ option_map (λ kind. (kind, 1)) (single_sign first) | Some kind ↦ Some (kind, 2) ]
 
 -- A number of so many digits.
-abbrev pub number_at : ℕ → Option (TokenKind × ℕ)
-number_at digits = if nat_le digits MOST_DIGITS then Some (Number, digits) else None
+abbrev pub number_token : ℕ → Option (TokenKind × ℕ)
+number_token digits = if nat_le digits MOST_DIGITS then Some (Number, digits) else None
 
 -- A word of so many bytes at the front.
-abbrev pub word_at : ℕ → List ℕ → Option (TokenKind × ℕ)
-word_at len bytes = Some (word_kind (take len bytes), len)
+abbrev pub word_token : ℕ → List ℕ → Option (TokenKind × ℕ)
+word_token len bytes = Some (word_kind (take len bytes), len)
 
 -- The token at the front, and how many bytes it has. (Past the end of the text a byte counts as 0, which begins nothing.)
 abbrev pub token_at : List ℕ → Option (TokenKind × ℕ)
 token_at bytes =
-    if is_letter (slice_index bytes 0) then word_at (prefix_len is_name_byte bytes) bytes
-    else (if is_digit (slice_index bytes 0) then number_at (prefix_len is_digit bytes) else sign_at (slice_index bytes 0) (slice_index bytes 1))
+    if is_letter (slice_index bytes 0) then word_token (prefix_len is_name_byte bytes) bytes
+    else (if is_digit (slice_index bytes 0) then number_token (prefix_len is_digit bytes) else sign_token (slice_index bytes 0) (slice_index bytes 1))
 
 -- From one index on stands a token of this kind up to another index; or none does.
 abbrev pub IsFrom : List ℕ → ℕ → Option (TokenKind × ℕ) → Type 0

@@ -7,9 +7,9 @@ use Rattle.ps_term.specs.declared.row.Row.{Row}
 use Rattle.ps_term.specs.declared.var.Var.{Var}
 use Rattle.ps_term.specs.contracts.var.VarOrd.TheImpl as var_ord
 use Rattle.ps_term.specs.Pairs.{coefficient}
-use Rattle.ps_walk.specs.Bounds.{Allows, HoldsAt, IsLower, IsNearest, IsUpper, LowerRowsHold, StageFits, UpperRowsHold}
-use Rattle.ps_walk.specs.Rows.{Fails, FirstAt, IsPast, Passes}
-use Rattle.ps_walk.specs.Values.{with_value, without}
+use Rattle.ps_walk.specs.Bounds.{Allows, HoldsWith, IsLower, IsNearest, IsUpper, LowerRowsHold, StageFits, UpperRowsHold}
+use Rattle.ps_walk.specs.Rows.{Fails, FirstAt, IsPast, PassesRow}
+use Rattle.ps_walk.specs.Values.{with_number, without}
 use Rattle.ps_walk.specs.declared.bound.RowBound.{RowBound}
 use Rattle.ps_walk.specs.declared.bound.RowBound.TheVariants.{Free, AtLeast, AtMost}
 use Rattle.ps_walk.specs.declared.bounds.Bounds.{Bounds}
@@ -23,8 +23,8 @@ abbrev pub var_cmp : Var → Var → Ordering
 var_cmp = (var_ord.ghosts).cmp
 
 -- the value that the map has for a variable, or 0
-abbrev pub values_of : BTreeMap Var ℤ → Var → ℤ
-values_of found x = unwrap_or (tree.get var_cmp found x) (pos 0)
+abbrev pub found_values : BTreeMap Var ℤ → Var → ℤ
+found_values found x = unwrap_or (tree.get var_cmp found x) (pos 0)
 
 -- the pairs but for those of the variable, if one is left out
 abbrev pub others : Option Var → List (Var × ℤ) → List (Var × ℤ)
@@ -34,13 +34,13 @@ others (Some x) ps = without x ps
 -- the values, with 0 for the variable, if one is left out
 abbrev pub values_beside : Option Var → (Var → ℤ) → Var → ℤ
 values_beside None values = values
-values_beside (Some x) values = with_value x (pos 0) values
+values_beside (Some x) values = with_number x (pos 0) values
 
 -- the bound that the row gives to the variable
 abbrev pub IsRowBound : (Var → ℤ) → Var → Row → RowBound → Type 0
 IsRowBound values x r Free = coefficient x r.term.pairs ≡ pos 0
-IsRowBound values x r (AtLeast l) = (coefficient x r.term.pairs <ℤ pos 0) × ((n : ℤ) → HoldsAt values x r n ↔ (l ≤ℤ n))
-IsRowBound values x r (AtMost u) = (pos 0 <ℤ coefficient x r.term.pairs) × ((n : ℤ) → HoldsAt values x r n ↔ (n ≤ℤ u))
+IsRowBound values x r (AtLeast l) = (coefficient x r.term.pairs <ℤ pos 0) × ((n : ℤ) → HoldsWith values x r n ↔ (l ≤ℤ n))
+IsRowBound values x r (AtMost u) = (pos 0 <ℤ coefficient x r.term.pairs) × ((n : ℤ) → HoldsWith values x r n ↔ (n ≤ℤ u))
 
 -- the lower bound that it is, if it is one, and the upper one
 abbrev pub lower_of : RowBound → Option ℤ
@@ -84,6 +84,6 @@ IsFinding values x rows Past128 = ¬ StageFits values x rows
 
 -- what the given rows come to
 abbrev pub IsEnding : (Var → ℤ) → List Row → Ending → Type 0
-IsEnding values rows Holds = All (Passes values) rows
+IsEnding values rows Holds = All (PassesRow values) rows
 IsEnding values rows (Misses row) = FirstAt Fails values rows row
 IsEnding values rows RowPast = (n : ℕ) × FirstAt IsPast values rows n

@@ -1,12 +1,12 @@
 use Rattle.std.proofs.Common.{◌<◌, ◌≤◌, Some, arith, rules}
 use Rattle.ps_config.specs.Configurations.{threads_at}
-use Rattle.ps_config.specs.Next.{IsNext}
+use Rattle.ps_config.specs.Next.{IsNextThread}
 use Rattle.ps_config.proofs.Nexts.{counted_more, counted_all}
 use Rattle.ps_config.proofs.threads.thread_count.Goals as goal
 
 pub loop-thread-preserved : goal.loop-thread-preserved
 loop-thread-preserved c =
-    let next : IsNext (threads_at (record { at = c.args.at.now; atoms = c.args.atoms.now })) c.loop-thread.from (Some c.in-Some.thread) = c.in-Some.ensures in
+    let next : IsNextThread (threads_at (record { at = c.args.at.now; atoms = c.args.atoms.now })) c.loop-thread.from (Some c.in-Some.thread) = c.in-Some.ensures in
     let above : c.loop-thread.from ≤ c.in-Some.thread = next.1 in
     let small : c.in-Some.thread < 4294967296 = search rules in
     record {

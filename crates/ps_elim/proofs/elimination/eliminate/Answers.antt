@@ -2,7 +2,7 @@ use Rattle.std.proofs.Common.{◌≡◌, ◌+◌, ◌^◌, ◌<◌, ◌≤◌, �
 use Rattle.std.proofs.lemmas.List.{append-nil, drop_all, drop_more, length-map, length_push}
 use Rattle.ps_elim.specs.Elimination.{AreStagesOf, Ends, IsLeastRefutation}
 use Rattle.ps_elim.specs.Stages.{AreStages, first_set, variables}
-use Rattle.ps_elim.specs.inner.Weighing.{IsNext, vectors_of}
+use Rattle.ps_elim.specs.inner.Weighing.{IsNextSet, vectors_of}
 use Rattle.ps_elim.specs.inner.Choosing.{IsLeastAmong}
 use Rattle.ps_elim.specs.declared.next.Next.{Next}
 use Rattle.ps_elim.specs.declared.next.Next.TheVariants.{Set, Past128}
@@ -50,7 +50,7 @@ returns-in-Past128-clause-answer c =
     let x = get_or xs i (Global 0) in
     let all : xs ≡ variables rows = c.deref-variable-items.ensures.value ∙ c.in_ok-variables.ensures in
     let here = turn rows set stages xs i all c.loop-number-test.true c.loop-number.invariant.state in
-    let next : IsNext rows x (vectors_of set) Past128 = subst₂ (λ (ws : List Weighted) (n : Next). IsNext rows x (vectors_of ws) n) c.as_slice.ensures.value c.in-Past128.is c.in_ok-next.ensures in
+    let next : IsNextSet rows x (vectors_of set) Past128 = subst₂ (λ (ws : List Weighted) (n : Next). IsNextSet rows x (vectors_of ws) n) c.as_slice.ensures.value c.in-Past128.is c.in_ok-next.ensures in
     Eliminating-past rows set stages x (drop (i + 1) (variables rows)) i here next c.loop-number.invariant.counted
 
 pub loop-number-preserved : goal.loop-number-preserved
@@ -66,7 +66,7 @@ loop-number-preserved c =
     let stage = c.in_ok-stage-in-Set.stage in
     let all : xs ≡ variables rows = c.deref-variable-items.ensures.value ∙ c.in_ok-variables.ensures in
     let here = turn rows set stages xs i all c.loop-number-test.true c.loop-number.invariant.state in
-    let next : IsNext rows x (vectors_of set) (Set c.in-Set.next) = subst₂ (λ (ws : List Weighted) (n : Next). IsNext rows x (vectors_of ws) n) c.as_slice.ensures.value c.in-Set.is c.in_ok-next.ensures in
+    let next : IsNextSet rows x (vectors_of set) (Set c.in-Set.next) = subst₂ (λ (ws : List Weighted) (n : Next). IsNextSet rows x (vectors_of ws) n) c.as_slice.ensures.value c.in-Set.is c.in_ok-next.ensures in
     let is = c.in_ok-stage-in-Set.ensures in
     let pushed = c.in_ok-push-in-Set.ensures.items in
     record {

@@ -1,7 +1,7 @@
 use Rattle.std.proofs.Common.{All, List, subst}
 use Rattle.std.proofs.lemmas.List.{take_all}
 use Rattle.std.proofs.lemmas.Result.{err_from_is_err_and}
-use Rattle.ps_elim.specs.Combining.{PairFits}
+use Rattle.ps_elim.specs.Combining.{CombinationFits}
 use Rattle.ps_elim.specs.inner.Weighing.{AllPairsFit, IsPairable, pointed_to, vectors_of}
 use Rattle.ps_elim.specs.declared.sign.Sign.TheVariants.{Positive}
 use Rattle.ps_elim.specs.declared.weighted.Weighted.{Weighted}
@@ -17,7 +17,7 @@ with_pairs_of-requires g c =
 pub returns-in_err-all-clause-past : goal.returns-in_err-all-clause-past
 returns-in_err-all-clause-past g c =
     let end = err_from_is_err_and c.from_residual.result c.from_residual.ensures.1 in
-    rw (end.1, end.2) (λ past all. c.in_err-all.ensures.past (same_error c.in_err-all.field-0.0 Past128 past) (vector_item (λ p. All (PairFits g.rows c.args.variable p) (vectors_of (pointed_to c.args.negatives.now))) c.args.positives.now c.loop-positive.positive-index c.positive-item.result c.loop-positive-test.true c.positive-item.is all))
+    rw (end.1, end.2) (λ past all. c.in_err-all.ensures.past (same_error c.in_err-all.field-0.0 Past128 past) (vector_item (λ p. All (CombinationFits g.rows c.args.variable p) (vectors_of (pointed_to c.args.negatives.now))) c.args.positives.now c.loop-positive.positive-index c.positive-item.result c.loop-positive-test.true c.positive-item.is all))
 
 pub loop-positive-preserved : goal.loop-positive-preserved
 loop-positive-preserved g c =
@@ -29,7 +29,7 @@ loop-positive-preserved g c =
     record {
       weighted = c.in_ok-all.ensures.weighted;
       vectors = all_pairs-step g.rows x refs i r qs c.loop-positive.all.items c.in_ok-all.all.items c.args.made.items c.loop-positive-test.true c.positive-item.is c.loop-positive.invariant.vectors c.in_ok-all.ensures.vectors;
-      fits = fits-step (λ p. All (PairFits g.rows x p) qs) refs i r c.loop-positive-test.true c.positive-item.is c.loop-positive.invariant.fits c.in_ok-all.ensures.fits;
+      fits = fits-step (λ p. All (CombinationFits g.rows x p) qs) refs i r c.loop-positive-test.true c.positive-item.is c.loop-positive.invariant.fits c.in_ok-all.ensures.fits;
     }
 
 pub returns-clause-fits : goal.returns-clause-fits

@@ -1,6 +1,6 @@
 use Rattle.std.proofs.Common.{ℕ, List, length, sym, ap, ◌∙◌, subst, subst₂}
 use Rattle.std.proofs.lemmas.Result.{err_from_is_err_and}
-use Rattle.ps_elim.specs.Combining.{PairFits}
+use Rattle.ps_elim.specs.Combining.{CombinationFits}
 use Rattle.ps_elim.specs.Vectors.{IsSum}
 use Rattle.ps_elim.proofs.Entries.{EntriesFit}
 use Rattle.ps_elim.proofs.Pairing.{first_weight, on_ok, pair_fits, pair_sum, same_error, second_weight}
@@ -38,4 +38,4 @@ returns-clause-fits g c =
     let m = c.weights_of-weights.result in
     let first = first_weight g.rows c.args.variable p q m c.requires.0.0 c.requires.1.0 c.weights_of-weights.ensures.weights in
     let second = second_weight g.rows c.args.variable p q m c.requires.0.0 c.requires.1.0 c.weights_of-weights.ensures.weights in
-    on_ok (PairFits g.rows c.args.variable p.vector q.vector) c.map_err.result (pair_fits g.rows c.args.variable p q m.first m.second c.requires.0.0 c.requires.1.0 first second c.in_ok-vector.ensures.fits c.in_ok-row.ensures.fits)
+    on_ok (CombinationFits g.rows c.args.variable p.vector q.vector) c.map_err.result (pair_fits g.rows c.args.variable p q m.first m.second c.requires.0.0 c.requires.1.0 first second c.in_ok-vector.ensures.fits c.in_ok-row.ensures.fits)

@@ -1,9 +1,9 @@
 use Rattle.std.proofs.Common.{ℕ, zero, suc, ◌≤◌, inr, refl, arith}
 use Rattle.std.specs.Prelude.{codes}
-use Rattle.ps_parts.specs.Cuts.{IsMark}
+use Rattle.ps_parts.specs.Cuts.{IsMarkAt}
 use Rattle.ps_parts.proofs.laws.the_first_mark_cuts.Goals as goal
 
-none_before : (other : ℕ) → IsMark (codes "a\n%%\nb\n%%\n") other → 2 ≤ other
+none_before : (other : ℕ) → IsMarkAt (codes "a\n%%\nb\n%%\n") other → 2 ≤ other
 none_before zero mark = absurd (let line = mark.line in cc)
 none_before (suc zero) mark = absurd (let line = mark.line in cc)
 none_before (suc (suc n)) mark = omega arith

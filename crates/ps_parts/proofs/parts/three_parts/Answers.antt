@@ -1,13 +1,13 @@
 -- The second cut is one of what comes after the first.
 use Rattle.std.proofs.Common.{inl, inr, refl}
 use Rattle.ps_parts.proofs.Marks.{cut_again, numbered_after, numbered_whole}
-use Rattle.ps_parts.specs.Cuts.{program_of}
+use Rattle.ps_parts.specs.Cuts.{program_before}
 use Rattle.ps_parts.proofs.parts.three_parts.Goals as goal
 
 pub returns-in-None-cut_at_mark-clause-no_mark : goal.returns-in-None-cut_at_mark-clause-no_mark
 returns-in-None-cut_at_mark-clause-no_mark c = λ _.
     let before = c.in-Some.cut.before.now in
-    inr (program_of before, c.in-Some.cut.after.now, (before, c.in-Some.ensures.cut, refl), c.in-None-cut_at_mark.ensures.cut)
+    inr (program_before before, c.in-Some.cut.after.now, (before, c.in-Some.ensures.cut, refl), c.in-None-cut_at_mark.ensures.cut)
 
 pub returns-then-program-gt-MOST_PROGRAM-clause-limit : goal.returns-then-program-gt-MOST_PROGRAM-clause-limit
 returns-then-program-gt-MOST_PROGRAM-clause-limit c = λ _. (

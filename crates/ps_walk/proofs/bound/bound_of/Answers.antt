@@ -3,14 +3,14 @@ use Rattle.std.specs.Int.{w128}
 use Rattle.std.proofs.lemmas.Int.{ints, to_z-of_z}
 use lib.Signed.{lt_z}
 use Rattle.ps_term.specs.Pairs.{coefficient}
-use Rattle.ps_walk.specs.inner.Findings.{values_of}
+use Rattle.ps_walk.specs.inner.Findings.{found_values}
 use Rattle.ps_walk.proofs.Bounding.{below_zero}
 use Rattle.ps_walk.proofs.RowBounds.{upper_at, lower_at, fits_above, fits_below}
 use Rattle.ps_walk.proofs.bound.bound_of.Goals as goal
 
 pub returns-in_err-greatest-clause-past : goal.returns-in_err-greatest-clause-past
 returns-in_err-greatest-clause-past c =
-    let v = values_of c.args.found.now in
+    let v = found_values c.args.found.now in
     let r = c.args.row.now in
     let a = c.coefficient-coefficient.result in
     let fa : FitsSigned w128 a = search rules in
@@ -23,7 +23,7 @@ returns-in_err-greatest-clause-past c =
 
 pub returns-in_ok-greatest-clause-fits : goal.returns-in_ok-greatest-clause-fits
 returns-in_ok-greatest-clause-fits c =
-    let v = values_of c.args.found.now in
+    let v = found_values c.args.found.now in
     let r = c.args.row.now in
     let a = c.coefficient-coefficient.result in
     let u = c.in_ok-greatest.field-0 in
@@ -36,7 +36,7 @@ returns-in_ok-greatest-clause-fits c =
 
 pub returns-in_ok-greatest-clause-bound : goal.returns-in_ok-greatest-clause-bound
 returns-in_ok-greatest-clause-bound c =
-    let v = values_of c.args.found.now in
+    let v = found_values c.args.found.now in
     let r = c.args.row.now in
     let a = c.coefficient-coefficient.result in
     let u = c.in_ok-greatest.field-0 in
@@ -50,7 +50,7 @@ returns-in_ok-greatest-clause-bound c =
 
 pub returns-else-coefficient-gt0-clause-fits : goal.returns-else-coefficient-gt0-clause-fits
 returns-else-coefficient-gt0-clause-fits c =
-    let v = values_of c.args.found.now in
+    let v = found_values c.args.found.now in
     let r = c.args.row.now in
     let a = c.coefficient-coefficient.result in
     let l = c.least.result in
@@ -63,7 +63,7 @@ returns-else-coefficient-gt0-clause-fits c =
 
 pub returns-else-coefficient-gt0-clause-bound : goal.returns-else-coefficient-gt0-clause-bound
 returns-else-coefficient-gt0-clause-bound c =
-    let v = values_of c.args.found.now in
+    let v = found_values c.args.found.now in
     let r = c.args.row.now in
     let a = c.coefficient-coefficient.result in
     let l = c.least.result in

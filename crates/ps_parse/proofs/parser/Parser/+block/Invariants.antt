@@ -1,5 +1,5 @@
 use Rattle.std.proofs.Common.{◌+◌, ◌-◌, ◌*◌}
-use Rattle.ps_parse.specs.Reading.{while_at}
+use Rattle.ps_parse.specs.Reading.{words_while}
 use Rattle.ps_parse.specs.Inner.Scoped.{names_in}
 use Rattle.ps_parse.specs.Blocks.{has_more, stmt_at, block_at}
 use Rattle.ps_parse.proofs.Repeated.{Repeats}
@@ -33,4 +33,4 @@ abbrev pub decreases-nested_block : goal.decreases-nested_block
 decreases-nested_block l = l.levels * 8 + 6
 
 abbrev pub invariant-stmts-loop : goal.invariant-stmts-loop
-invariant-stmts-loop l = Repeats has_more (stmt_at (block_at (names_in l.self.scope) l.self.most l.levels) l.atomic (names_in l.self.scope) l.self.most l.levels) l.stmts.items (l.self.most - l.counter) l.cursor (while_at has_more (stmt_at (block_at (names_in l.self.scope) l.self.most l.levels) l.atomic (names_in l.self.scope) l.self.most l.levels) l.self.most l.fn.cursor)
+invariant-stmts-loop l = Repeats has_more (stmt_at (block_at (names_in l.self.scope) l.self.most l.levels) l.atomic (names_in l.self.scope) l.self.most l.levels) l.stmts.items (l.self.most - l.counter) l.cursor (words_while has_more (stmt_at (block_at (names_in l.self.scope) l.self.most l.levels) l.atomic (names_in l.self.scope) l.self.most l.levels) l.self.most l.fn.cursor)
