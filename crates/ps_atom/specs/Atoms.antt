@@ -1,6 +1,7 @@
 -- What atoms say of states, their order, and renamed atoms.
 use Rattle.std.specs.Prelude.{◌≡◌, ℕ, ◌<◌, ℤ, List, Contains, map, slice_index}
 use Rattle.std.specs.Cmp.Lexicographic.{slice_cmp}
+use Rattle.std.specs.List.{flat_map}
 use Rattle.std.specs.Ordering.{nat_cmp, ordering_then}
 use Rattle.std.specs.declared.cmp.Ordering.{Ordering}
 use Rattle.ps_term.specs.Row.{Holds}
@@ -42,3 +43,7 @@ abbrev pub IsOfSlots : ℕ → Var → Type 0
 IsOfSlots arity (Global _) = Unit {0}
 IsOfSlots arity (Local slot _) = slot < arity
 IsOfSlots arity (Havoc _) = Unit {0}
+
+-- the threads of atoms
+abbrev pub threads_of : List Atom → List ℕ
+threads_of atoms = flat_map (λ (q : Atom). q.threads) atoms

@@ -11,7 +11,7 @@ use Rattle.ps_tree.specs.declared.stmt.StmtKind.{StmtKind, Row_of-Stmt, end_of-S
 use Rattle.ps_tree.specs.declared.stmt.StmtKind.TheVariants.{If, While}
 use Rattle.ps_tree.specs.declared.stmt.StmtKind.TheBlock.{hidden-the_row-Stmt-0, items_hidden-the_row-Stmt-0}
 use Rattle.ps_token.specs.declared.place.Place.{Place}
-use Rattle.ps_compile.specs.Ends.{IsEndOf}
+use Rattle.ps_compile.specs.Ends.{IsCompileEnd}
 use Rattle.ps_compile.specs.inner.Drafts.{if_site, while_site, draft_of, commands_on, Grows, Lays, OpensIf, OpensWhile}
 use Rattle.ps_compile.specs.declared.draft.Draft.{Draft}
 use Rattle.ps_compile.specs.declared.plan.Plan.{Plan}
@@ -132,7 +132,7 @@ laying_step body first now mid next s rest from to z all n l is drafts owners g 
 pub laying_fails : (body : ℕ) (first now mid : Plan) (s : Stmt) (rest : List Stmt) (from to z : ℕ) (all : List Site) (n : ℕ) →
     Laying body first now (sites_of (s ∷ rest) from z (length now.owners.items)) all (inner_of (s ∷ rest)) n →
     to ≡ block_start rest z (length now.owners.items) → mid.drafts.items ≡ now.drafts.items → mid.owners.items ≡ now.owners.items ++ replicate (opened_of rest) (Some body) →
-    (end : CompileEnd) → IsEndOf (checks (length mid.drafts.items) (sites s.place s.kind from to (length mid.owners.items))) end → IsEndOf (checks (length first.drafts.items) all) end
+    (end : CompileEnd) → IsCompileEnd (checks (length mid.drafts.items) (sites s.place s.kind from to (length mid.owners.items))) end → IsCompileEnd (checks (length first.drafts.items) all) end
 laying_fails body first now mid s rest from to z all n l is drafts owners end h =
     laying_end body first mid (sites s.place s.kind from to (length mid.owners.items)) (sites_of rest to z (length mid.owners.items + inner s.kind)) all (inner s.kind + inner_of rest) n
     (subst (λ (ss : List Site). Laying body first mid ss all (inner s.kind + inner_of rest) n)
@@ -149,7 +149,7 @@ pub block_fails : (body : ℕ) (first now mid : Plan) (s : Stmt) (block rest : L
     i < length block → s ≡ get_or block i s → rest ≡ drop (i + 1) block →
     Laying body first now (sites_of (drop i block) from z (length now.owners.items)) all (inner_of (drop i block)) n →
     to ≡ block_start rest z (length now.owners.items) → mid.drafts.items ≡ now.drafts.items → mid.owners.items ≡ now.owners.items ++ replicate (opened_of rest) (Some body) →
-    IsEndOf (checks (length mid.drafts.items) (sites s.place s.kind from to (length mid.owners.items))) end → IsEndOf (checks (length first.drafts.items) all) end
+    IsCompileEnd (checks (length mid.drafts.items) (sites s.place s.kind from to (length mid.owners.items))) end → IsCompileEnd (checks (length first.drafts.items) all) end
 block_fails body first now mid s block rest i from to z all n end lt is tail l at drafts owners h =
     laying_fails body first now mid s rest from to z all n
     (subst (λ (b : List Stmt). Laying body first now (sites_of b from z (length now.owners.items)) all (inner_of b) n) (at_drop block i s lt is ∙ ap (λ (b : List Stmt). s ∷ b) (sym tail)) l)
@@ -205,8 +205,8 @@ pub if_ends : (body : ℕ) (old o1 mid : Plan) (place : Place) (k : StmtKind) (t
     first ≡ block_start held b (length old.owners.items) → o1.owners.items ≡ old.owners.items ++ replicate (opened_of held) (Some body) → o1.drafts.items ≡ old.drafts.items →
     second ≡ block_start failed b (length o1.owners.items) → mid.owners.items ≡ o1.owners.items ++ replicate (opened_of failed) (Some body) → mid.drafts.items ≡ o1.drafts.items →
     due ≡ map draft_of (planned_from a (going_to first (ways true t) ++ going_to second (ways false t))) →
-    IsEndOf (edges_checks place (length mid.drafts.items) (length mid.owners.items) (commands_on due) ++ inner_checks k) end →
-    IsEndOf (checks (length old.drafts.items) (if_site place k t held failed a b (length old.owners.items) ∷ [])) end
+    IsCompileEnd (edges_checks place (length mid.drafts.items) (length mid.owners.items) (commands_on due) ++ inner_checks k) end →
+    IsCompileEnd (checks (length old.drafts.items) (if_site place k t held failed a b (length old.owners.items) ∷ [])) end
 if_ends body old o1 mid place k t held failed a b first second due end none f owners drafts s owners2 drafts2 is tested =
     site_finishes old mid (if_site place k t held failed a b (length old.owners.items)) due end none (drafts2 ∙ drafts)
     (sym (owners_more body old mid (opened_of held + opened_of failed) (owners_twice body old o1 mid (opened_of held) (opened_of failed) owners owners2)))
@@ -223,9 +223,9 @@ if_split place k t held failed a b next e =
     ++ sites_of failed (block_start failed b (next + opened_of held)) b ((next + (opened_of held + opened_of failed)) + inner_of held))) (sym e)
 
 pub if_err : (place : Place) (k : StmtKind) (t : Test) (held failed : List Stmt) (a b n next : ℕ) (end : CompileEnd) → k ≡ If t held failed →
-    IsEndOf (checks n (if_site place k t held failed a b next ∷ [])) end → IsEndOf (checks n (sites place k a b next)) end
+    IsCompileEnd (checks n (if_site place k t held failed a b next ∷ [])) end → IsCompileEnd (checks n (sites place k a b next)) end
 if_err place k t held failed a b n next end e h =
-    subst (λ (ss : List Site). IsEndOf (checks n ss) end) (sym (if_split place k t held failed a b next e)) (end_first n (if_site place k t held failed a b next ∷ [])
+    subst (λ (ss : List Site). IsCompileEnd (checks n ss) end) (sym (if_split place k t held failed a b next e)) (end_first n (if_site place k t held failed a b next ∷ [])
     (sites_of held (block_start held b next) b (next + (opened_of held + opened_of failed))
     ++ sites_of failed (block_start failed b (next + opened_of held)) b ((next + (opened_of held + opened_of failed)) + inner_of held)) end h)
 
@@ -236,17 +236,17 @@ held_moved body o0 o1 place k t held failed a b starts o =
     ap₂ (λ (i j : ℕ). sites_of held i b j) o.first (owners_more body o0 o1 (opened_of held + opened_of failed) o.grows.owners)
 
 pub if_err_held : (body : ℕ) (o0 o1 : Plan) (place : Place) (k : StmtKind) (t : Test) (held failed : List Stmt) (a b : ℕ) (starts : ℕ × ℕ) (end : CompileEnd) → k ≡ If t held failed →
-    OpensIf body o0 o1 place k t held failed a b starts → IsEndOf (checks (length o1.drafts.items) (sites_of held starts.0 b (length o1.owners.items))) end →
-    IsEndOf (checks (length o0.drafts.items) (sites place k a b (length o0.owners.items))) end
+    OpensIf body o0 o1 place k t held failed a b starts → IsCompileEnd (checks (length o1.drafts.items) (sites_of held starts.0 b (length o1.owners.items))) end →
+    IsCompileEnd (checks (length o0.drafts.items) (sites place k a b (length o0.owners.items))) end
 if_err_held body o0 o1 place k t held failed a b starts end e o h =
-    subst (λ (ss : List Site). IsEndOf (checks (length o0.drafts.items) ss) end) (sym (if_split place k t held failed a b (length o0.owners.items) e))
+    subst (λ (ss : List Site). IsCompileEnd (checks (length o0.drafts.items) ss) end) (sym (if_split place k t held failed a b (length o0.owners.items) e))
     (end_second body o0 o1 (if_site place k t held failed a b (length o0.owners.items) ∷ [])
     (sites_of held (block_start held b (length o0.owners.items)) b (length o0.owners.items + (opened_of held + opened_of failed))
     ++ sites_of failed (block_start failed b (length o0.owners.items + opened_of held)) b ((length o0.owners.items + (opened_of held + opened_of failed)) + inner_of held))
     (opened_of held + opened_of failed) end o.grows
     (end_first (length o1.drafts.items)
     (sites_of held (block_start held b (length o0.owners.items)) b (length o0.owners.items + (opened_of held + opened_of failed)))
-    (sites_of failed (block_start failed b (length o0.owners.items + opened_of held)) b ((length o0.owners.items + (opened_of held + opened_of failed)) + inner_of held)) end (subst (λ (ss : List Site). IsEndOf (checks (length o1.drafts.items) ss) end) (held_moved body o0 o1 place k t held failed a b starts o) h)))
+    (sites_of failed (block_start failed b (length o0.owners.items + opened_of held)) b ((length o0.owners.items + (opened_of held + opened_of failed)) + inner_of held)) end (subst (λ (ss : List Site). IsCompileEnd (checks (length o1.drafts.items) ss) end) (held_moved body o0 o1 place k t held failed a b starts o) h)))
 
 pub if_lays : {T : Type 0} (r : Result T CompileEnd) (body : ℕ) (o0 o1 o2 o3 : Plan) (place : Place) (k : StmtKind) (t : Test) (held failed : List Stmt) (a b : ℕ) (starts : ℕ × ℕ) →
     k ≡ If t held failed → OpensIf body o0 o1 place k t held failed a b starts →
@@ -298,8 +298,8 @@ pub while_ends : (body : ℕ) (old mid : Plan) (place : Place) (k : StmtKind) (t
     NoneIsExceeded (alternatives_checks place k ++ paths_checks place k) →
     first ≡ block_start block a (length old.owners.items) → mid.owners.items ≡ old.owners.items ++ replicate (opened_of block) (Some body) → mid.drafts.items ≡ old.drafts.items →
     due ≡ map draft_of (planned_from a (going_to first (ways true t) ++ going_to b (ways false t))) →
-    IsEndOf (edges_checks place (length mid.drafts.items) (length mid.owners.items) (commands_on due) ++ inner_checks k) end →
-    IsEndOf (checks (length old.drafts.items) (while_site place k t block a b (length old.owners.items) ∷ [])) end
+    IsCompileEnd (edges_checks place (length mid.drafts.items) (length mid.owners.items) (commands_on due) ++ inner_checks k) end →
+    IsCompileEnd (checks (length old.drafts.items) (while_site place k t block a b (length old.owners.items) ∷ [])) end
 while_ends body old mid place k t block a b first due end none f owners drafts is tested =
     site_finishes old mid (while_site place k t block a b (length old.owners.items)) due end none drafts (sym (owners_more body old mid (opened_of block) owners))
     (is ∙ ap (λ (i : ℕ). map draft_of (planned_from a (going_to i (ways true t) ++ going_to b (ways false t)))) f) tested
@@ -311,9 +311,9 @@ while_split place k t block a b next e =
     ∙ ap (λ (j : StmtKind). (while_site place j t block a b next ∷ []) ++ sites_of block (block_start block a next) a (next + opened_of block)) (sym e)
 
 pub while_err : (place : Place) (k : StmtKind) (t : Test) (block : List Stmt) (a b n next : ℕ) (end : CompileEnd) → k ≡ While t block →
-    IsEndOf (checks n (while_site place k t block a b next ∷ [])) end → IsEndOf (checks n (sites place k a b next)) end
+    IsCompileEnd (checks n (while_site place k t block a b next ∷ [])) end → IsCompileEnd (checks n (sites place k a b next)) end
 while_err place k t block a b n next end e h =
-    subst (λ (ss : List Site). IsEndOf (checks n ss) end) (sym (while_split place k t block a b next e)) (end_first n (while_site place k t block a b next ∷ []) (sites_of block (block_start block a next) a (next + opened_of block)) end h)
+    subst (λ (ss : List Site). IsCompileEnd (checks n ss) end) (sym (while_split place k t block a b next e)) (end_first n (while_site place k t block a b next ∷ []) (sites_of block (block_start block a next) a (next + opened_of block)) end h)
 
 pub while_lays : {T : Type 0} (r : Result T CompileEnd) (body : ℕ) (o0 o1 o2 : Plan) (place : Place) (k : StmtKind) (t : Test) (block : List Stmt) (a b first : ℕ) → k ≡ While t block →
     OpensWhile body o0 o1 place k t block a b first → Lays r body o1 o2 (sites_of block first a (length o1.owners.items)) (inner_of block) →

@@ -12,7 +12,7 @@ use Rattle.ps_tree.specs.declared.stmt.StmtKind.TheVariants.{Atomic, If}
 use Rattle.ps_tree.specs.declared.stmt.StmtKind.TheBlock.{hidden-the_row-Stmt-0, items_hidden-the_row-Stmt-0}
 use Rattle.ps_token.specs.declared.place.Place.{Place}
 use Rattle.ps_compile.specs.inner.Inside.{inside_of}
-use Rattle.ps_compile.specs.Ends.{IsEndOf}
+use Rattle.ps_compile.specs.Ends.{IsCompileEnd}
 use Rattle.ps_compile.specs.declared.compile_end.CompileEnd.{CompileEnd}
 use Rattle.ps_compile.proofs.Testing.{StillTests, still_more, still_end, end_right, none_append}
 
@@ -57,7 +57,7 @@ within_step ms i m l e s f g =
     (subst (λ (c : List Check). StillTests c (inside_of ms)) (inside_here ms i m l e) s) (none_both (alternatives_checks m.place m.kind) (inside m.kind) f g)
 
 pub within_end : (ms : List Stmt) (i : ℕ) (m : Stmt) (end : CompileEnd) → i < length ms → m ≡ get_or ms i m → StillTests (inside_of (drop i ms)) (inside_of ms) →
-    NoneIsExceeded (alternatives_checks m.place m.kind) → IsEndOf (inside m.kind) end → IsEndOf (inside_of ms) end
+    NoneIsExceeded (alternatives_checks m.place m.kind) → IsCompileEnd (inside m.kind) end → IsCompileEnd (inside_of ms) end
 within_end ms i m end l e s f h =
     still_end (alternatives_checks m.place m.kind ++ inside m.kind) (inside_of (drop (i + 1) ms)) (inside_of ms)
     (subst (λ (c : List Check). StillTests c (inside_of ms)) (inside_here ms i m l e) s) end (end_right (alternatives_checks m.place m.kind) (inside m.kind) end f h)

@@ -20,7 +20,7 @@ use Rattle.ps_compile.specs.declared.draft.Draft.{Draft}
 use Rattle.ps_compile.specs.inner.Drafts.{draft_of}
 use Rattle.ps_compile.specs.inner.KeyLaws.{key_decides, op_decides}
 use Rattle.ps_compile.specs.inner.Keys.{command_of, key_of, key_eq, op_eq, op_key, op_key_eq}
-use Rattle.ps_compile.specs.inner.Numbered.{AreNumberedDrafts, ComesFrom, FitsEdge, IsDraftEdge, IsNumbered}
+use Rattle.ps_compile.specs.inner.Numbered.{AreNumberedDrafts, ComesFrom, FitsEdge, IsDraftEdge, AreNumberedSoFar}
 use Rattle.ps_graph.specs.declared.edge.Edge.{Edge}
 
 -- ---- a command that has a number keeps it where the table grows
@@ -119,7 +119,7 @@ stored_ops keys c n k e h =
     ∙ ops_back c.ops
 
 pub numbering_step : (all : List Draft) (d : Draft) (rest : List Draft) (old new : List CommandKey) (es : List Edge) (e : Edge) →
-    Numbering all (d ∷ rest) old es → IsNumbered old new d e → Numbering all rest new (es ++ e ∷ [])
+    Numbering all (d ∷ rest) old es → AreNumberedSoFar old new d e → Numbering all rest new (es ++ e ∷ [])
 numbering_step all d rest old new es e s n = at (list_any (key_eq key) old) refl
   where
     key : CommandKey

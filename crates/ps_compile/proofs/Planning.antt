@@ -7,7 +7,7 @@ use Rattle.ps_compile.proofs.Declaring.{all_joined}
 use Rattle.ps_compile.proofs.Facts.{Ours, body_lies}
 use Rattle.ps_compile.specs.Checks.{Check, NoneIsExceeded, alternatives_checks, paths_checks, rows_checks, numbers_checks, edges_checks, commands_of, inner_checks, site_checks, checks}
 use Rattle.ps_compile.specs.Compiled.{one_owner}
-use Rattle.ps_compile.specs.Ends.{IsEndOf}
+use Rattle.ps_compile.specs.Ends.{IsCompileEnd}
 use Rattle.ps_compile.specs.Layout.{Site, planned_from, planned_at, all_planned, block_start, opened_of, inner_of, sites_of, body_sites, body_size}
 use Rattle.ps_compile.specs.Ops.{ops_on}
 use Rattle.ps_compile.specs.declared.compile_end.CompileEnd.{CompileEnd}
@@ -42,10 +42,10 @@ plan_made body o0 o1 o2 end first none e owners drafts g = record {
 
 pub plan_fails : (body : List Stmt) (o0 o1 : Plan) (end : ℕ) (why : CompileEnd) → o0.owners.items ≡ Some 0 ∷ None ∷ [] → o0.drafts.items ≡ [] →
     end ≡ block_start body 0 (length o0.owners.items) → o1.owners.items ≡ o0.owners.items ++ replicate (opened_of body) (Some 0) → o1.drafts.items ≡ o0.drafts.items →
-    IsEndOf (checks (length o1.drafts.items) (sites_of body 0 end (length o1.owners.items))) why → IsEndOf (checks 0 (body_sites body 0 2)) why
+    IsCompileEnd (checks (length o1.drafts.items) (sites_of body 0 end (length o1.owners.items))) why → IsCompileEnd (checks 0 (body_sites body 0 2)) why
 plan_fails body o0 o1 end why first none e owners drafts h =
-    subst (λ (ss : List Site). IsEndOf (checks 0 ss) why) (laid_from body o0 o1 end first e owners)
-    (subst (λ (ds : List Draft). IsEndOf (checks (length ds) (sites_of body 0 end (length o1.owners.items))) why) (drafts ∙ none) h)
+    subst (λ (ss : List Site). IsCompileEnd (checks 0 ss) why) (laid_from body o0 o1 end first e owners)
+    (subst (λ (ds : List Draft). IsCompileEnd (checks (length ds) (sites_of body 0 end (length o1.owners.items))) why) (drafts ∙ none) h)
 
 -- ---- what holds of each edge
 

@@ -7,7 +7,7 @@ use Rattle.ps_compile.specs.Ops.{ops_on}
 use Rattle.ps_graph.specs.Paths.{Act}
 use Rattle.ps_tree.specs.declared.limit_name.LimitName.{LimitName}
 use Rattle.ps_token.specs.declared.place.Place.{Place}
-use Rattle.ps_compile.specs.Ends.{IsEndOf}
+use Rattle.ps_compile.specs.Ends.{IsCompileEnd}
 use Rattle.ps_compile.specs.inner.Drafts.{draft_of, commands_on, Grows, Lays}
 use Rattle.ps_compile.specs.declared.draft.Draft.{Draft}
 use Rattle.ps_compile.specs.declared.plan.Plan.{Plan}
@@ -27,18 +27,18 @@ pub first_right : (place : Place) (name : LimitName) (xs ys : List Check) → No
 first_right place name [] ys n f = f
 first_right place name (x ∷ xs) ys n f = inr (n.0, first_right place name xs ys n.1 f)
 
-pub end_left : (xs ys : List Check) (end : CompileEnd) → IsEndOf xs end → IsEndOf (xs ++ ys) end
+pub end_left : (xs ys : List Check) (end : CompileEnd) → IsCompileEnd xs end → IsCompileEnd (xs ++ ys) end
 end_left xs ys (Limit place name) h = first_left place name xs ys h
 end_left xs ys (Memory _) h = tt
 
-pub end_right : (xs ys : List Check) (end : CompileEnd) → NoneIsExceeded xs → IsEndOf ys end → IsEndOf (xs ++ ys) end
+pub end_right : (xs ys : List Check) (end : CompileEnd) → NoneIsExceeded xs → IsCompileEnd ys end → IsCompileEnd (xs ++ ys) end
 end_right xs ys (Limit place name) n h = first_right place name xs ys n h
 end_right xs ys (Memory _) n h = tt
 
 -- what is left to test decides all
 pub record StillTests (left all : List Check) : Type 0 where
   pub none : NoneIsExceeded left → NoneIsExceeded all
-  pub end : (end : CompileEnd) → IsEndOf left end → IsEndOf all end
+  pub end : (end : CompileEnd) → IsCompileEnd left end → IsCompileEnd all end
 
 pub still_all : (all : List Check) → StillTests all all
 still_all all = record { none = λ n. n; end = λ e h. h }
@@ -49,7 +49,7 @@ still_more done left all s n = record {
   end = λ e h. s.end e (end_right done left e n h);
 }
 
-pub still_end : (done left all : List Check) → StillTests (done ++ left) all → (end : CompileEnd) → IsEndOf done end → IsEndOf all end
+pub still_end : (done left all : List Check) → StillTests (done ++ left) all → (end : CompileEnd) → IsCompileEnd done end → IsCompileEnd all end
 still_end done left all s end h = s.end end (end_left done left end h)
 
 -- ---- sites one after another
@@ -96,15 +96,15 @@ grows_both body a b c ss ts m n g h = record {
       ∙ ap (λ (l : List (Option ℕ)). a.owners.items ++ l) (replicate-append-replicate m n (Some body));
 }
 
-pub end_first : (n : ℕ) (ss ts : List Site) (end : CompileEnd) → IsEndOf (checks n ss) end → IsEndOf (checks n (ss ++ ts)) end
-end_first n ss ts end h = subst (λ (l : List Check). IsEndOf l end) (sym (checks_append n ss ts)) (end_left (checks n ss) (checks (n + edges_in ss) ts) end h)
+pub end_first : (n : ℕ) (ss ts : List Site) (end : CompileEnd) → IsCompileEnd (checks n ss) end → IsCompileEnd (checks n (ss ++ ts)) end
+end_first n ss ts end h = subst (λ (l : List Check). IsCompileEnd l end) (sym (checks_append n ss ts)) (end_left (checks n ss) (checks (n + edges_in ss) ts) end h)
 
-pub end_second : (body : ℕ) (a b : Plan) (ss ts : List Site) (m : ℕ) (end : CompileEnd) → Grows body a b ss m → IsEndOf (checks (length b.drafts.items) ts) end →
-    IsEndOf (checks (length a.drafts.items) (ss ++ ts)) end
+pub end_second : (body : ℕ) (a b : Plan) (ss ts : List Site) (m : ℕ) (end : CompileEnd) → Grows body a b ss m → IsCompileEnd (checks (length b.drafts.items) ts) end →
+    IsCompileEnd (checks (length a.drafts.items) (ss ++ ts)) end
 end_second body a b ss ts m end g h =
-    subst (λ (l : List Check). IsEndOf l end) (sym (checks_append (length a.drafts.items) ss ts))
+    subst (λ (l : List Check). IsCompileEnd l end) (sym (checks_append (length a.drafts.items) ss ts))
     (end_right (checks (length a.drafts.items) ss) (checks (length a.drafts.items + edges_in ss) ts) end g.free
-    (subst (λ (k : ℕ). IsEndOf (checks k ts) end) (grown body a b ss m g) h))
+    (subst (λ (k : ℕ). IsCompileEnd (checks k ts) end) (grown body a b ss m g) h))
 
 -- ---- a loop over a block
 
@@ -140,7 +140,7 @@ laying_more body first now next done left all k m n l g = record {
 }
 
 pub laying_end : (body : ℕ) (first now : Plan) (done left all : List Site) (m n : ℕ) → Laying body first now (done ++ left) all m n →
-    (end : CompileEnd) → IsEndOf (checks (length now.drafts.items) done) end → IsEndOf (checks (length first.drafts.items) all) end
+    (end : CompileEnd) → IsCompileEnd (checks (length now.drafts.items) done) end → IsCompileEnd (checks (length first.drafts.items) all) end
 laying_end body first now done left all m n l end h = l.tests.end end (end_first (length now.drafts.items) done left end h)
 
 -- ---- one site
@@ -161,18 +161,18 @@ same_edges old mid s due drafts locations is =
     ∙ ap (λ (cs : List (List Op)). edges_checks s.place (length old.drafts.items) s.locations cs ++ inner_checks s.kind) (ap commands_on is ∙ commands_are s.at s.paths)
 
 -- a test that is passed before the edges, or after
-pub site_begins : (n : ℕ) (s : Site) (end : CompileEnd) → IsEndOf (alternatives_checks s.place s.kind ++ paths_checks s.place s.kind) end → IsEndOf (checks n (s ∷ [])) end
-site_begins n s end h = end_left (site_checks n s) [] end (subst (λ (l : List Check). IsEndOf l end) (sym (site_is n s))
+pub site_begins : (n : ℕ) (s : Site) (end : CompileEnd) → IsCompileEnd (alternatives_checks s.place s.kind ++ paths_checks s.place s.kind) end → IsCompileEnd (checks n (s ∷ [])) end
+site_begins n s end h = end_left (site_checks n s) [] end (subst (λ (l : List Check). IsCompileEnd l end) (sym (site_is n s))
     (end_left (alternatives_checks s.place s.kind ++ paths_checks s.place s.kind) (edges_checks s.place n s.locations (commands_of s) ++ inner_checks s.kind) end h))
 
 pub site_finishes : (old mid : Plan) (s : Site) (due : List Draft) (end : CompileEnd) → NoneIsExceeded (alternatives_checks s.place s.kind ++ paths_checks s.place s.kind) →
     mid.drafts.items ≡ old.drafts.items → s.locations ≡ length mid.owners.items → due ≡ map draft_of (planned_at s) →
-    IsEndOf (edges_checks s.place (length mid.drafts.items) (length mid.owners.items) (commands_on due) ++ inner_checks s.kind) end →
-    IsEndOf (checks (length old.drafts.items) (s ∷ [])) end
+    IsCompileEnd (edges_checks s.place (length mid.drafts.items) (length mid.owners.items) (commands_on due) ++ inner_checks s.kind) end →
+    IsCompileEnd (checks (length old.drafts.items) (s ∷ [])) end
 site_finishes old mid s due end first drafts locations is h =
-    end_left (site_checks (length old.drafts.items) s) [] end (subst (λ (l : List Check). IsEndOf l end) (sym (site_is (length old.drafts.items) s))
+    end_left (site_checks (length old.drafts.items) s) [] end (subst (λ (l : List Check). IsCompileEnd l end) (sym (site_is (length old.drafts.items) s))
     (end_right (alternatives_checks s.place s.kind ++ paths_checks s.place s.kind) (edges_checks s.place (length old.drafts.items) s.locations (commands_of s) ++ inner_checks s.kind) end first
-    (subst (λ (l : List Check). IsEndOf l end) (same_edges old mid s due drafts locations is) h)))
+    (subst (λ (l : List Check). IsCompileEnd l end) (same_edges old mid s due drafts locations is) h)))
 
 -- a site whose tests passed and whose edges were added
 pub site_grows : (body : ℕ) (old mid new : Plan) (s : Site) (size : ℕ) (due : List Draft) →

@@ -3,7 +3,7 @@ ghost use Rattle.std.specs.Prelude.{◌≡◌, ◌∷◌, [], None, Some, IfErr,
 ghost use Rattle.ps_compile.specs.Checks.{NoneIsExceeded, checks};
 ghost use Rattle.ps_compile.specs.Compiled.{IsCompiled};
 ghost use Rattle.ps_compile.specs.Conditions.{IsCompilable};
-ghost use Rattle.ps_compile.specs.Ends.{IsEndOf};
+ghost use Rattle.ps_compile.specs.Ends.{IsCompileEnd};
 ghost use Rattle.ps_compile.specs.Layout.{body_sites};
 ghost use Rattle.ps_compile.specs.inner.Plans.{IsPlanOf};
 
@@ -23,7 +23,7 @@ pub fn compile(alloc: Global, program: &Program) -> Result<Graph, CompileEnd>
     requires { IsCompilable program.now }
     ensures compiled { IfOk result (λ graph. IsCompiled program.now graph) }
     ensures within { OnOk result (NoneIsExceeded (checks 0 (body_sites program.now.body 0 2))) }
-    ensures exceeded { IfErr result (IsEndOf (checks 0 (body_sites program.now.body 0 2))) }
+    ensures exceeded { IfErr result (IsCompileEnd (checks 0 (body_sites program.now.body 0 2))) }
 {
     let plan = match plan_of(alloc, program) {
         Ok(plan) => plan,
@@ -39,7 +39,7 @@ pub fn compile(alloc: Global, program: &Program) -> Result<Graph, CompileEnd>
 fn plan_of(alloc: Global, program: &Program) -> Result<Plan, CompileEnd>
     requires { IsCompilable program.now }
     ensures plan { IfOk result (IsPlanOf program.now.body) }
-    ensures exceeded { IfErr result (IsEndOf (checks 0 (body_sites program.now.body 0 2))) }
+    ensures exceeded { IfErr result (IsCompileEnd (checks 0 (body_sites program.now.body 0 2))) }
 {
     let body = program.body.as_slice();
     let mut plan = match empty_plan(alloc) {

@@ -2,7 +2,7 @@
 ghost use Rattle.std.specs.Prelude.{◌≡◌, ◌∷◌, [], ◌++◌, ◌+◌, length, true, false, MatchResult};
 ghost use Rattle.ps_compile.specs.Checks.{checks};
 ghost use Rattle.ps_compile.specs.Layout.{inner, inner_of, opened_of, own_site, sites, sites_of, block_start};
-ghost use Rattle.ps_compile.specs.Ends.{IsEndOf};
+ghost use Rattle.ps_compile.specs.Ends.{IsCompileEnd};
 ghost use Rattle.ps_compile.specs.inner.Drafts.{Lays, OpensIf, OpensWhile, if_site, while_site};
 ghost use Rattle.ps_graph.specs.Follows.{going_to};
 ghost use Rattle.ps_graph.specs.Paths.{paths};
@@ -130,7 +130,7 @@ fn open_if(
 ) -> Result<(usize, usize), CompileEnd>
     ensures { MatchResult result
         (OpensIf 0 plan.old plan.new place kind.now test.now held.now failed.now a b)
-        (IsEndOf (checks (length plan.old.drafts.items)
+        (IsCompileEnd (checks (length plan.old.drafts.items)
         (if_site place kind.now test.now held.now failed.now a b (length plan.old.owners.items) ∷ []))) }
 {
     match begin(place, kind) {
@@ -168,7 +168,7 @@ fn open_while(
 ) -> Result<usize, CompileEnd>
     ensures { MatchResult result
         (OpensWhile 0 plan.old plan.new place kind.now test.now block.now a b)
-        (IsEndOf (checks (length plan.old.drafts.items)
+        (IsCompileEnd (checks (length plan.old.drafts.items)
         (while_site place kind.now test.now block.now a b (length plan.old.owners.items) ∷ []))) }
 {
     match begin(place, kind) {

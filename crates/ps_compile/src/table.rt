@@ -2,7 +2,7 @@
 ghost use Rattle.std.specs.Prelude.{◌≡◌, ◌<◌, ◌+◌, ◌^◌, length, map, IfOk, OnOk};
 ghost use Rattle.std.specs.List.{AllByRecursion};
 ghost use Rattle.ps_compile.specs.inner.Keys.{command_of};
-ghost use Rattle.ps_compile.specs.inner.Numbered.{AreNumberedDrafts, FitsEdge, IsNumbered};
+ghost use Rattle.ps_compile.specs.inner.Numbered.{AreNumberedDrafts, FitsEdge, AreNumberedSoFar};
 
 use crate::command_key::{CommandKey, command_of, key_of};
 use crate::draft::Draft;
@@ -42,7 +42,7 @@ pub(crate) fn number(alloc: Global, drafts: Vec<Draft>) -> Result<Numbered, Allo
 fn enter(alloc: Global, table: &mut IndexSet<CommandKey>, draft: Draft) -> Result<Edge, AllocError>
     requires fits { FitsEdge draft }
     requires room { length table.old.keys + 1 < 2 ^ 32 }
-    ensures { IfOk result (IsNumbered table.old.keys table.new.keys draft) }
+    ensures { IfOk result (AreNumberedSoFar table.old.keys table.new.keys draft) }
 {
     let Draft {
         source,

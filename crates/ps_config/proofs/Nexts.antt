@@ -4,7 +4,7 @@ use Rattle.std.specs.List.Sorted.{IsStrictlyIncreasing}
 use Rattle.std.proofs.lemmas.Bool.{cases_lt, eqb-true, eq-eqb, false≢true}
 use Rattle.std.proofs.lemmas.List.{take_more, map_more, flat_map_more, get_or_append_left, length_push, get_or_push}
 use Rattle.std.proofs.lemmas.List.Elements.{Contains-get_or, Contains-append_left, Contains-append_right, Contains-append_cases, Contains-push, Contains-push_cases}
-use Rattle.ps_config.specs.Configurations.{threads_of}
+use Rattle.ps_atom.specs.Atoms.{threads_of}
 use Rattle.ps_atom.specs.declared.atom.Atom.{Atom}
 use Rattle.ps_list.proofs.Members.{nothing, cons_cases, here}
 use Rattle.ps_config.specs.Configurations.{Configuration, threads_at}

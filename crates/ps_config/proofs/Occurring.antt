@@ -1,9 +1,9 @@
 -- The threads that occur in a configuration, and renamed atoms.
 use Rattle.std.proofs.Common.{◌≡◌, ℕ, List, map, ap, subst, inl, inr, ◌⊎◌, Contains}
 use Rattle.std.proofs.lemmas.List.Elements.{Contains-append_left, Contains-append_right, Contains-append_cases}
-use Rattle.ps_atom.specs.Atoms.{renamed}
+use Rattle.ps_atom.specs.Atoms.{renamed, threads_of}
 use Rattle.ps_atom.specs.declared.atom.Atom.{Atom}
-use Rattle.ps_config.specs.Configurations.{Configuration, IsAt, threads_at, threads_of}
+use Rattle.ps_config.specs.Configurations.{Configuration, IsAt, threads_at}
 use Rattle.ps_list.proofs.Mapped.{mapped, from_mapped, flat_mapped, from_flat_mapped, same_map, map_map, map_same}
 
 pub located_occurs : (c : Configuration) (t l : ℕ) → IsAt c t l → Contains (threads_at c) t

@@ -1,7 +1,6 @@
 -- Configurations, and which cover which.
 use Rattle.std.specs.Prelude.{ℕ, List, ◌++◌, map, Contains}
-use Rattle.std.specs.List.{flat_map}
-use Rattle.ps_atom.specs.Atoms.{IsInjectiveOn, renamed}
+use Rattle.ps_atom.specs.Atoms.{IsInjectiveOn, renamed, threads_of}
 use Rattle.ps_atom.specs.declared.atom.Atom.{Atom}
 
 -- threads, each with its location, and atoms; both lists stand for sets
@@ -12,10 +11,6 @@ pub record Configuration : Type 0 where
 -- the thread is at this location
 abbrev pub IsAt : Configuration → ℕ → ℕ → Type 0
 IsAt c thread location = Contains c.at (thread, location)
-
--- the threads of the atoms
-abbrev pub threads_of : List Atom → List ℕ
-threads_of atoms = flat_map (λ (q : Atom). q.threads) atoms
 
 -- the threads that occur, with a location or in an atom
 abbrev pub threads_at : Configuration → List ℕ

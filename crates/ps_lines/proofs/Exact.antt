@@ -8,7 +8,7 @@ use Rattle.std.proofs.lemmas.Slice.Eq.{bytes_eq-Decides}
 use Rattle.ps_lines.specs.declared.form_name.FormName.{FormName}
 use Rattle.ps_lines.specs.declared.form_name.FormName.TheVariants as name
 use Rattle.ps_lines.specs.declared.form_fault.FormFault.{FormFault}
-use Rattle.ps_lines.specs.Tokens.{Piece, Field, Newline, has_newline}
+use Rattle.ps_lines.specs.Tokens.{LinePart, Field, Newline, has_newline}
 use Rattle.ps_lines.specs.Reading.{Position, Read, fault_placed, field_from, leaf_at, word_leaf, word_at, line_at, end_from, end_at}
 use Rattle.ps_lines.specs.Steps.{and_then, ◌>>=◌}
 use Rattle.ps_lines.proofs.Bytes.{IsPlain, IsClean}
@@ -41,9 +41,9 @@ pub gets_end : {A : Type 0} (y : A) (R : A → Type 0) → R y → Gets (Ok y) R
 gets_end y R h = record { value = y; ok = refl; is = h }
 
 -- A reading function reads what spell writes, of the values that fit, where what follows is so.
-pub record Exact {A : Type 0} (read : Read A) (spell : A → List Piece) (fits : A → Type 0) (follows : List Piece → Type 0) : Type 0 where
+pub record Exact {A : Type 0} (read : Read A) (spell : A → List LinePart) (fits : A → Type 0) (follows : List LinePart → Type 0) : Type 0 where
   pub found : (at : Position) → Finds (read at) (λ y. (at.tokens ≡ spell y.0 ++ y.1.tokens) × fits y.0)
-  pub again : (at : Position) (x : A) (rest : List Piece) → fits x → at.tokens ≡ spell x ++ rest → follows rest → Gets (read at) (λ y. (y.0 ≡ x) × (y.1.tokens ≡ rest))
+  pub again : (at : Position) (x : A) (rest : List LinePart) → fits x → at.tokens ≡ spell x ++ rest → follows rest → Gets (read at) (λ y. (y.0 ≡ x) × (y.1.tokens ≡ rest))
   pub clean : (x : A) → fits x → IsClean (spell x)
 
 abbrev pub Always : {X : Type 0} → X → Type 0
@@ -57,7 +57,7 @@ pub record IsLeaf {A : Type 0} (leaf : List ℕ → Result A FormName) (text : A
   pub again : (x : A) → fits x → leaf (text x) ≡ Ok x
   pub clean : (x : A) → fits x → IsPlain (text x)
 
-field_found : (line field : ℕ) (ts : List Piece) → Finds (field_from line field ts) (λ y. ts ≡ Field y.0 ∷ y.1.tokens)
+field_found : (line field : ℕ) (ts : List LinePart) → Finds (field_from line field ts) (λ y. ts ≡ Field y.0 ∷ y.1.tokens)
 field_found line field [] = record { is = tt }
 field_found line field (Newline ∷ ts) = record { is = tt }
 field_found line field (Field f ∷ ts) = record { is = refl }
@@ -73,7 +73,7 @@ leaf_found leaf text fits is at =
     found_bind _ _ _ _ (placed_found at.line at.field (leaf f.0) (λ x. (f.0 ≡ text x) × fits x) (is.found f.0)) (λ x q.
     found_end _ _ (p ∙ ap (λ (g : List ℕ). Field g ∷ f.1.tokens) q.0, q.1)))
 
-leaf_again : {A : Type 0} (leaf : List ℕ → Result A FormName) (text : A → List ℕ) (fits : A → Type 0) → IsLeaf leaf text fits → (at : Position) (x : A) (rest : List Piece) → fits x → at.tokens ≡ (Field (text x) ∷ []) ++ rest → Always rest → Gets (leaf_at leaf at) (λ y. (y.0 ≡ x) × (y.1.tokens ≡ rest))
+leaf_again : {A : Type 0} (leaf : List ℕ → Result A FormName) (text : A → List ℕ) (fits : A → Type 0) → IsLeaf leaf text fits → (at : Position) (x : A) (rest : List LinePart) → fits x → at.tokens ≡ (Field (text x) ∷ []) ++ rest → Always rest → Gets (leaf_at leaf at) (λ y. (y.0 ≡ x) × (y.1.tokens ≡ rest))
 unfolding leaf_at and_then
 leaf_again leaf text fits is at x rest fit e h =
     record { value = (x, record { line = at.line; field = at.field + 1; tokens = rest }); ok = rw (e, is.again x fit) refl; is = (refl, refl) }
@@ -102,10 +102,10 @@ word_exact word plain = leaf_exact (word_leaf word) (λ _. word) Always (word_is
 
 -- ---- lines
 
-abbrev pub Ended : List Piece → Type 0
+abbrev pub Ended : List LinePart → Type 0
 Ended ts = has_newline ts ≡ true
 
-pub ended-append : (xs ts : List Piece) → Ended (xs ++ Newline ∷ ts)
+pub ended-append : (xs ts : List LinePart) → Ended (xs ++ Newline ∷ ts)
 ended-append [] ts = refl
 ended-append (Newline ∷ xs) ts = refl
 ended-append (Field f ∷ xs) ts = ended-append xs ts
@@ -118,7 +118,7 @@ line_found word plain at = by_test (has_newline at.tokens)
     by_test true = (word_exact word plain).found at
     by_test false = record { is = tt }
 
-line_again : (word : List ℕ) → IsPlain word → (at : Position) (x : Unit {0}) (rest : List Piece) → Unit {0} → at.tokens ≡ (Field word ∷ []) ++ rest → Ended rest → Gets (line_at word at) (λ y. (y.0 ≡ x) × (y.1.tokens ≡ rest))
+line_again : (word : List ℕ) → IsPlain word → (at : Position) (x : Unit {0}) (rest : List LinePart) → Unit {0} → at.tokens ≡ (Field word ∷ []) ++ rest → Ended rest → Gets (line_at word at) (λ y. (y.0 ≡ x) × (y.1.tokens ≡ rest))
 unfolding line_at
 line_again word plain at x rest fit e ended =
     let one = (word_exact word plain).again at x rest tt e tt in
@@ -128,12 +128,12 @@ line_again word plain at x rest fit e ended =
 pub line_exact : (word : List ℕ) → IsPlain word → Exact (line_at word) (λ _. Field word ∷ []) Always Ended
 line_exact word plain = record { found = line_found word plain; again = line_again word plain; clean = λ x fit. (plain, tt) }
 
-end_found : (line field : ℕ) (ts : List Piece) → Finds (end_from line field ts) (λ y. (ts ≡ (Newline ∷ []) ++ y.1.tokens) × Unit {0})
+end_found : (line field : ℕ) (ts : List LinePart) → Finds (end_from line field ts) (λ y. (ts ≡ (Newline ∷ []) ++ y.1.tokens) × Unit {0})
 end_found line field [] = record { is = tt }
 end_found line field (Newline ∷ ts) = record { is = (refl, tt) }
 end_found line field (Field f ∷ ts) = record { is = tt }
 
-end_again : (at : Position) (x : Unit {0}) (rest : List Piece) → Unit {0} → at.tokens ≡ (Newline ∷ []) ++ rest → Unit {0} → Gets (end_at at) (λ y. (y.0 ≡ x) × (y.1.tokens ≡ rest))
+end_again : (at : Position) (x : Unit {0}) (rest : List LinePart) → Unit {0} → at.tokens ≡ (Newline ∷ []) ++ rest → Unit {0} → Gets (end_at at) (λ y. (y.0 ≡ x) × (y.1.tokens ≡ rest))
 end_again at x rest fit e h = record { value = (tt, record { line = at.line + 1; field = 1; tokens = rest }); ok = rw e refl; is = (refl, refl) }
 
 pub end_exact : Exact end_at (λ _. Newline ∷ []) Always Always

@@ -5,7 +5,7 @@ use Rattle.std.proofs.lemmas.List.{append-nil, map-append, drop-drop, nil_from_l
 use Rattle.std.proofs.lemmas.List.Elements.{All-push, All-nil}
 use Rattle.ps_lines.specs.declared.span.Span.{Span}
 use Rattle.ps_lines.specs.declared.line.Line.{Line}
-use Rattle.ps_lines.specs.Tokens.{Piece, Field, Newline, pieces, ahead}
+use Rattle.ps_lines.specs.Tokens.{LinePart, Field, Newline, line_parts, ahead}
 use Rattle.ps_lines.specs.inner.Ahead.{field_len}
 use Rattle.ps_lines.specs.Lines.{onto_line, lines_of, numbered, span_text, numbered_fields, IsSpanWithin, IsLineWithin}
 use Rattle.ps_lines.specs.inner.Ahead.{IsLineAhead}
@@ -26,26 +26,26 @@ onto_lines-more fs f (l ∷ ls) = ap (λ (r : List (List ℕ)). r ∷ ls) (sym (
 
 -- a line of which the spans so far were cut, up to `at`
 pub record Spanning (bytes : List ℕ) (start at : ℕ) (spans : List Span) : Type 0 where
-  pub same : onto_lines (map (span_text bytes) spans) (lines_of (pieces (drop at bytes))) ≡ lines_of (pieces (drop start bytes))
+  pub same : onto_lines (map (span_text bytes) spans) (lines_of (line_parts (drop at bytes))) ≡ lines_of (line_parts (drop start bytes))
   pub within : All (IsSpanWithin (length bytes)) spans
   pub from : start ≤ at
   pub inside : at ≤ length bytes
 
 pub spanning_none : (bytes : List ℕ) (start : ℕ) → start ≤ length bytes → Spanning bytes start start []
-spanning_none bytes start le = record { same = onto_lines-none (lines_of (pieces (drop start bytes))); within = All-nil (IsSpanWithin (length bytes)); from = omega arith; inside = le }
+spanning_none bytes start le = record { same = onto_lines-none (lines_of (line_parts (drop start bytes))); within = All-nil (IsSpanWithin (length bytes)); from = omega arith; inside = le }
 
 abbrev pub new_span : ℕ → ℕ → Span
 new_span at end = record { start = at; end = end }
 
 -- the tokens from a field on that ends inside the text
-field_ahead : (bytes : List ℕ) (at end : ℕ) → end ≡ at + field_len (drop at bytes) → end < length bytes → pieces (drop at bytes) ≡ Field (span_text bytes (new_span at end)) ∷ ahead (eqb (get_or bytes end 0) 10) (drop (end + 1) bytes)
+field_ahead : (bytes : List ℕ) (at end : ℕ) → end ≡ at + field_len (drop at bytes) → end < length bytes → line_parts (drop at bytes) ≡ Field (span_text bytes (new_span at end)) ∷ ahead (eqb (get_or bytes end 0) 10) (drop (end + 1) bytes)
 field_ahead bytes at end is lt =
     let len : ℕ = end - at in
     let same : len ≡ field_len (drop at bytes) = omega (arith, is) in
     let place : at + len ≡ end = omega (arith, is) in
     let next : suc end ≡ end + 1 = omega arith in
     let size : length (drop at bytes) ≡ length bytes - at = length-drop at bytes in
-    let cut : pieces (drop at bytes) ≡ Field (take len (drop at bytes)) ∷ behind (drop len (drop at bytes)) = subst (λ (n : ℕ). pieces (drop at bytes) ≡ Field (take n (drop at bytes)) ∷ behind (drop n (drop at bytes))) (sym same) (cut_tokens (drop at bytes) (omega (arith, size, lt, is))) in
+    let cut : line_parts (drop at bytes) ≡ Field (take len (drop at bytes)) ∷ behind (drop len (drop at bytes)) = subst (λ (n : ℕ). line_parts (drop at bytes) ≡ Field (take n (drop at bytes)) ∷ behind (drop n (drop at bytes))) (sym same) (cut_tokens (drop at bytes) (omega (arith, size, lt, is))) in
     let tail : drop len (drop at bytes) ≡ get_or bytes end 0 ∷ drop (end + 1) bytes = drop-drop len at bytes ∙ ap (λ (n : ℕ). drop n bytes) place ∙ drop-cons bytes end 0 lt ∙ ap (λ (n : ℕ). get_or bytes end 0 ∷ drop n bytes) next in
     cut ∙ ap (λ (t : List ℕ). Field (take len (drop at bytes)) ∷ behind t) tail
 
@@ -59,11 +59,11 @@ within_more bytes at end spans is lt h = All-push (IsSpanWithin (length bytes)) 
 pub spanning_more : (bytes : List ℕ) (start at end : ℕ) (spans : List Span) → Spanning bytes start at spans → end ≡ at + field_len (drop at bytes) → end < length bytes → eqb (get_or bytes end 0) 10 ≡ false → Spanning bytes start (end + 1) (spans ++ new_span at end ∷ [])
 spanning_more bytes start at end spans h is lt test =
     let texts : List (List ℕ) = map (span_text bytes) spans in
-    let ahead-is : pieces (drop at bytes) ≡ Field (span_text bytes (new_span at end)) ∷ pieces (drop (end + 1) bytes) = field_ahead bytes at end is lt ∙ ap (λ (t : Bool). Field (span_text bytes (new_span at end)) ∷ ahead t (drop (end + 1) bytes)) test in
+    let ahead-is : line_parts (drop at bytes) ≡ Field (span_text bytes (new_span at end)) ∷ line_parts (drop (end + 1) bytes) = field_ahead bytes at end is lt ∙ ap (λ (t : Bool). Field (span_text bytes (new_span at end)) ∷ ahead t (drop (end + 1) bytes)) test in
     record {
-      same = ap (λ (fs : List (List ℕ)). onto_lines fs (lines_of (pieces (drop (end + 1) bytes)))) (sym (texts_more bytes spans (new_span at end)))
-          ∙ sym (onto_lines-more texts (span_text bytes (new_span at end)) (lines_of (pieces (drop (end + 1) bytes))))
-          ∙ ap (λ (ts : List Piece). onto_lines texts (lines_of ts)) (sym ahead-is) ∙ h.same;
+      same = ap (λ (fs : List (List ℕ)). onto_lines fs (lines_of (line_parts (drop (end + 1) bytes)))) (sym (texts_more bytes spans (new_span at end)))
+          ∙ sym (onto_lines-more texts (span_text bytes (new_span at end)) (lines_of (line_parts (drop (end + 1) bytes))))
+          ∙ ap (λ (ts : List LinePart). onto_lines texts (lines_of ts)) (sym ahead-is) ∙ h.same;
       within = within_more bytes at end spans is lt h.within;
       from = omega (arith, h.from, is);
       inside = omega (arith, lt);
@@ -74,18 +74,18 @@ pub spanning_all : (bytes : List ℕ) (start at end : ℕ) (spans : List Span) �
 spanning_all bytes start at end spans h is lt test =
     let texts : List (List ℕ) = map (span_text bytes) spans in
     let text : List ℕ = span_text bytes (new_span at end) in
-    let ahead-is : pieces (drop at bytes) ≡ Field text ∷ (Newline ∷ pieces (drop (end + 1) bytes)) = field_ahead bytes at end is lt ∙ ap (λ (t : Bool). Field text ∷ ahead t (drop (end + 1) bytes)) test in (
-      sym h.same ∙ ap (λ (ts : List Piece). onto_lines texts (lines_of ts)) ahead-is ∙ ap (λ (fs : List (List ℕ)). fs ∷ lines_of (pieces (drop (end + 1) bytes))) (texts_more bytes spans (new_span at end)),
+    let ahead-is : line_parts (drop at bytes) ≡ Field text ∷ (Newline ∷ line_parts (drop (end + 1) bytes)) = field_ahead bytes at end is lt ∙ ap (λ (t : Bool). Field text ∷ ahead t (drop (end + 1) bytes)) test in (
+      sym h.same ∙ ap (λ (ts : List LinePart). onto_lines texts (lines_of ts)) ahead-is ∙ ap (λ (fs : List (List ℕ)). fs ∷ lines_of (line_parts (drop (end + 1) bytes))) (texts_more bytes spans (new_span at end)),
       within_more bytes at end spans is lt h.within,
       omega (arith, h.from, is),
       omega (arith, lt),
     )
 
 -- one field, with nothing behind it
-alone : (bs : List ℕ) → field_len bs ≡ length bs → lines_of (pieces bs) ≡ []
+alone : (bs : List ℕ) → field_len bs ≡ length bs → lines_of (line_parts bs) ≡ []
 alone [] e = refl
 alone (b ∷ bs) e =
-    let cut : pieces (b ∷ bs) ≡ Field (take (field_len (b ∷ bs)) (b ∷ bs)) ∷ behind (drop (field_len (b ∷ bs)) (b ∷ bs)) = cut_tokens (b ∷ bs) (omega arith) in
+    let cut : line_parts (b ∷ bs) ≡ Field (take (field_len (b ∷ bs)) (b ∷ bs)) ∷ behind (drop (field_len (b ∷ bs)) (b ∷ bs)) = cut_tokens (b ∷ bs) (omega arith) in
     let none : drop (field_len (b ∷ bs)) (b ∷ bs) ≡ [] = nil_from_length _ (length-drop (field_len (b ∷ bs)) (b ∷ bs) ∙ omega (arith, e)) in
     ap lines_of (cut ∙ ap (λ (t : List ℕ). Field (take (field_len (b ∷ bs)) (b ∷ bs)) ∷ behind t) none)
 
@@ -97,7 +97,7 @@ spanning_ends bytes start at spans h is =
 
 -- the lines so far, with those ahead, are all
 pub record Going (bytes : List ℕ) (first start number : ℕ) (lines : List Line) : Type 0 where
-  pub same : map (numbered_fields bytes) lines ++ numbered number (lines_of (pieces (drop start bytes))) ≡ numbered first (lines_of (pieces bytes))
+  pub same : map (numbered_fields bytes) lines ++ numbered number (lines_of (line_parts (drop start bytes))) ≡ numbered first (lines_of (line_parts bytes))
   pub within : All (IsLineWithin (length bytes)) lines
   pub counts : number ≤ first + start
   pub inside : start ≤ length bytes
@@ -108,7 +108,7 @@ going_none bytes first = record { same = refl; within = All-nil (IsLineWithin (l
 pub going_more : (bytes : List ℕ) (first start number : ℕ) (lines : List Line) (fields : List Span) (after : ℕ) → Going bytes first start number lines → IsLineAhead bytes start (Some (fields, after)) → Going bytes first after (number + 1) (lines ++ (record { number = number; fields = fields }) ∷ [])
 going_more bytes first start number lines fields after h p =
     let line : Line = record { number = number; fields = fields } in
-    let rest : List (ℕ × List (List ℕ)) = numbered (number + 1) (lines_of (pieces (drop after bytes))) in
+    let rest : List (ℕ × List (List ℕ)) = numbered (number + 1) (lines_of (line_parts (drop after bytes))) in
     record {
       same = ap (λ r. r ++ rest) (map-append (numbered_fields bytes) lines (line ∷ []))
           ∙ append_assoc (map (numbered_fields bytes) lines) (numbered_fields bytes line ∷ []) rest
@@ -118,6 +118,6 @@ going_more bytes first start number lines fields after h p =
       inside = p.3;
     }
 
-pub going_all : (bytes : List ℕ) (first start number : ℕ) (lines : List Line) → Going bytes first start number lines → IsLineAhead bytes start None → map (numbered_fields bytes) lines ≡ numbered first (lines_of (pieces bytes))
+pub going_all : (bytes : List ℕ) (first start number : ℕ) (lines : List Line) → Going bytes first start number lines → IsLineAhead bytes start None → map (numbered_fields bytes) lines ≡ numbered first (lines_of (line_parts bytes))
 going_all bytes first start number lines h none =
     sym (append-nil (map (numbered_fields bytes) lines)) ∙ ap (λ r. map (numbered_fields bytes) lines ++ numbered number r) (sym none) ∙ h.same

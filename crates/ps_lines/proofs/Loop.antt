@@ -10,7 +10,7 @@ use Rattle.ps_lines.specs.declared.form_end.FormEnd.TheVariants.{Fault, Memory}
 use Rattle.ps_lines.specs.Reading.{Position, Read, Gives, fault_placed, leaf_at, times_at, list_from, list_at, begins_at, line_fault, while_at}
 use Rattle.ps_lines.specs.Steps.{and_then, ◌>>=◌}
 use Rattle.ps_lines.specs.inner.Ahead.{member_at}
-use Rattle.ps_lines.specs.Tokens.{Piece, Field, Newline}
+use Rattle.ps_lines.specs.Tokens.{LinePart, Field, Newline}
 
 -- what was read before, and what is still read
 abbrev pub with_front : {A : Type 0} → List A → Result (List A × Position) FormFault → Result (List A × Position) FormFault
@@ -71,17 +71,17 @@ list_by_members : {A S : Type 0} (goes : List ℕ → Bool) (leaf : S → List �
 unfolding and_then list_from leaf_at
 list_by_members goes leaf step state at = by_tokens goes leaf step state at.line at.field at.tokens
   where
-    by_leaf : {A S : Type 0} (goes : List ℕ → Bool) (leaf : S → List ℕ → Result A FormName) (step : S → A → S) (state : S) (line field : ℕ) (ts : List Piece) (r : Result A FormName) →
+    by_leaf : {A S : Type 0} (goes : List ℕ → Bool) (leaf : S → List ℕ → Result A FormName) (step : S → A → S) (state : S) (line field : ℕ) (ts : List LinePart) (r : Result A FormName) →
         and_then (fault_placed line field r) (λ x. and_then (list_from goes leaf step (step state x) line (field + 1) ts) (λ xs. Ok (x ∷ xs.0, xs.1)))
         ≡ and_then {A = Option A × Position} (and_then {A = A × Position} (and_then (fault_placed line field r) (λ x. Ok (x, record { line = line; field = field + 1; tokens = ts }))) (λ x. Ok (Some x.0, x.1))) (λ x. then_list goes leaf step state x.0 x.1)
     by_leaf goes leaf step state line field ts (Ok x) = refl
     by_leaf goes leaf step state line field ts (Err what) = refl
 
-    by_test : {A S : Type 0} (goes : List ℕ → Bool) (leaf : S → List ℕ → Result A FormName) (step : S → A → S) (state : S) (line field : ℕ) (f : List ℕ) (ts : List Piece) (t : Bool) → goes f ≡ t → list_at goes leaf step state (record { line = line; field = field; tokens = Field f ∷ ts }) ≡ (member_at goes (leaf state) (record { line = line; field = field; tokens = Field f ∷ ts }) >>= λ x. then_list goes leaf step state x.0 x.1)
+    by_test : {A S : Type 0} (goes : List ℕ → Bool) (leaf : S → List ℕ → Result A FormName) (step : S → A → S) (state : S) (line field : ℕ) (f : List ℕ) (ts : List LinePart) (t : Bool) → goes f ≡ t → list_at goes leaf step state (record { line = line; field = field; tokens = Field f ∷ ts }) ≡ (member_at goes (leaf state) (record { line = line; field = field; tokens = Field f ∷ ts }) >>= λ x. then_list goes leaf step state x.0 x.1)
     by_test goes leaf step state line field f ts true e = rw e (by_leaf goes leaf step state line field ts (leaf state f))
     by_test goes leaf step state line field f ts false e = rw e refl
 
-    by_tokens : {A S : Type 0} (goes : List ℕ → Bool) (leaf : S → List ℕ → Result A FormName) (step : S → A → S) (state : S) (line field : ℕ) (ts : List Piece) → list_at goes leaf step state (record { line = line; field = field; tokens = ts }) ≡ (member_at goes (leaf state) (record { line = line; field = field; tokens = ts }) >>= λ x. then_list goes leaf step state x.0 x.1)
+    by_tokens : {A S : Type 0} (goes : List ℕ → Bool) (leaf : S → List ℕ → Result A FormName) (step : S → A → S) (state : S) (line field : ℕ) (ts : List LinePart) → list_at goes leaf step state (record { line = line; field = field; tokens = ts }) ≡ (member_at goes (leaf state) (record { line = line; field = field; tokens = ts }) >>= λ x. then_list goes leaf step state x.0 x.1)
     by_tokens goes leaf step state line field [] = refl
     by_tokens goes leaf step state line field (Newline ∷ ts) = refl
     by_tokens goes leaf step state line field (Field f ∷ ts) = by_test goes leaf step state line field f ts (goes f) refl
@@ -98,10 +98,10 @@ read_of x = Ok x
 pub read_is : {A : Type 0} (x y : A × Position) → read_of x ≡ read_of y → x ≡ y
 read_is x y e = cc
 
-abbrev field_next : ℕ → ℕ → List Piece → Position
+abbrev field_next : ℕ → ℕ → List LinePart → Position
 field_next line field ts = record { line = line; field = field; tokens = ts }
 
-smaller_by_leaf : {A : Type 0} (line field : ℕ) (ts : List Piece) (after : Position) (x : A) (r : Result A FormName) → and_then {A = A × Position} (and_then (fault_placed line field r) (λ y. read_of (y, field_next line (field + 1) ts))) (λ y. read_of (Some y.0, y.1)) ≡ read_of (Some x, after) → length after.tokens < suc (length ts)
+smaller_by_leaf : {A : Type 0} (line field : ℕ) (ts : List LinePart) (after : Position) (x : A) (r : Result A FormName) → and_then {A = A × Position} (and_then (fault_placed line field r) (λ y. read_of (y, field_next line (field + 1) ts))) (λ y. read_of (Some y.0, y.1)) ≡ read_of (Some x, after) → length after.tokens < suc (length ts)
 unfolding and_then
 smaller_by_leaf {A = A} line field ts after x (Ok y) e = let same : length ts ≡ length after.tokens = ap (λ (p : Option A × Position). length p.1.tokens) (read_is (Some y, field_next line (field + 1) ts) (Some x, after) e) in omega (arith, same)
 smaller_by_leaf line field ts after x (Err what) e = absurd cc
@@ -109,12 +109,12 @@ smaller_by_leaf line field ts after x (Err what) e = absurd cc
 not_none : {A : Type 0} (at after : Position) (x : A) → read_of (None, at) ≡ read_of (Some x, after) → ⊥
 not_none {A = A} at after x e = none-some x (ap (λ (p : Option A × Position). p.0) (read_is (None, at) (Some x, after) e))
 
-smaller_by_test : {A : Type 0} (goes : List ℕ → Bool) (leaf : List ℕ → Result A FormName) (line field : ℕ) (f : List ℕ) (ts : List Piece) (after : Position) (x : A) (t : Bool) → goes f ≡ t → member_at goes leaf (field_next line field (Field f ∷ ts)) ≡ read_of (Some x, after) → length after.tokens < suc (length ts)
+smaller_by_test : {A : Type 0} (goes : List ℕ → Bool) (leaf : List ℕ → Result A FormName) (line field : ℕ) (f : List ℕ) (ts : List LinePart) (after : Position) (x : A) (t : Bool) → goes f ≡ t → member_at goes leaf (field_next line field (Field f ∷ ts)) ≡ read_of (Some x, after) → length after.tokens < suc (length ts)
 unfolding and_then leaf_at
 smaller_by_test goes leaf line field f ts after x true test e = smaller_by_leaf line field ts after x (leaf f) (rw test at e)
 smaller_by_test goes leaf line field f ts after x false test e = absurd (not_none (field_next line field (Field f ∷ ts)) after x (rw test at e))
 
-smaller_by_tokens : {A : Type 0} (goes : List ℕ → Bool) (leaf : List ℕ → Result A FormName) (line field : ℕ) (ts : List Piece) (after : Position) (x : A) → member_at goes leaf (field_next line field ts) ≡ read_of (Some x, after) → length after.tokens < length ts
+smaller_by_tokens : {A : Type 0} (goes : List ℕ → Bool) (leaf : List ℕ → Result A FormName) (line field : ℕ) (ts : List LinePart) (after : Position) (x : A) → member_at goes leaf (field_next line field ts) ≡ read_of (Some x, after) → length after.tokens < length ts
 smaller_by_tokens goes leaf line field [] after x e = absurd (not_none (field_next line field []) after x e)
 smaller_by_tokens goes leaf line field (Newline ∷ ts) after x e = absurd (not_none (field_next line field (Newline ∷ ts)) after x e)
 smaller_by_tokens goes leaf line field (Field f ∷ ts) after x e = smaller_by_test goes leaf line field f ts after x (goes f) refl e

@@ -4,7 +4,7 @@ use Rattle.ps_lines.specs.Decimal.{i128_of, u128_of, u32_of}
 use Rattle.ps_lines.specs.Lines.{lines_of}
 use Rattle.ps_lines.specs.Parts.{cut_at}
 use Rattle.ps_lines.specs.Reading.{header_at, only_at, text_start, value_read}
-use Rattle.ps_lines.specs.Tokens.{Field, Newline, text_bytes, pieces}
+use Rattle.ps_lines.specs.Tokens.{Field, Newline, text_bytes, line_parts}
 use Rattle.ps_lines.specs.declared.form_name.FormName.TheVariants as name
 
 -- `a b`, an empty line, and `c`, which no line feed ends
@@ -14,8 +14,8 @@ text = 97 ∷ 32 ∷ 98 ∷ 10 ∷ 10 ∷ 99 ∷ []
 -- two lines are ended, the second with one empty field, and the last field is of none
 abbrev pub TextsAreCut : Type 0
 TextsAreCut =
-    (pieces text ≡ Field (97 ∷ []) ∷ Field (98 ∷ []) ∷ Newline ∷ Field [] ∷ Newline ∷ Field (99 ∷ []) ∷ [])
-    × (lines_of (pieces text) ≡ ((97 ∷ []) ∷ (98 ∷ []) ∷ []) ∷ ([] ∷ []) ∷ [])
+    (line_parts text ≡ Field (97 ∷ []) ∷ Field (98 ∷ []) ∷ Newline ∷ Field [] ∷ Newline ∷ Field (99 ∷ []) ∷ [])
+    × (lines_of (line_parts text) ≡ ((97 ∷ []) ∷ (98 ∷ []) ∷ []) ∷ ([] ∷ []) ∷ [])
 
 -- `a b c` and `end`
 abbrev pub LinesAreSpelled : Type 0

@@ -2,7 +2,7 @@
 use Rattle.std.specs.Prelude.{ℕ, ◌+◌, ◌-◌, ◌≤◌, List, [], ◌∷◌, map, take, drop, All}
 use Rattle.ps_lines.specs.declared.span.Span.{Span}
 use Rattle.ps_lines.specs.declared.line.Line.{Line}
-use Rattle.ps_lines.specs.Tokens.{Piece, Field, Newline}
+use Rattle.ps_lines.specs.Tokens.{LinePart, Field, Newline}
 
 -- A field before what it stands before: it is of the first line, or of none where no line ends ahead.
 abbrev pub onto_line : List ℕ → List (List (List ℕ)) → List (List (List ℕ))
@@ -10,7 +10,7 @@ onto_line field [] = []
 onto_line field (line ∷ lines) = (field ∷ line) ∷ lines
 
 -- The ended lines of a text, each as its fields.
-abbrev pub lines_of : List Piece → List (List (List ℕ))
+abbrev pub lines_of : List LinePart → List (List (List ℕ))
 lines_of [] = []
 lines_of (Newline ∷ ts) = [] ∷ lines_of ts
 lines_of (Field f ∷ ts) = onto_line f (lines_of ts)

@@ -6,7 +6,7 @@ use Rattle.ps_lines.specs.declared.form_name.FormName.TheVariants as name
 use Rattle.ps_lines.specs.declared.form_fault.FormFault.{FormFault}
 use Rattle.ps_lines.specs.declared.form_end.FormEnd.{FormEnd}
 use Rattle.ps_lines.specs.declared.form_end.FormEnd.TheVariants.{Fault, Memory}
-use Rattle.ps_lines.specs.Tokens.{Piece, Field, Newline, pieces, has_newline}
+use Rattle.ps_lines.specs.Tokens.{LinePart, Field, Newline, line_parts, has_newline}
 use Rattle.ps_lines.specs.Steps.{Reading, ◌>>=◌}
 use Rattle.ps_lines.specs.Decimal.{counts_as_decimal, u32_of, u128_of, i128_of}
 
@@ -14,11 +14,11 @@ use Rattle.ps_lines.specs.Decimal.{counts_as_decimal, u32_of, u128_of, i128_of}
 pub record Position : Type 0 where
   pub line : ℕ
   pub field : ℕ
-  pub tokens : List Piece
+  pub tokens : List LinePart
 
 -- The start of a text whose lines count from `first`.
 abbrev pub text_start : ℕ → List ℕ → Position
-text_start first bytes = record { line = first; field = 1; tokens = pieces bytes }
+text_start first bytes = record { line = first; field = 1; tokens = line_parts bytes }
 
 -- A reading function gives what it read and the place after it, or the first fault.
 abbrev pub Read : Type 0 → Type 0
@@ -35,7 +35,7 @@ line_fault at what = record { line = at.line; field = 0; what = what }
 -- ---- steps
 
 -- The next field, from a line's number, the field's, and the tokens ahead.
-abbrev pub field_from : ℕ → ℕ → List Piece → Result (List ℕ × Position) FormFault
+abbrev pub field_from : ℕ → ℕ → List LinePart → Result (List ℕ × Position) FormFault
 field_from line field (Field f ∷ ts) = Ok (f, record { line = line; field = field + 1; tokens = ts })
 field_from line field ts = Err (record { line = line; field = field; what = name.Count })
 
@@ -68,7 +68,7 @@ unfoldable pub line_at : List ℕ → Read (Unit {0})
 line_at word at = if has_newline at.tokens then word_at word at else Err (line_fault at name.Cut)
 
 -- The end of a line, from the line's number, the next field's, and the tokens ahead.
-abbrev pub end_from : ℕ → ℕ → List Piece → Result (Unit {0} × Position) FormFault
+abbrev pub end_from : ℕ → ℕ → List LinePart → Result (Unit {0} × Position) FormFault
 end_from line field (Newline ∷ ts) = Ok (tt, record { line = line + 1; field = 1; tokens = ts })
 end_from line field ts = Err (record { line = line; field = field; what = name.Count })
 
@@ -83,7 +83,7 @@ only_at word at = do
   end_at w.1
 
 -- The end of the text, from the line's number and the tokens ahead.
-abbrev pub done_from : ℕ → List Piece → Result (Unit {0}) FormFault
+abbrev pub done_from : ℕ → List LinePart → Result (Unit {0}) FormFault
 done_from line [] = Ok tt
 done_from line (t ∷ ts) = Err (record { line = line; field = 0; what = name.Word })
 
@@ -137,7 +137,7 @@ times_at read (suc n) at = do
   Ok (x.0 ∷ xs.0, xs.1)
 
 -- The fields of a line as long as `goes` passes them, each read in the state that the ones before it left.
-unfoldable pub list_from : {A S : Type 0} → (List ℕ → Bool) → (S → List ℕ → Result A FormName) → (S → A → S) → S → ℕ → ℕ → List Piece → Result (List A × Position) FormFault
+unfoldable pub list_from : {A S : Type 0} → (List ℕ → Bool) → (S → List ℕ → Result A FormName) → (S → A → S) → S → ℕ → ℕ → List LinePart → Result (List A × Position) FormFault
 list_from goes leaf step state line field [] = Ok ([], record { line = line; field = field; tokens = [] })
 list_from goes leaf step state line field (Newline ∷ ts) = Ok ([], record { line = line; field = field; tokens = Newline ∷ ts })
 list_from goes leaf step state line field (Field f ∷ ts) =
@@ -149,7 +149,7 @@ abbrev pub list_at : {A S : Type 0} → (List ℕ → Bool) → (S → List ℕ 
 list_at goes leaf step state at = list_from goes leaf step state at.line at.field at.tokens
 
 -- Whether the tokens begin with this word, in a line that is ended.
-abbrev pub begins_from : List ℕ → List Piece → Bool
+abbrev pub begins_from : List ℕ → List LinePart → Bool
 begins_from word (Field f ∷ ts) = bytes_eq f word && has_newline ts
 begins_from word ts = false
 

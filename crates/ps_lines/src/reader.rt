@@ -1,7 +1,7 @@
 //! A place in a text, from which fields and ends of lines are taken one after the other.
 
 ghost use Rattle.std.specs.Prelude.{◌≡◌, ℕ, ◌+◌, ◌<◌, ◌≤◌, ◌^◌, List, length, drop, option_map, if◌then◌else◌};
-ghost use Rattle.ps_lines.specs.Tokens.{has_newline, next_field, pieces, ahead};
+ghost use Rattle.ps_lines.specs.Tokens.{has_newline, next_field, line_parts, ahead};
 ghost use Rattle.ps_lines.specs.inner.Ahead.{field_len};
 ghost use Rattle.ps_lines.specs.Reading.{text_start, Reads, fault_at, line_fault, field_at, leaf_at, word_at, line_at, end_at, only_at, done_at, natural32, natural, integer, count, header_at, begins_at};
 
@@ -28,7 +28,7 @@ impl<'a> Model for Reader<'a> {
 
     ghost Value = { Position };
 
-    ghost view = { λ r. record { line = r.line; field = r.field; pieces = ahead r.ended r.rest.now } };
+    ghost view = { λ r. record { line = r.line; field = r.field; line_parts = ahead r.ended r.rest.now } };
 
     ghost invariant = { λ r. (1 ≤ r.line) × (r.line + (if r.ended then 1 else 0) + length r.rest.now < 2 ^ 32) × (r.field + length r.rest.now < 2 ^ 32) };
 }
@@ -47,7 +47,7 @@ pub(crate) fn field_len(bytes: &[u8]) -> usize
 }
 
 fn has_line_feed(bytes: &[u8]) -> bool
-    ensures { result ≡ has_newline (pieces bytes.now) }
+    ensures { result ≡ has_newline (line_parts bytes.now) }
 {
     for byte in bytes {
         if *byte == b'\n' {

@@ -1,7 +1,7 @@
 //! Cutting a text into lines and fields, whatever its form.
 
 ghost use Rattle.std.specs.Prelude.{◌≡◌, ◌+◌, ◌<◌, ◌≤◌, ◌^◌, length, drop, map, IfOk, All};
-ghost use Rattle.ps_lines.specs.Tokens.{pieces};
+ghost use Rattle.ps_lines.specs.Tokens.{line_parts};
 ghost use Rattle.ps_lines.specs.inner.Ahead.{field_len};
 ghost use Rattle.ps_lines.specs.Lines.{lines_of, numbered, numbered_fields, IsLineWithin};
 ghost use Rattle.ps_lines.specs.inner.Ahead.{IsLineAhead};
@@ -53,7 +53,7 @@ pub fn lines(alloc: Global, bytes: &[u8], first: u32) -> Result<Vec<Line>, Alloc
     // The lines' numbers and the texts of their fields.
     ensures fields { IfOk result
         (λ lines. map (numbered_fields bytes.now) lines.items
-        ≡ numbered first (lines_of (pieces bytes.now))) }
+        ≡ numbered first (lines_of (line_parts bytes.now))) }
     // The fields stand inside the text.
     ensures within { IfOk result (λ lines. All (IsLineWithin (length bytes.now)) lines.items) }
 {

@@ -6,7 +6,7 @@ use Rattle.ps_rows.specs.declared.claim.Claim.{Claim}
 use Rattle.ps_rows.specs.Reading.{claim_at}
 use Rattle.ps_rows.specs.Spelling.{claim_lines, ClaimHasSpelling}
 use Rattle.ps_lines.specs.Reading.{text_start}
-use Rattle.ps_lines.specs.Tokens.{text_bytes, pieces}
+use Rattle.ps_lines.specs.Tokens.{text_bytes, line_parts}
 use Rattle.ps_lines.proofs.Bytes.{text_read}
 use Rattle.ps_rows.proofs.Laws.{claim_is_format}
 use Rattle.ps_modes.specs.Inner.Judged.{Judged, Refuting, NotRefuting, PastSums}
@@ -126,7 +126,7 @@ fault_read input text fault only exact e =
 says_reads : (input : List ℕ) (claim : Claim) → SpellsClaim input claim → claim_at (text_start 1 input) ≡ Ok claim
 says_reads input claim says =
     let g = claim_is_format.again (text_start 1 input) claim says.fits
-    (ap pieces says.spelled ∙ text_read (claim_lines claim) (claim_is_format.clean claim says.fits)) in
+    (ap line_parts says.spelled ∙ text_read (claim_lines claim) (claim_is_format.clean claim says.fits)) in
     g.ok ∙ ap (λ (c : Claim). Ok c) g.is
 
 is_read : (input : List ℕ) (claim : Claim) → SpellsClaim input claim → IsRead input claim

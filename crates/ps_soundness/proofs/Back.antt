@@ -24,7 +24,7 @@ use Rattle.ps_graph.specs.declared.edge.Edge.{Edge}
 use Rattle.ps_graph.specs.declared.graph.Graph.{Graph}
 use Rattle.ps_soundness.proofs.Choices.{IsChoice, SomeGood, choose}
 use Rattle.ps_soundness.proofs.Demands.{Demand, before_threads, demand_of, gives_renamed}
-use Rattle.ps_soundness.specs.Traces.{AvoidError, command_of, trace_of}
+use Rattle.ps_soundness.specs.Traces.{AvoidError, command_of_edge, trace_of}
 use Rattle.ps_step.proofs.Demanding.{hits_meets}
 use Rattle.ps_step.proofs.Moved.{moved_at_is}
 use Rattle.ps_step.specs.Closed.{IsClosed, IsCovered}
@@ -326,10 +326,10 @@ owned_from b owner (a ∷ entries) (suc i) h l =
 enters : (edges : List Edge) (n : ℕ) (e : Edge) → slice_get edges n ≡ Some e → enters_error edges n ≡ (e.target == 1)
 enters edges n e g = ap (λ (o : Option Edge). unwrap_or (option_map (λ (e : Edge). e.target == 1) o) false) g
 
-command_is : (edges : List Edge) (n : ℕ) (e : Edge) → slice_get edges n ≡ Some e → command_of edges n ≡ e.command
+command_is : (edges : List Edge) (n : ℕ) (e : Edge) → slice_get edges n ≡ Some e → command_of_edge edges n ≡ e.command
 command_is edges n e g = ap (λ (o : Option Edge). unwrap_or (option_map (λ (e : Edge). e.command) o) 0) g
 
-letter_is : (edges : List Edge) (l : ℕ × ℕ) (e : Edge) → slice_get edges l.1 ≡ Some e → ◌≡◌ {A = ℕ × ℕ} (l.0, e.command) (l.0, command_of edges l.1)
+letter_is : (edges : List Edge) (l : ℕ × ℕ) (e : Edge) → slice_get edges l.1 ≡ Some e → ◌≡◌ {A = ℕ × ℕ} (l.0, e.command) (l.0, command_of_edge edges l.1)
 letter_is edges l e g = λ i. (l.0, sym (command_is edges l.1 e g) i)
 
 module _ (graph : Graph) (entries : List Entry) (tied : AreTied entries) (configurations : List Configuration)
@@ -416,7 +416,7 @@ module _ (graph : Graph) (entries : List Entry) (tied : AreTied entries) (config
       subst (λ (m : ℕ × ℕ). IsGiven entries (m ∷ done) false_atom) (letter_is graph.edges l e g)
       (won_last at done owned won l.1 l.0 e g source on_error occur.0)
   won_all (l ∷ m ∷ ls) at done (e, g, source, rest) error occur owned won = on (and_parts (not (enters_error graph.edges l.1)) (error_at_last graph.edges (m ∷ ls)) error)
-      (λ last o w. won_all (m ∷ ls) (moved_to at l.0 e.target) ((l.0, command_of graph.edges l.1) ∷ done) rest last occur.1 o w)
+      (λ last o w. won_all (m ∷ ls) (moved_to at l.0 e.target) ((l.0, command_of_edge graph.edges l.1) ∷ done) rest last occur.1 o w)
     where
       off : not (enters_error graph.edges l.1) ≡ true → e.target ≢ 1
       off h same = none_such (enters_error graph.edges l.1) (enters graph.edges l.1 e g ∙ eq-eqb e.target 1 same) h
@@ -427,9 +427,9 @@ module _ (graph : Graph) (entries : List Entry) (tied : AreTied entries) (config
 
       on : (not (enters_error graph.edges l.1) ≡ true) × (error_at_last graph.edges (m ∷ ls) ≡ true) →
           (error_at_last graph.edges (m ∷ ls) ≡ true → AreOwned (moved_to at l.0 e.target) →
-          AreWon entries configurations Q (moved_to at l.0 e.target) ((l.0, command_of graph.edges l.1) ∷ done) →
-          IsGiven entries (reverse_aux (trace_of graph.edges (m ∷ ls)) ((l.0, command_of graph.edges l.1) ∷ done)) false_atom) →
-          IsGiven entries (reverse_aux (trace_of graph.edges (m ∷ ls)) ((l.0, command_of graph.edges l.1) ∷ done)) false_atom
+          AreWon entries configurations Q (moved_to at l.0 e.target) ((l.0, command_of_edge graph.edges l.1) ∷ done) →
+          IsGiven entries (reverse_aux (trace_of graph.edges (m ∷ ls)) ((l.0, command_of_edge graph.edges l.1) ∷ done)) false_atom) →
+          IsGiven entries (reverse_aux (trace_of graph.edges (m ∷ ls)) ((l.0, command_of_edge graph.edges l.1) ∷ done)) false_atom
       on (h, last) go = go last (owned_after at owned l.1 l.0 e g source (off h))
           (subst (λ (m : ℕ × ℕ). AreWon entries configurations Q (moved_to at l.0 e.target) (m ∷ done)) (letter_is graph.edges l e g)
           (won_next at done owned won l.1 l.0 e g source (off h) occur.0))

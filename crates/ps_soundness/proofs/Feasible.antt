@@ -14,11 +14,11 @@ use Rattle.ps_graph.proofs.Letters.{Located, located_of_paths, moved_to}
 use Rattle.ps_graph.specs.ErrorTrace.{HavocsFit, IsErrorTrace, IsFeasible, RunsFrom, after_letters, edge_ops}
 use Rattle.ps_graph.specs.declared.edge.Edge.{Edge}
 use Rattle.ps_graph.specs.declared.graph.Graph.{Graph}
-use Rattle.ps_soundness.specs.Traces.{command_of, trace_of}
+use Rattle.ps_soundness.specs.Traces.{command_of_edge, trace_of}
 use Rattle.ps_triple.proofs.Membership.{all_of}
 
 -- the ops of an edge that exists are those of its command
-same_ops : (commands : List Command) (edges : List Edge) (n : ℕ) (e : Edge) → slice_get edges n ≡ Some e → edge_ops commands edges n ≡ ops_of commands (command_of edges n)
+same_ops : (commands : List Command) (edges : List Edge) (n : ℕ) (e : Edge) → slice_get edges n ≡ Some e → edge_ops commands edges n ≡ ops_of commands (command_of_edge edges n)
 same_ops commands edges n e g =
     ap (λ (o : Option Edge). unwrap_or (option_map (λ (e : Edge). ops_of commands e.command) o) []) g
     ∙ sym (ap (λ (o : Option Edge). ops_of commands (unwrap_or (option_map (λ (e : Edge). e.command) o) 0)) g)
@@ -40,14 +40,14 @@ runs_alike commands edges [] at hss located s = refl
 runs_alike commands edges (l ∷ ls) at [] located s = refl
 runs_alike commands edges (l ∷ ls) at (hs ∷ hss) (e, g, source, rest) s =
     ap (λ (ops : List Op). option_and_then (after_letters commands edges ls hss) (run_by l.0 ops s hs)) (same_ops commands edges l.1 e g)
-    ∙ goes_on_alike (after_letters commands edges ls hss) (after_trace commands (trace_of edges ls) hss) (run_by l.0 (ops_of commands (command_of edges l.1)) s hs)
+    ∙ goes_on_alike (after_letters commands edges ls hss) (after_trace commands (trace_of edges ls) hss) (run_by l.0 (ops_of commands (command_of_edge edges l.1)) s hs)
     (runs_alike commands edges ls (moved_to at l.0 e.target) hss rest)
 
 threads_stay : (edges : List Edge) (count : ℕ) (ls : List (ℕ × ℕ)) → All (λ (l : ℕ × ℕ). l.0 < count) ls → All (λ (l : ℕ × ℕ). l.0 < count) (trace_of edges ls)
 threads_stay edges count ls h = all_of (λ (l : ℕ × ℕ). l.0 < count) (trace_of edges ls) each
   where
     named : ℕ × ℕ → ℕ × ℕ
-    named l = (l.0, command_of edges l.1)
+    named l = (l.0, command_of_edge edges l.1)
 
     of_one : (m : ℕ × ℕ) → (l : ℕ × ℕ) × Contains ls l × (named l ≡ m) → m.0 < count
     of_one m (l, i, same) = subst (λ (t : ℕ). t < count) (ap (λ (p : ℕ × ℕ). p.0) same) (All-contains (λ (l : ℕ × ℕ). l.0 < count) ls l h i)

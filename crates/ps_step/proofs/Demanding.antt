@@ -3,7 +3,7 @@ use Rattle.std.proofs.Common.{◌≡◌, ℕ, Bool, true, false, ◌&&◌, ◌==
 use Rattle.std.specs.List.{flat_map, filter_map}
 use Rattle.std.proofs.lemmas.Bool.{false≢true, eqb-true, eq-eqb, and_parts, and_from}
 use Rattle.std.proofs.lemmas.List.Elements.{All-contains, Contains-append_left, Contains-append_right, Contains-append_cases}
-use Rattle.ps_atom.specs.Atoms.{renamed, IsInjectiveOn}
+use Rattle.ps_atom.specs.Atoms.{renamed, IsInjectiveOn, threads_of}
 use Rattle.ps_atom.specs.declared.atom.Atom.{Atom}
 use Rattle.ps_list.proofs.Members.{cons_cases, here, there}
 use Rattle.ps_config.specs.Configurations.{Configuration}
@@ -14,7 +14,7 @@ use Rattle.ps_config.proofs.Sent.{sent_image}
 use Rattle.ps_triple.specs.declared.triple.Triple.{Triple}
 use Rattle.ps_triple.specs.declared.entry.Entry.{Entry}
 use Rattle.ps_triple.specs.declared.entry.Entry.TheVariants.{Triple as OfTriple, Initial as OfInitial}
-use Rattle.ps_triple.specs.Entries.{GivesAtom, threads_in, threads_of}
+use Rattle.ps_triple.specs.Entries.{GivesAtom, threads_in}
 use Rattle.ps_triple.specs.Tests.{IsTied, IsTiedTo}
 use Rattle.ps_step.specs.Steps.{AreTied, MeetsDemands}
 use Rattle.ps_step.specs.inner.Demands.{is_renaming, demand, demands, MeetsSet, HitsAll}

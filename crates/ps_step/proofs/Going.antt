@@ -21,7 +21,7 @@ use Rattle.ps_graph.specs.declared.edge.Edge.{Edge}
 use Rattle.ps_graph.specs.declared.graph.Graph.{Graph}
 use Rattle.ps_list.proofs.Members.{nothing, cons_cases, here, there}
 use Rattle.ps_step.specs.Steps.{GoesBack, HasOneInOnce, IsDue, IsMovedTo, IsNowhere, IsOfOnce}
-use Rattle.ps_step.specs.inner.Going.{IsStepTo, are_alone, is_alone, is_body, located, may_move, of_once}
+use Rattle.ps_step.specs.inner.Going.{IsStepTo, are_alone, is_only_thread, is_body, located, may_move, of_once}
 use Rattle.ps_step.proofs.Counter.{only}
 use Rattle.ps_step.proofs.Expanding.{sorted_append}
 use Rattle.ps_step.proofs.Moved.{goes_same, pair_is}
@@ -52,8 +52,8 @@ pub alone_is : (graph : Graph) (at : List (ℕ × ℕ)) (c : Configuration) → 
 alone_is graph at c e h s t l m hs ht ol om =
     let p : ℕ × ℕ = (s, l) in
     let q : ℕ × ℕ = (t, m) in
-    let first : is_alone graph at s ≡ true = implied (of_once graph.once (owner_of graph.owner l)) (is_alone graph at s)
-        (all_from (λ (p : ℕ × ℕ). not (of_once graph.once (owner_of graph.owner p.1)) || is_alone graph at p.0) at h p (subst (λ (ps : List (ℕ × ℕ)). Contains ps p) e hs))
+    let first : is_only_thread graph at s ≡ true = implied (of_once graph.once (owner_of graph.owner l)) (is_only_thread graph at s)
+        (all_from (λ (p : ℕ × ℕ). not (of_once graph.once (owner_of graph.owner p.1)) || is_only_thread graph at p.0) at h p (subst (λ (ps : List (ℕ × ℕ)). Contains ps p) e hs))
         (once_is graph.once (owner_of graph.owner l) ol.0 ol.1 ol.2) in
     let second : (t == s) ≡ true = implied (of_once graph.once (owner_of graph.owner m)) (t == s)
         (all_from (λ (p : ℕ × ℕ). not (of_once graph.once (owner_of graph.owner p.1)) || p.0 == s) at first q (subst (λ (ps : List (ℕ × ℕ)). Contains ps q) e ht))
@@ -62,7 +62,7 @@ alone_is graph at c e h s t l m hs ht ol om =
 
 pub is_alone_of : (graph : Graph) (at : List (ℕ × ℕ)) (c : Configuration) → ((t l : ℕ) → Contains at (t, l) → IsAt c t l) → HasOneInOnce graph c → are_alone graph at ≡ true
 is_alone_of graph at c in_c one =
-    all_to (λ (p : ℕ × ℕ). not (of_once graph.once (owner_of graph.owner p.1)) || is_alone graph at p.0) at (λ p hp. implies (of_once graph.once (owner_of graph.owner p.1)) (is_alone graph at p.0)
+    all_to (λ (p : ℕ × ℕ). not (of_once graph.once (owner_of graph.owner p.1)) || is_only_thread graph at p.0) at (λ p hp. implies (of_once graph.once (owner_of graph.owner p.1)) (is_only_thread graph at p.0)
     (λ op. all_to (λ (q : ℕ × ℕ). not (of_once graph.once (owner_of graph.owner q.1)) || q.0 == p.0) at (λ q hq. implies (of_once graph.once (owner_of graph.owner q.1)) (q.0 == p.0)
     (λ oq. eq-eqb q.0 p.0 (one q.0 p.0 q.1 p.1 (in_c q.0 q.1 hq) (in_c p.0 p.1 hp) (is_once graph graph.once (owner_of graph.owner q.1) oq) (is_once graph graph.once (owner_of graph.owner p.1) op))))))
 

@@ -19,17 +19,17 @@ use Rattle.ps_step.specs.inner.Demands.{IsLeastHit}
 use Rattle.ps_step.specs.inner.Numbered.{at_place, named, IsNumbered}
 use Rattle.ps_step.proofs.Numbered.{hit_within, listed_least, least_listed, named_cmp, named_ascend}
 use Rattle.ps_step.specs.inner.Found.{AreLeast, AreAllLeast}
-use Rattle.ps_step.specs.inner.Pools.{HasEach, AreWithin, lists_of}
+use Rattle.ps_step.specs.inner.Pools.{HasEach, AreOfPool, lists_of}
 
-pub listed_within : (pool : List Atom) (demands : List (List Atom)) (sets hits : List (List ℕ)) → IsNumbered pool demands sets → Each (IsListedHit sets) hits → (hit : List ℕ) → Contains hits hit → AreWithin pool hit
+pub listed_within : (pool : List Atom) (demands : List (List Atom)) (sets hits : List (List ℕ)) → IsNumbered pool demands sets → Each (IsListedHit sets) hits → (hit : List ℕ) → Contains hits hit → AreOfPool pool hit
 listed_within pool demands sets hits is all hit c = hit_within pool demands sets hit is (All-contains (IsListedHit sets) hits hit all c).is_minimal
 
-each_named : (pool : List Atom) → IsStrictlySortedBy atom_cmp pool → (h : List ℕ) (hs : List (List ℕ)) → AreWithin pool h → ((k : List ℕ) → Contains hs k → AreWithin pool k) → AllByRecursion (λ y. slice_cmp nat_cmp h y ≡ Less) hs
+each_named : (pool : List Atom) → IsStrictlySortedBy atom_cmp pool → (h : List ℕ) (hs : List (List ℕ)) → AreOfPool pool h → ((k : List ℕ) → Contains hs k → AreOfPool pool k) → AllByRecursion (λ y. slice_cmp nat_cmp h y ≡ Less) hs
     → AllByRecursion (λ y. slice_cmp atom_cmp (named pool h) y ≡ Less) (map (named pool) hs)
 each_named pool up h [] w ws a = tt
 each_named pool up h (k ∷ hs) w ws a = (named_cmp pool up h k w (ws k (here k hs)) ∙ a.0, each_named pool up h hs w (λ m c. ws m (there k hs m c)) a.1)
 
-named_ordered : (pool : List Atom) → IsStrictlySortedBy atom_cmp pool → (hits : List (List ℕ)) → ((k : List ℕ) → Contains hits k → AreWithin pool k) → IsStrictlySortedBy (slice_cmp nat_cmp) hits → IsStrictlySortedBy (slice_cmp atom_cmp) (map (named pool) hits)
+named_ordered : (pool : List Atom) → IsStrictlySortedBy atom_cmp pool → (hits : List (List ℕ)) → ((k : List ℕ) → Contains hits k → AreOfPool pool k) → IsStrictlySortedBy (slice_cmp nat_cmp) hits → IsStrictlySortedBy (slice_cmp atom_cmp) (map (named pool) hits)
 unfolding IsStrictlySortedBy
 named_ordered pool up [] ws a = tt
 named_ordered pool up (h ∷ hs) ws a = (each_named pool up h hs (ws h (here h hs)) (λ k c. ws k (there h hs k c)) a.0, named_ordered pool up hs (λ k c. ws k (there h hs k c)) a.1)

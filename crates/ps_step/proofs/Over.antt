@@ -11,7 +11,7 @@ use Rattle.ps_config.specs.declared.config.TheConstants.{MOST_ATOMS, MOST_THREAD
 use Rattle.ps_config.specs.declared.wide.WideName.{WideName}
 use Rattle.ps_config.specs.declared.wide.WideName.TheVariants.{Sets, Atoms, Threads}
 use Rattle.ps_config.specs.declared.wide.WideStep.{WideStep}
-use Rattle.ps_step.specs.Wide.{EndsBy}
+use Rattle.ps_step.specs.Wide.{StepEndsBy}
 use Rattle.ps_step.specs.declared.expand_end.ExpandEnd.{ExpandEnd}
 use Rattle.ps_step.specs.declared.expand_end.ExpandEnd.TheVariants.{Wide, Memory}
 use Rattle.ps_step.specs.declared.expansion.Successor.{Successor}
@@ -58,7 +58,7 @@ ok_always (Ok x) p = p
 ok_always (Err e) p = tt
 
 -- what follows of a step that is too wide
-pub ends_weaker : (P Q : WideStep → Type 0) → ((w : WideStep) → P w → Q w) → (end : ExpandEnd) → EndsBy P end → EndsBy Q end
+pub ends_weaker : (P Q : WideStep → Type 0) → ((w : WideStep) → P w → Q w) → (end : ExpandEnd) → StepEndsBy P end → StepEndsBy Q end
 ends_weaker P Q f (Wide w) h = f w h
 ends_weaker P Q f (Memory e) h = tt
 
@@ -99,6 +99,6 @@ pub ok_weaker : {T E P Q : Type 0} → (P → Q) → (r : Result T E) → OnOk r
 ok_weaker f (Ok x) h = f h
 ok_weaker f (Err e) h = tt
 
-pub err_weaker : {T : Type 0} (P Q : WideStep → Type 0) → ((w : WideStep) → P w → Q w) → (r : Result T ExpandEnd) → IfErr r (EndsBy P) → IfErr r (EndsBy Q)
+pub err_weaker : {T : Type 0} (P Q : WideStep → Type 0) → ((w : WideStep) → P w → Q w) → (r : Result T ExpandEnd) → IfErr r (StepEndsBy P) → IfErr r (StepEndsBy Q)
 err_weaker P Q f (Ok x) h = tt
 err_weaker P Q f (Err e) h = ends_weaker P Q f e h

@@ -27,7 +27,7 @@ use Rattle.ps_graph.specs.declared.graph.Graph.{Graph}
 use Rattle.ps_list.proofs.Members.{nothing, cons_cases, here, there}
 use Rattle.ps_step.specs.Steps.{AreTied, GoesBack, IsSmallest, StandsBy}
 use Rattle.ps_step.specs.Successors.{IsSame}
-use Rattle.ps_step.specs.Wide.{HasAtoms, HasMoreThan, IsFirstAbove, IsNarrow, IsWideBy, IsWritten}
+use Rattle.ps_step.specs.Wide.{HasAtoms, HasMoreThan, IsFirstAbove, IsNarrow, IsWideBy, IsWrittenStep}
 use Rattle.ps_step.specs.declared.expand_end.TheConstants.{MOST_SETS}
 use Rattle.ps_step.specs.declared.expansion.Successor.{Successor}
 use Rattle.ps_step.specs.inner.Demands.{IsLeastHit, demands}
@@ -59,7 +59,7 @@ first_of [] more h = absurd (let f : ⊥ = omega (arith, more) in f)
 first_of (c ∷ list) more h = (c, h c (here c list))
 
 -- a step without a smallest configuration passes no limit
-pub narrow_of_none : (graph : Graph) (entries : List Entry) (from : Configuration) (number thread : ℕ) → ((to : Configuration) → ¬ IsWritten graph entries from number thread to) → IsNarrow graph entries from number thread
+pub narrow_of_none : (graph : Graph) (entries : List Entry) (from : Configuration) (number thread : ℕ) → ((to : Configuration) → ¬ IsWrittenStep graph entries from number thread to) → IsNarrow graph entries from number thread
 narrow_of_none graph entries from number thread never Sets count w = (let f = first_of w.0.list w.0.more w.0.are in never f.0 f.1)
 narrow_of_none graph entries from number thread never Atoms count w = never w.1.to w.1.written
 narrow_of_none graph entries from number thread never Threads count w = never w.2.to w.2.written
@@ -70,7 +70,7 @@ module _ (graph : Graph) (entries : List Entry) (from : Configuration) (edge : E
 
   -- ---- a step that doesn't go back
 
-  none_written : ((to : Configuration) → ¬ GoesBack graph from edge thread to) → (to : Configuration) → ¬ IsWritten graph entries from number thread to
+  none_written : ((to : Configuration) → ¬ GoesBack graph from edge thread to) → (to : Configuration) → ¬ IsWrittenStep graph entries from number thread to
   none_written never to w = never to (goes_of to w.smallest)
 
   none_up : IsStrictlySortedBy (λ (a b : Successor). slice_cmp atom_cmp a.config.atoms b.config.atoms) []
@@ -104,15 +104,15 @@ module _ (graph : Graph) (entries : List Entry) (from : Configuration) (edge : E
     same_at : (to : Configuration) → IsSmallest graph entries from number thread to → (t l : ℕ) → Contains at (t, l) ↔ IsAt to t l
     same_at to s t l = ((λ h. ((goes_of to s).is t l).1 ((goes.is t l).0 h)), (λ h. (goes.is t l).1 (((goes_of to s).is t l).0 h)))
 
-    written_at : (to : Configuration) → IsWritten graph entries from number thread to → to.at ≡ at
+    written_at : (to : Configuration) → IsWrittenStep graph entries from number thread to → to.at ≡ at
     written_at to w =
         same_sorted thread_cmp (λ p q. total_asymmetric nat_cmp nat_cmp_total p.0 q.0) to.at at (located_up to.at w.located) (located_up at up)
         (λ p h. (same_at to w.smallest p.0 p.1).1 h) (λ p h. (same_at to w.smallest p.0 p.1).0 h)
 
-    written_made : (set : List Atom) → IsLeastHit wanted set → IsStrictlySortedBy atom_cmp set → IsWritten graph entries from number thread (made set)
+    written_made : (set : List Atom) → IsLeastHit wanted set → IsStrictlySortedBy atom_cmp set → IsWrittenStep graph entries from number thread (made set)
     written_made set least ascend = record { smallest = smallest_made set least; located = up; ordered = ascend }
 
-    written_in : (sets : List (List Atom)) → AreAllOf wanted sets → (to : Configuration) → IsWritten graph entries from number thread to → Contains sets to.atoms
+    written_in : (sets : List (List Atom)) → AreAllOf wanted sets → (to : Configuration) → IsWrittenStep graph entries from number thread to → Contains sets to.atoms
     written_in sets all to w =
         let found = all.all to.atoms (least_of_smallest to w.smallest) in
         subst (λ (set : List Atom). Contains sets set)
@@ -132,7 +132,7 @@ module _ (graph : Graph) (entries : List Entry) (from : Configuration) (edge : E
         let few : length sets ≤ MOST_SETS = all.few in
         let f : ⊥ = omega (arith, le, long, more, few) in f
 
-    atoms_within : (sets : List (List Atom)) → AreAllOf wanted sets → IsFirstOver MOST_ATOMS HasLength sets None → (to : Configuration) → IsWritten graph entries from number thread to → length to.atoms ≤ MOST_ATOMS
+    atoms_within : (sets : List (List Atom)) → AreAllOf wanted sets → IsFirstOver MOST_ATOMS HasLength sets None → (to : Configuration) → IsWrittenStep graph entries from number thread to → length to.atoms ≤ MOST_ATOMS
     atoms_within sets all within to w = (let n = within to.atoms (written_in sets all to w) in subst (λ (k : ℕ). k ≤ MOST_ATOMS) (sym n.1) n.2)
 
     threads_within : (list : List (List Atom)) (c : Configuration) (n : ℕ) → c.at ≡ at → ((m : ℕ) × HasThreadsWith at c.atoms m × (m ≤ MOST_THREADS)) → HasThreadCount c n → n ≤ MOST_THREADS
@@ -180,7 +180,7 @@ module _ (graph : Graph) (entries : List Entry) (from : Configuration) (edge : E
     pub wide_of : (what : WideName) (count : ℕ) → IsWideOf wanted at what count → IsWideBy graph entries from number thread what count
     wide_of Sets count w = (record {
       list = map made w.0;
-      are = λ to h. (let v = from_mapped made w.0 to h in subst (λ (c : Configuration). IsWritten graph entries from number thread c) v.2 (written_made v.0 (w.1.least v.0 v.1) (w.1.ascend v.0 v.1)));
+      are = λ to h. (let v = from_mapped made w.0 to h in subst (λ (c : Configuration). IsWrittenStep graph entries from number thread c) v.2 (written_made v.0 (w.1.least v.0 v.1) (w.1.ascend v.0 v.1)));
       ordered = map_sorted (slice_cmp atom_cmp) by_atoms made (λ x y. refl) w.0 w.1.ordered;
       more = (let long : length (map made w.0) ≡ length w.0 = length-map w.0 made in let more : MOST_SETS < length w.0 = w.2 in omega (arith, long, more));
     }, w.3)

@@ -20,7 +20,7 @@ use Rattle.ps_graph.specs.declared.graph.Graph.{Graph}
 use Rattle.ps_list.proofs.Members.{nothing, here, there}
 use Rattle.ps_step.specs.Steps.{IsSmallest}
 use Rattle.ps_step.specs.Successors.{AreSuccessors, IsTried, step_cmp, successor_cmp, turn}
-use Rattle.ps_step.specs.Wide.{AreNarrow, EndsBy, IsFirstWide, IsNarrow, IsWideBy, IsWritten}
+use Rattle.ps_step.specs.Wide.{AreNarrow, StepEndsBy, IsFirstWide, IsNarrow, IsWideBy, IsWrittenStep}
 use Rattle.ps_step.specs.declared.expansion.Successor.{Successor}
 use Rattle.ps_step.specs.inner.Parts.{AddsStep, AddsSteps, AreOfStep, AreSmallestOf, IsFirstWideAt, IsStep, IsStepAlong, IsStepBefore, IsStepBelow, IsWideAt}
 use Rattle.ps_step.proofs.Expanding.{Both, parts_more, same_steps}

@@ -19,7 +19,7 @@ use Rattle.ps_step.specs.declared.expand_end.TheConstants.{MOST_SETS}
 use Rattle.ps_triple.specs.declared.entry.Entry.{Entry}
 
 -- a smallest configuration of the step, written in order: threads ascend, each with one location, and so do the atoms
-pub record IsWritten (graph : Graph) (entries : List Entry) (from : Configuration) (number thread : ℕ) (to : Configuration) : Type 0 where
+pub record IsWrittenStep (graph : Graph) (entries : List Entry) (from : Configuration) (number thread : ℕ) (to : Configuration) : Type 0 where
   pub smallest : IsSmallest graph entries from number thread to
   pub located : IsStrictlyIncreasing (map (λ (p : ℕ × ℕ). p.0) to.at)
   pub ordered : IsStrictlySortedBy atom_cmp to.atoms
@@ -27,7 +27,7 @@ pub record IsWritten (graph : Graph) (entries : List Entry) (from : Configuratio
 -- there are more than so many smallest configurations of the step
 pub record HasMoreThan (most : ℕ) (graph : Graph) (entries : List Entry) (from : Configuration) (number thread : ℕ) : Type 0 where
   pub list : List Configuration
-  pub are : (to : Configuration) → Contains list to → IsWritten graph entries from number thread to
+  pub are : (to : Configuration) → Contains list to → IsWrittenStep graph entries from number thread to
   pub ordered : IsStrictlySortedBy (λ (a b : Configuration). slice_cmp atom_cmp a.atoms b.atoms) list
   pub more : most < length list
 
@@ -35,10 +35,10 @@ pub record HasMoreThan (most : ℕ) (graph : Graph) (entries : List Entry) (from
 -- this size
 pub record IsFirstAbove (most : ℕ) (HasSize : Configuration → ℕ → Type 0) (graph : Graph) (entries : List Entry) (from : Configuration) (number thread size : ℕ) : Type 0 where
   pub to : Configuration
-  pub written : IsWritten graph entries from number thread to
+  pub written : IsWrittenStep graph entries from number thread to
   pub is : HasSize to size
   pub above : most < size
-  pub before : (c : Configuration) (n : ℕ) → IsWritten graph entries from number thread c →
+  pub before : (c : Configuration) (n : ℕ) → IsWrittenStep graph entries from number thread c →
       slice_cmp atom_cmp c.atoms to.atoms ≡ Less → HasSize c n → n ≤ most
 
 abbrev pub HasAtoms : Configuration → ℕ → Type 0
@@ -54,7 +54,7 @@ IsWideBy graph entries from number thread Atoms count =
     × IsFirstAbove MOST_ATOMS HasAtoms graph entries from number thread count
 IsWideBy graph entries from number thread Threads count =
     (¬ HasMoreThan MOST_SETS graph entries from number thread)
-    × ((to : Configuration) → IsWritten graph entries from number thread to → length to.atoms ≤ MOST_ATOMS)
+    × ((to : Configuration) → IsWrittenStep graph entries from number thread to → length to.atoms ≤ MOST_ATOMS)
     × IsFirstAbove MOST_THREADS HasThreadCount graph entries from number thread count
 
 -- the step passes no limit
@@ -73,6 +73,6 @@ pub record IsFirstWide (graph : Graph) (entries : List Entry) (from : Configurat
       step_cmp fresh number thread step.edge step.thread ≡ Less → IsNarrow graph entries from number thread
 
 -- the fact holds of the step that is too wide; of want of memory nothing is said
-abbrev pub EndsBy : (WideStep → Type 0) → ExpandEnd → Type 0
-EndsBy P (Wide step) = P step
-EndsBy P (Memory _) = Unit {0}
+abbrev pub StepEndsBy : (WideStep → Type 0) → ExpandEnd → Type 0
+StepEndsBy P (Wide step) = P step
+StepEndsBy P (Memory _) = Unit {0}

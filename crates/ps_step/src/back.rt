@@ -4,7 +4,7 @@ ghost use Rattle.std.specs.List.{filter, list_any};
 ghost use Rattle.ps_config.specs.Forms.{start_configuration};
 ghost use Rattle.ps_graph.specs.Facts.{owner_of};
 ghost use Rattle.ps_step.specs.Steps.{IsDue};
-ghost use Rattle.ps_step.specs.inner.Going.{IsStepTo, are_alone, is_alone, is_body, may_move, of_once};
+ghost use Rattle.ps_step.specs.inner.Going.{IsStepTo, are_alone, is_only_thread, is_body, may_move, of_once};
 ghost use Rattle.ps_triple.specs.Entries.{false_atom};
 
 use ps_atom::Atom;
@@ -98,7 +98,7 @@ fn is_of_once(graph: &Graph, location: u32) -> bool
 }
 
 fn is_alone(graph: &Graph, at: &[(u32, u32)], thread: u32) -> bool
-    ensures { result ≡ is_alone graph.now at.now thread }
+    ensures { result ≡ is_only_thread graph.now at.now thread }
 {
     at.iter()
         .all(|place| !is_of_once(graph, place.1) || place.0 == thread)

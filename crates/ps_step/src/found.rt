@@ -3,7 +3,7 @@ ghost use Rattle.std.specs.Prelude.{◌≡◌, ◌<◌, ℕ, List, IfOk, Contain
 ghost use Rattle.ps_step.specs.inner.Demands.{demands};
 ghost use Rattle.ps_step.specs.inner.Numbered.{named};
 ghost use Rattle.ps_step.specs.inner.Found.{IsFound};
-ghost use Rattle.ps_step.specs.inner.Pools.{lists_of, AreWithin};
+ghost use Rattle.ps_step.specs.inner.Pools.{lists_of, AreOfPool};
 
 use crate::demands::demands_of;
 use crate::numbering::{numbered, pool_of};
@@ -47,7 +47,7 @@ fn all_named(
     pool: &[Atom],
     hits: &[Sequence<u32>],
 ) -> Result<Vec<Vec<Atom>>, AllocError>
-    requires { (hit : List ℕ) → Contains hits.now hit → AreWithin pool.now hit }
+    requires { (hit : List ℕ) → Contains hits.now hit → AreOfPool pool.now hit }
     ensures { IfOk result (λ sets. lists_of sets.items ≡ map (named pool.now) hits.now) }
 {
     let mut sets = Vec::with_capacity(alloc, hits.len())?;
@@ -58,7 +58,7 @@ fn all_named(
 }
 
 fn atoms_named(alloc: Global, pool: &[Atom], places: &[u32]) -> Result<Vec<Atom>, AllocError>
-    requires { AreWithin pool.now places.now }
+    requires { AreOfPool pool.now places.now }
     ensures { IfOk result (λ atoms. atoms.items ≡ named pool.now places.now) }
 {
     let mut atoms = Vec::with_capacity(alloc, places.len())?;

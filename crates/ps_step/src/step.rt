@@ -5,7 +5,7 @@ ghost use Rattle.ps_atom.specs.Atoms.{atom_cmp};
 ghost use Rattle.ps_atom.specs.declared.atom.Atom.{Atom as AnAtom};
 ghost use Rattle.ps_config.specs.Forms.{IsConfig};
 ghost use Rattle.ps_step.specs.Steps.{AreTied};
-ghost use Rattle.ps_step.specs.Wide.{EndsBy};
+ghost use Rattle.ps_step.specs.Wide.{StepEndsBy};
 ghost use Rattle.ps_step.specs.inner.Demands.{demands};
 ghost use Rattle.ps_step.specs.inner.Parts.{AddsStep, IsWideAt};
 ghost use Rattle.ps_step.specs.inner.Pools.{lists_of};
@@ -37,7 +37,7 @@ pub(crate) fn add_step<B: Shown>(
     ensures adds { OnOk result (AddsStep graph.now (B.entries basis.now) config.now number thread
         successors.old.items successors.new.items) }
     ensures wide { IfErr result
-        (EndsBy (IsWideAt graph.now (B.entries basis.now) config.now number thread)) }
+        (StepEndsBy (IsWideAt graph.now (B.entries basis.now) config.now number thread)) }
 {
     let edge = &graph.edges.as_slice()[number as usize];
     match step_to(alloc, graph, config, edge, thread) {
@@ -70,7 +70,7 @@ fn add_least<B: Shown>(
     requires { IsStrictlyIncreasing (map (λ p. p.0) at.now) }
     ensures adds { OnOk result (AddsSets (demands (B.entries basis.now) atoms.now thread command)
         at.now number thread successors.old.items successors.new.items) }
-    ensures wide { IfErr result (EndsBy (IsNamed number thread
+    ensures wide { IfErr result (StepEndsBy (IsNamed number thread
         (IsWideOf (demands (B.entries basis.now) atoms.now thread command) at.now))) }
 {
     match least_sets(alloc, basis, atoms, thread, command, MOST_SETS).map_err(ExpandEnd::Memory)? {
@@ -100,7 +100,7 @@ fn add_sets(
         ≡ successors.old.items ++ map (successor_of number thread at.now) (lists_of sets.items)) }
     ensures within { OnOk result (IsWithin at.now (lists_of sets.items)) }
     ensures past { IfErr result
-        (EndsBy (IsNamed number thread (IsPastBy at.now (lists_of sets.items)))) }
+        (StepEndsBy (IsNamed number thread (IsPastBy at.now (lists_of sets.items)))) }
 {
     if let Some(count) = first_atoms_over(sets.as_slice()) {
         return Err(past(number, thread, WideName::Atoms, count));
@@ -113,7 +113,7 @@ fn add_sets(
 
 /// The step as too wide. A count past 32 bits is answered as want of memory, which so many are.
 fn past(number: u32, thread: u32, what: WideName, count: usize) -> ExpandEnd
-    ensures { EndsBy (λ step. (step.edge ≡ number) × (step.thread ≡ thread) × (step.what ≡ what)
+    ensures { StepEndsBy (λ step. (step.edge ≡ number) × (step.thread ≡ thread) × (step.what ≡ what)
         × (step.count ≡ count)) result }
 {
     match u32::try_from(count) {

@@ -14,3 +14,4 @@ pub mod Term
 pub mod Tightened
 pub mod Var
 pub mod Whole
+pub mod Hashed

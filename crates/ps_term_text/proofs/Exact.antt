@@ -18,7 +18,7 @@ use Rattle.ps_lines.specs.declared.form_fault.FormFault.{FormFault}
 use Rattle.ps_lines.specs.declared.form_end.FormEnd.{FormEnd}
 use Rattle.ps_lines.specs.declared.form_end.FormEnd.TheVariants.{Fault, Memory}
 use Rattle.ps_lines.proofs.Loop.{read_of, read_is}
-use Rattle.ps_lines.specs.Tokens.{Piece, Field, after_blank}
+use Rattle.ps_lines.specs.Tokens.{LinePart, Field, after_blank}
 use Rattle.std.proofs.lemmas.List.{append-nil}
 use Rattle.ps_lines.specs.Decimal.{counts_as_decimal, u32_of, i128_of}
 use Rattle.ps_lines.specs.Parts.{cut_at}
@@ -226,12 +226,12 @@ pairs_canonical at after ps e =
     (chain_canonical None ps h.1).0
 
 -- the fields of a term as tokens
-abbrev pub term_tokens : Term → List Piece
+abbrev pub term_tokens : Term → List LinePart
 term_tokens t = map Field (term_fields t)
 
-pub fields_split : (ps : List (Var × ℤ)) (c : List ℕ) (rest : List Piece) → map Field (map pair_text ps ++ c ∷ []) ++ rest ≡ member_tokens pair_text ps ++ Field c ∷ rest
+pub fields_split : (ps : List (Var × ℤ)) (c : List ℕ) (rest : List LinePart) → map Field (map pair_text ps ++ c ∷ []) ++ rest ≡ member_tokens pair_text ps ++ Field c ∷ rest
 fields_split [] c rest = refl
-fields_split (p ∷ ps) c rest = ap (λ (ts : List Piece). Field (pair_text p) ∷ ts) (fields_split ps c rest)
+fields_split (p ∷ ps) c rest = ap (λ (ts : List LinePart). Field (pair_text p) ∷ ts) (fields_split ps c rest)
 
 constant_exact : Exact (leaf_at integer) (λ z. Field (signed_decimal z) ∷ []) (FitsSigned w128) Always
 constant_exact = leaf_exact integer signed_decimal (FitsSigned w128) integer_is_leaf
@@ -245,7 +245,7 @@ term_found at =
     found_bind _ _ _ _ (pairs_exact.found at) (λ ps p.
     found_bind _ _ _ _ (constant_exact.found ps.1) (λ c q.
     let n = chain_canonical None ps.0 p.1 in
-    found_end _ _ (p.0 ∙ ap (λ (ts : List Piece). member_tokens pair_text ps.0 ++ ts) q.0 ∙ sym (fields_split ps.0 (signed_decimal c.0) c.1.tokens), record { canonical = n.0; pairs = n.1; constant = q.1 })))
+    found_end _ _ (p.0 ∙ ap (λ (ts : List LinePart). member_tokens pair_text ps.0 ++ ts) q.0 ∙ sym (fields_split ps.0 (signed_decimal c.0) c.1.tokens), record { canonical = n.0; pairs = n.1; constant = q.1 })))
 
 abbrev make_term : List (Var × ℤ) → ℤ → Term
 make_term ps c = record { pairs = ps; constant = c }
@@ -257,7 +257,7 @@ above_none : (ps : List (Var × ℤ)) → Above None ps
 above_none [] = tt
 above_none (p ∷ ps) = refl
 
-term_again : (at : Position) (t : Term) (rest : List Piece) → TermHasSpelling t → at.tokens ≡ term_tokens t ++ rest → Unit {0} → Gets (term_at at) (λ y. (y.0 ≡ t) × (y.1.tokens ≡ rest))
+term_again : (at : Position) (t : Term) (rest : List LinePart) → TermHasSpelling t → at.tokens ≡ term_tokens t ++ rest → Unit {0} → Gets (term_at at) (λ y. (y.0 ≡ t) × (y.1.tokens ≡ rest))
 unfolding term_at
 term_again at t rest fit e h =
     gets_bind _ _ _ _ (pairs_exact.again at t.pairs (Field (signed_decimal t.constant) ∷ rest) (canonical_chain None t.pairs fit.canonical fit.pairs (above_none t.pairs)) (e ∙ fields_split t.pairs (signed_decimal t.constant) rest) (constant_stops t.constant fit.constant)) (λ ps p.
@@ -283,7 +283,7 @@ term_is_found at now (Ok t) h =
     (p.1, p.0)
 term_is_found at now (Err e) h = tt
 
-pub term_is_read : (at now : Position) (r : Result Term FormEnd) → Gives (λ x. x) r now (term_at at) → (t : Term) (rest : List Piece) → TermHasSpelling t → at.tokens ≡ term_tokens t ++ rest → Tells (λ x. x) r (Ok t)
+pub term_is_read : (at now : Position) (r : Result Term FormEnd) → Gives (λ x. x) r now (term_at at) → (t : Term) (rest : List LinePart) → TermHasSpelling t → at.tokens ≡ term_tokens t ++ rest → Tells (λ x. x) r (Ok t)
 term_is_read at now r h t rest fit e =
     let g = term_exact.again at t rest fit e tt in
     told r now g.value t (subst (λ (s : Result (Term × Position) FormFault). Gives (λ x. x) r now s) g.ok h) g.is.0

@@ -2,7 +2,7 @@
 
 ghost use Rattle.std.specs.Prelude.{◌≡◌, ◌++◌, List, map, IfOk, Ok};
 ghost use Rattle.ps_term.specs.declared.term.Term.{Term};
-ghost use Rattle.ps_lines.specs.Tokens.{Piece, Field};
+ghost use Rattle.ps_lines.specs.Tokens.{LinePart, Field};
 ghost use Rattle.ps_lines.specs.Reading.{Gives, Tells};
 ghost use Rattle.ps_term_text.specs.Reading.{term_at};
 ghost use Rattle.ps_term_text.specs.Spelling.{term_fields, TermHasSpelling};
@@ -29,7 +29,7 @@ pub fn take_term<'a>(alloc: Global, reader: &mut Reader<'a>) -> Result<Term, For
         (λ term. TermHasSpelling term
         × (reader.old.tokens ≡ map Field (term_fields term) ++ reader.new.tokens)) }
     // What is spelled so is read, unless memory runs out.
-    ensures only { (term : Term) (rest : List Piece) → TermHasSpelling term
+    ensures only { (term : Term) (rest : List LinePart) → TermHasSpelling term
         → reader.old.tokens ≡ map Field (term_fields term) ++ rest
         → Tells (λ x. x) result (Ok term) }
     // Which fault it is, and where the reader stands.

@@ -10,7 +10,7 @@ use Rattle.ps_graph.specs.ErrorTrace.{BeginsOnce, IsErrorTrace, RunsBody, edges_
 use Rattle.ps_graph.specs.declared.edge.Edge.{Edge}
 use Rattle.ps_graph.specs.declared.graph.Graph.{Graph}
 use Rattle.ps_trace.proofs.Following.{edges_first, edges_other, path_again, path_front}
-use Rattle.ps_trace.specs.Traces.{pair_of, pairs_in}
+use Rattle.ps_trace.specs.Traces.{letter_pair, pairs_in}
 use Rattle.ps_trace.specs.declared.trace.Letter.{Letter}
 use Rattle.ps_trace.specs.inner.Paths.{ArePaths, BeginOnceAtMost, is_empty, IsNextStart, letter_at, NoneStarts, once_entry, StartAtMostOnce, starts}
 
@@ -192,8 +192,8 @@ one_start edges a xs p (Some q) first h = (
 pub starts_is : (edges : List Edge) (a : ℕ) (ls : List Letter) (i : ℕ) (d : Letter) → i < length ls → is_path edges a ((get_or ls i d).edge ∷ []) ≡ true →
     is_empty (edges_of (get_or ls i d).thread (pairs_in (take i ls))) ≡ starts edges a (pairs_in ls) i
 starts_is edges a ls i d w p =
-    let one : letter_at (pairs_in ls) i ≡ pair_of (get_or ls i d) = get_or-map pair_of ls i d (0, 0) w in
-    let before : take i (pairs_in ls) ≡ pairs_in (take i ls) = take-map pair_of i ls in
+    let one : letter_at (pairs_in ls) i ≡ letter_pair (get_or ls i d) = get_or-map letter_pair ls i d (0, 0) w in
+    let before : take i (pairs_in ls) ≡ pairs_in (take i ls) = take-map letter_pair i ls in
     sym (ap₂ (λ (l : ℕ × ℕ) (xs : List (ℕ × ℕ)). is_path edges a (l.1 ∷ []) && is_empty (edges_of l.0 xs)) one before
     ∙ ap (λ (b : Bool). b && is_empty (edges_of (get_or ls i d).thread (pairs_in (take i ls)))) p)
 

@@ -10,7 +10,7 @@ use Rattle.ps_graph.proofs.Errors.{and_parts}
 use Rattle.ps_graph.specs.ErrorTrace.{RunsBody, edges_of, enters_error, error_at_last, is_path}
 use Rattle.ps_graph.specs.declared.edge.Edge.{Edge}
 use Rattle.ps_graph.specs.declared.graph.Graph.{Graph}
-use Rattle.ps_trace.specs.Traces.{pair_of, pairs_in}
+use Rattle.ps_trace.specs.Traces.{letter_pair, pairs_in}
 use Rattle.ps_trace.specs.declared.trace.Letter.{Letter}
 use Rattle.ps_trace.specs.inner.Paths.{ArePaths, EndsIn, links}
 
@@ -213,23 +213,23 @@ pub none_here : (k : ℕ) (ls : List Letter) (i : ℕ) (d : Letter) → i < leng
     edges_of k (pairs_in (drop i ls)) ≡ []
 none_here k ls i d w none other =
     ap (λ (xs : List Letter). edges_of k (pairs_in xs)) (drop_more ls i d w)
-    ∙ edges_other k (pair_of (get_or ls i d)) (pairs_in (drop (i + 1) ls)) (ne_eqb (get_or ls i d).thread k other) ∙ none
+    ∙ edges_other k (letter_pair (get_or ls i d)) (pairs_in (drop (i + 1) ls)) (ne_eqb (get_or ls i d).thread k other) ∙ none
 
 pub last_here : (k : ℕ) (ls : List Letter) (i : ℕ) (d : Letter) → i < length ls → edges_of k (pairs_in (drop (i + 1) ls)) ≡ [] → (get_or ls i d).thread ≡ k →
     EndsIn (edges_of k (pairs_in ls)) (get_or ls i d).edge
 last_here k ls i d w none own = (
   edges_of k (pairs_in (take i ls)),
   ap (λ (xs : List Letter). edges_of k (pairs_in xs)) (sym (take-append-drop i ls))
-      ∙ ap (edges_of k) (map-append pair_of (take i ls) (drop i ls))
+      ∙ ap (edges_of k) (map-append letter_pair (take i ls) (drop i ls))
       ∙ edges_more k (pairs_in (take i ls)) (pairs_in (drop i ls))
       ∙ ap (λ (ns : List ℕ). edges_of k (pairs_in (take i ls)) ++ ns)
       (ap (λ (xs : List Letter). edges_of k (pairs_in xs)) (drop_more ls i d w)
-      ∙ edges_first k (pair_of (get_or ls i d)) (pairs_in (drop (i + 1) ls)) (eq-eqb (get_or ls i d).thread k own)
+      ∙ edges_first k (letter_pair (get_or ls i d)) (pairs_in (drop (i + 1) ls)) (eq-eqb (get_or ls i d).thread k own)
       ∙ ap (λ (ns : List ℕ). (get_or ls i d).edge ∷ ns) none),
 )
 
-pub pairs_more : (ls : List Letter) (i : ℕ) (d : Letter) → i < length ls → pairs_in (take (i + 1) ls) ≡ pairs_in (take i ls) ++ pair_of (get_or ls i d) ∷ []
-pairs_more ls i d w = ap pairs_in (take_more ls i d w) ∙ map_push pair_of (take i ls) (get_or ls i d)
+pub pairs_more : (ls : List Letter) (i : ℕ) (d : Letter) → i < length ls → pairs_in (take (i + 1) ls) ≡ pairs_in (take i ls) ++ letter_pair (get_or ls i d) ∷ []
+pairs_more ls i d w = ap pairs_in (take_more ls i d w) ∙ map_push letter_pair (take i ls) (get_or ls i d)
 
 -- where a letter doesn't go on, the letters have no paths
 pub no_paths : (graph : Graph) (ls : List Letter) (i : ℕ) → ArePaths graph (pairs_in ls) → ArePaths graph (pairs_in (take i ls))
@@ -238,7 +238,7 @@ no_paths graph ls i h =
     (λ k. elim_path k (h k))
   where
     same : pairs_in ls ≡ pairs_in (take i ls) ++ pairs_in (drop i ls)
-    same = ap pairs_in (sym (take-append-drop i ls)) ∙ map-append pair_of (take i ls) (drop i ls)
+    same = ap pairs_in (sym (take-append-drop i ls)) ∙ map-append letter_pair (take i ls) (drop i ls)
 
     elim_path : (k : ℕ) → (body : ℕ) × RunsBody graph (pairs_in ls) k body → (body : ℕ) × RunsBody graph (pairs_in (take i ls) ++ pairs_in (drop i ls)) k body
     elim_path k (body, r) = (body, subst (λ (xs : List (ℕ × ℕ)). RunsBody graph xs k body) same r)
@@ -251,7 +251,7 @@ pub error_stops : (edges : List Edge) (ls : List Letter) (i : ℕ) (d : Letter) 
     error_at_last edges (pairs_in (drop i ls)) ≡ (i + 1 == length ls)
 error_stops edges ls i d w h =
     ap (λ (xs : List Letter). error_at_last edges (pairs_in xs)) (drop_more ls i d w)
-    ∙ error_here edges (pair_of (get_or ls i d)) (pairs_in (drop (i + 1) ls)) h
+    ∙ error_here edges (letter_pair (get_or ls i d)) (pairs_in (drop (i + 1) ls)) h
     ∙ (let e : length (pairs_in (drop (i + 1) ls)) ≡ length ls - (i + 1) = length_pairs (drop (i + 1) ls) ∙ length-drop (i + 1) ls in
     grind (arith, nat_tests, e))
   where
@@ -263,7 +263,7 @@ pub error_passes : (edges : List Edge) (ls : List Letter) (i : ℕ) (d : Letter)
     error_at_last edges (pairs_in (drop i ls)) ≡ error_at_last edges (pairs_in (drop (i + 1) ls))
 error_passes edges ls i d w h =
     ap (λ (xs : List Letter). error_at_last edges (pairs_in xs)) (drop_more ls i d w)
-    ∙ error_later edges (pair_of (get_or ls i d)) (pairs_in (drop (i + 1) ls)) h
+    ∙ error_later edges (letter_pair (get_or ls i d)) (pairs_in (drop (i + 1) ls)) h
 
 -- ---- answers
 pub along : {X : Type 0} (a b : Bool) → a ≡ b → ((b ≡ true → X) × (X → b ≡ true)) → ((a ≡ true → X) × (X → a ≡ true))
@@ -279,14 +279,14 @@ no_body graph entries xs e none h = at (h 0)
         omega arith
 
 -- a letter after which the letters so far are no paths
-pub stops_here : (graph : Graph) (ls : List Letter) (i : ℕ) (d : Letter) → i < length ls → ¬ ArePaths graph (pairs_in (take i ls) ++ pair_of (get_or ls i d) ∷ []) → ¬ ArePaths graph (pairs_in ls)
+pub stops_here : (graph : Graph) (ls : List Letter) (i : ℕ) (d : Letter) → i < length ls → ¬ ArePaths graph (pairs_in (take i ls) ++ letter_pair (get_or ls i d) ∷ []) → ¬ ArePaths graph (pairs_in ls)
 stops_here graph ls i d w no_more h = no_more (λ k. at k (no_paths graph ls (i + 1) h k))
   where
-    at : (k : ℕ) → (body : ℕ) × RunsBody graph (pairs_in (take (i + 1) ls)) k body → (body : ℕ) × RunsBody graph (pairs_in (take i ls) ++ pair_of (get_or ls i d) ∷ []) k body
+    at : (k : ℕ) → (body : ℕ) × RunsBody graph (pairs_in (take (i + 1) ls)) k body → (body : ℕ) × RunsBody graph (pairs_in (take i ls) ++ letter_pair (get_or ls i d) ∷ []) k body
     at k (body, r) = (body, subst (λ (xs : List (ℕ × ℕ)). RunsBody graph xs k body) (pairs_more ls i d w) r)
 
-pub goes_here : (graph : Graph) (ls : List Letter) (i : ℕ) (d : Letter) → i < length ls → ArePaths graph (pairs_in (take i ls) ++ pair_of (get_or ls i d) ∷ []) → ArePaths graph (pairs_in (take (i + 1) ls))
+pub goes_here : (graph : Graph) (ls : List Letter) (i : ℕ) (d : Letter) → i < length ls → ArePaths graph (pairs_in (take i ls) ++ letter_pair (get_or ls i d) ∷ []) → ArePaths graph (pairs_in (take (i + 1) ls))
 goes_here graph ls i d w h k = at (h k)
   where
-    at : (body : ℕ) × RunsBody graph (pairs_in (take i ls) ++ pair_of (get_or ls i d) ∷ []) k body → (body : ℕ) × RunsBody graph (pairs_in (take (i + 1) ls)) k body
+    at : (body : ℕ) × RunsBody graph (pairs_in (take i ls) ++ letter_pair (get_or ls i d) ∷ []) k body → (body : ℕ) × RunsBody graph (pairs_in (take (i + 1) ls)) k body
     at (body, r) = (body, subst (λ (xs : List (ℕ × ℕ)). RunsBody graph xs k body) (sym (pairs_more ls i d w)) r)

@@ -38,7 +38,7 @@ use Rattle.ps_term.specs.declared.var.Var.{Var}
 use Rattle.ps_term.specs.declared.var.Var.TheVariants.{Global, Local, Havoc}
 use Rattle.ps_trace.proofs.Owning.{both, declared_rows_own, edge_ops_declared, own_form_at}
 use Rattle.ps_trace.specs.Meets.{in_a_row, RowsSayRuns, StartsWith, trace_values}
-use Rattle.ps_trace.specs.Rows.{SoFar, after_letter, form_at, letter_rows, letter_terms, nothing_yet, of_thread, pairs_of_thread, put_after, row_of_thread, rows_after, rows_of, rows_of_threads, start_rows, term_of_thread, threads_of, with_terms}
+use Rattle.ps_trace.specs.Rows.{SoFar, after_letter, form_at, letter_rows, letter_terms, nothing_yet, of_thread, pairs_of_thread, put_after, row_of_thread, rows_after, rows_of, rows_of_each, rows_at_start, term_of_thread, threads_in_trace, with_terms}
 use Rattle.ps_trace.specs.inner.Own.{is_own, is_own_form, is_own_row, is_own_term, is_own_worth}
 
 false_true : false ≡ true → ⊥
@@ -331,17 +331,17 @@ module _ (s : State) (havocs : List (List ℤ)) where
       ∙ own_rows 0 (λ (x : Var). trace_values s havocs (of_thread k 0 x)) (value_at (values_of k s)) (seen_at_start k) rows o
 
   threads_rows : (rows : List Row) → list_all (is_own_row 0) rows ≡ true → (ks : List ℕ) →
-      list_all (holds (trace_values s havocs)) (rows_of_threads rows ks) ≡ list_all (λ (k : ℕ). list_all (holds (value_at (values_of k s))) rows) ks
+      list_all (holds (trace_values s havocs)) (rows_of_each rows ks) ≡ list_all (λ (k : ℕ). list_all (holds (value_at (values_of k s))) rows) ks
   threads_rows rows o [] = refl
   threads_rows rows o (k ∷ ks) =
-      list_all-append (holds (trace_values s havocs)) (map (row_of_thread k 0) rows) (rows_of_threads rows ks)
+      list_all-append (holds (trace_values s havocs)) (map (row_of_thread k 0) rows) (rows_of_each rows ks)
       ∙ ap₂ (λ (a b : Bool). a && b) (thread_rows rows o k) (threads_rows rows o ks)
 
   start_is : (setting : Setting) (ks : List ℕ) →
-      list_all (holds (trace_values s havocs)) (start_rows setting ks)
+      list_all (holds (trace_values s havocs)) (rows_at_start setting ks)
       ≡ (list_all (holds (value_at (values_of 0 s))) setting.init_once && list_all (λ (k : ℕ). list_all (holds (value_at (values_of k s))) setting.init_each) ks)
   start_is setting ks =
-      list_all-append (holds (trace_values s havocs)) setting.init_once (rows_of_threads setting.init_each ks)
+      list_all-append (holds (trace_values s havocs)) setting.init_once (rows_of_each setting.init_each ks)
       ∙ ap₂ (λ (a b : Bool). a && b)
       (own_rows 0 (trace_values s havocs) (value_at (values_of 0 s)) seen_by_first setting.init_once (declared_rows_own setting.globals 0 setting.init_once setting.once_declared))
       (threads_rows setting.init_each (declared_rows_own setting.globals setting.locals setting.init_each setting.each_declared) ks)
@@ -356,35 +356,35 @@ module _ (s : State) (havocs : List (List ℤ)) where
   all_rows : (graph : Graph) (letters : List (ℕ × ℕ)) → IsSized graph.setting s → AllByRecursion (λ (l : ℕ × ℕ). l.0 < length s.locals) letters →
       HavocsFit graph.setting.commands graph.edges letters havocs →
       list_all (holds (trace_values s havocs)) (rows_of graph letters)
-      ≡ ((list_all (holds (value_at (values_of 0 s))) graph.setting.init_once && list_all (λ (k : ℕ). list_all (holds (value_at (values_of k s))) graph.setting.init_each) (threads_of letters))
+      ≡ ((list_all (holds (value_at (values_of 0 s))) graph.setting.init_once && list_all (λ (k : ℕ). list_all (holds (value_at (values_of k s))) graph.setting.init_each) (threads_in_trace letters))
       && is_some (after_letters graph.setting.commands graph.edges letters havocs s))
   all_rows graph letters sized threads fit =
-      list_all-append (holds (trace_values s havocs)) (start_rows graph.setting (threads_of letters)) (rows_after graph nothing_yet letters)
-      ∙ ap₂ (λ (a b : Bool). a && b) (start_is graph.setting (threads_of letters))
+      list_all-append (holds (trace_values s havocs)) (rows_at_start graph.setting (threads_in_trace letters)) (rows_after graph nothing_yet letters)
+      ∙ ap₂ (λ (a b : Bool). a && b) (start_is graph.setting (threads_in_trace letters))
       (letters_run graph (in_a_row havocs) (trace_values s havocs) (λ i. refl) letters havocs fit nothing_yet s sized threads stands_first refl)
 
 pub rows_say_runs : (graph : Graph) (letters : List (ℕ × ℕ)) → RowsSayRuns graph letters
 rows_say_runs graph letters s havocs sized threads fit = (forth, back)
   where
     each : Bool
-    each = list_all (λ (k : ℕ). list_all (holds (value_at (values_of k s))) graph.setting.init_each) (threads_of letters)
+    each = list_all (λ (k : ℕ). list_all (holds (value_at (values_of k s))) graph.setting.init_each) (threads_in_trace letters)
 
     is : list_all (holds (trace_values s havocs)) (rows_of graph letters)
-        ≡ ((list_all (holds (value_at (values_of 0 s))) graph.setting.init_once && list_all (λ (k : ℕ). list_all (holds (value_at (values_of k s))) graph.setting.init_each) (threads_of letters))
+        ≡ ((list_all (holds (value_at (values_of 0 s))) graph.setting.init_once && list_all (λ (k : ℕ). list_all (holds (value_at (values_of k s))) graph.setting.init_each) (threads_in_trace letters))
         && is_some (after_letters graph.setting.commands graph.edges letters havocs s))
     is = all_rows s havocs graph letters sized (recursion_from_All (λ (l : ℕ × ℕ). l.0 < length s.locals) letters threads) fit
 
     forth : list_all (holds (trace_values s havocs)) (rows_of graph letters) ≡ true →
-        StartsWith graph.setting (threads_of letters) s × (is_some (after_letters graph.setting.commands graph.edges letters havocs s) ≡ true)
+        StartsWith graph.setting (threads_in_trace letters) s × (is_some (after_letters graph.setting.commands graph.edges letters havocs s) ≡ true)
     forth h =
-        let p : ((list_all (holds (value_at (values_of 0 s))) graph.setting.init_once && list_all (λ (k : ℕ). list_all (holds (value_at (values_of k s))) graph.setting.init_each) (threads_of letters)) ≡ true)
+        let p : ((list_all (holds (value_at (values_of 0 s))) graph.setting.init_once && list_all (λ (k : ℕ). list_all (holds (value_at (values_of k s))) graph.setting.init_each) (threads_in_trace letters)) ≡ true)
         × (is_some (after_letters graph.setting.commands graph.edges letters havocs s) ≡ true) =
-        and_parts (list_all (holds (value_at (values_of 0 s))) graph.setting.init_once && list_all (λ (k : ℕ). list_all (holds (value_at (values_of k s))) graph.setting.init_each) (threads_of letters))
+        and_parts (list_all (holds (value_at (values_of 0 s))) graph.setting.init_once && list_all (λ (k : ℕ). list_all (holds (value_at (values_of k s))) graph.setting.init_each) (threads_in_trace letters))
         (is_some (after_letters graph.setting.commands graph.edges letters havocs s)) (sym is ∙ h) in
-        let q : (list_all (holds (value_at (values_of 0 s))) graph.setting.init_once ≡ true) × (list_all (λ (k : ℕ). list_all (holds (value_at (values_of k s))) graph.setting.init_each) (threads_of letters) ≡ true) =
-        and_parts (list_all (holds (value_at (values_of 0 s))) graph.setting.init_once) (list_all (λ (k : ℕ). list_all (holds (value_at (values_of k s))) graph.setting.init_each) (threads_of letters)) p.0 in
+        let q : (list_all (holds (value_at (values_of 0 s))) graph.setting.init_once ≡ true) × (list_all (λ (k : ℕ). list_all (holds (value_at (values_of k s))) graph.setting.init_each) (threads_in_trace letters) ≡ true) =
+        and_parts (list_all (holds (value_at (values_of 0 s))) graph.setting.init_once) (list_all (λ (k : ℕ). list_all (holds (value_at (values_of k s))) graph.setting.init_each) (threads_in_trace letters)) p.0 in
         (record { once = q.0; each = q.1 }, p.1)
 
-    back : StartsWith graph.setting (threads_of letters) s × (is_some (after_letters graph.setting.commands graph.edges letters havocs s) ≡ true) →
+    back : StartsWith graph.setting (threads_in_trace letters) s × (is_some (after_letters graph.setting.commands graph.edges letters havocs s) ≡ true) →
         list_all (holds (trace_values s havocs)) (rows_of graph letters) ≡ true
     back (st, runs) = is ∙ ap₂ (λ (a b : Bool). a && b) (ap₂ (λ (a b : Bool). a && b) st.once st.each) runs

@@ -10,7 +10,7 @@ use Rattle.ps_command.specs.declared.state.State.{State}
 use Rattle.ps_graph.specs.ErrorTrace.{HavocsFit, after_letters}
 use Rattle.ps_graph.specs.declared.graph.Graph.{Graph}
 use Rattle.ps_term.specs.declared.var.Var.{Var}
-use Rattle.ps_trace.specs.Rows.{rows_of, threads_of}
+use Rattle.ps_trace.specs.Rows.{rows_of, threads_in_trace}
 
 -- the havoc values of letters, one list after another
 abbrev pub in_a_row : List (List ℤ) → List ℤ
@@ -32,4 +32,4 @@ abbrev pub RowsSayRuns : Graph → List (ℕ × ℕ) → Type 0
 RowsSayRuns graph letters = (s : State) (havocs : List (List ℤ)) → IsSized graph.setting s →
     All (λ (l : ℕ × ℕ). l.0 < length s.locals) letters → HavocsFit graph.setting.commands graph.edges letters havocs →
     IsTrue (list_all (holds (trace_values s havocs)) (rows_of graph letters))
-    ↔ (StartsWith graph.setting (threads_of letters) s × IsSome (after_letters graph.setting.commands graph.edges letters havocs s))
+    ↔ (StartsWith graph.setting (threads_in_trace letters) s × IsSome (after_letters graph.setting.commands graph.edges letters havocs s))

@@ -36,17 +36,17 @@ threads_from ks [] = ks
 threads_from ks (l ∷ ls) = threads_from (insert_key nat_cmp ks l.0) ls
 
 -- the threads that occur, in ascending order
-abbrev pub threads_of : List (ℕ × ℕ) → List ℕ
-threads_of letters = threads_from [] letters
+abbrev pub threads_in_trace : List (ℕ × ℕ) → List ℕ
+threads_in_trace letters = threads_from [] letters
 
 -- the rows of each of these threads
-abbrev pub rows_of_threads : List Row → List ℕ → List Row
-rows_of_threads rows [] = []
-rows_of_threads rows (k ∷ ks) = map (row_of_thread k 0) rows ++ rows_of_threads rows ks
+abbrev pub rows_of_each : List Row → List ℕ → List Row
+rows_of_each rows [] = []
+rows_of_each rows (k ∷ ks) = map (row_of_thread k 0) rows ++ rows_of_each rows ks
 
 -- what is asked of the values that the trace starts from: the rows that hold once, and for each thread those that hold for each
-abbrev pub start_rows : Setting → List ℕ → List Row
-start_rows setting ks = setting.init_once ++ rows_of_threads setting.init_each ks
+abbrev pub rows_at_start : Setting → List ℕ → List Row
+rows_at_start setting ks = setting.init_once ++ rows_of_each setting.init_each ks
 
 -- What variables are worth after some letters, over the values before the trace and its havocs; and how many havocs came.
 pub record SoFar : Type 0 where
@@ -89,7 +89,7 @@ nothing_yet = record { after = []; havocs = 0 }
 
 -- The rows of a trace: those of its start, and then those of each letter.
 abbrev pub rows_of : Graph → List (ℕ × ℕ) → List Row
-rows_of graph letters = start_rows graph.setting (threads_of letters) ++ rows_after graph nothing_yet letters
+rows_of graph letters = rows_at_start graph.setting (threads_in_trace letters) ++ rows_after graph nothing_yet letters
 
 -- each product and partial sum of the next letter's substitutions fits
 abbrev pub LetterFits : SoFar → ℕ → SymbolicForm → Type 0

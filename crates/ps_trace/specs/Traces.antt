@@ -6,12 +6,12 @@ use Rattle.ps_trace.specs.declared.trace.IndexedTrace.{IndexedTrace}
 use Rattle.ps_trace.specs.declared.trace.Letter.{Letter}
 
 -- a letter, as a pair of a thread and the number of an edge
-abbrev pub pair_of : Letter → ℕ × ℕ
-pair_of l = (l.thread, l.edge)
+abbrev pub letter_pair : Letter → ℕ × ℕ
+letter_pair l = (l.thread, l.edge)
 
 -- letters, as such pairs
 abbrev pub pairs_in : List Letter → List (ℕ × ℕ)
-pairs_in letters = map pair_of letters
+pairs_in letters = map letter_pair letters
 
 -- the letters of a trace, as such pairs
 abbrev pub pairs_of : IndexedTrace → List (ℕ × ℕ)

@@ -2,7 +2,7 @@
 ghost use Rattle.std.specs.Prelude.{◌≡◌, ◌↔◌, ◌<◌, ◌++◌, [], ◌∷◌, length, IsTrue, MatchOption};
 ghost use Rattle.std.specs.List.{list_any};
 ghost use Rattle.ps_graph.specs.ErrorTrace.{edges_of, enters_error, error_at_last, is_path};
-ghost use Rattle.ps_trace.specs.Traces.{IsErrorTraceOf, pair_of, pairs_in};
+ghost use Rattle.ps_trace.specs.Traces.{IsErrorTraceOf, letter_pair, pairs_in};
 ghost use Rattle.ps_trace.specs.inner.Paths.{ArePaths, BeginOnceAtMost, EndsIn, is_empty, IsNextStart, links, NoneStarts, once_entry, StartAtMostOnce, starts};
 
 use crate::trace::{IndexedTrace, Letter};
@@ -45,7 +45,7 @@ fn are_paths(graph: &Graph, letters: &[Letter]) -> bool
 fn goes_on(graph: &Graph, before: &[Letter], letter: Letter) -> bool
     requires { ArePaths graph.now (pairs_in before.now) }
     ensures { IsTrue result
-        ↔ ArePaths graph.now (pairs_in before.now ++ pair_of letter ∷ []) }
+        ↔ ArePaths graph.now (pairs_in before.now ++ letter_pair letter ∷ []) }
 {
     match last_edge(before, letter.thread) {
         Some(edge) => links(graph.edges.as_slice(), edge, letter.edge),

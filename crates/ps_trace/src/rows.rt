@@ -1,7 +1,7 @@
 //! The rows of a trace.
 ghost use Rattle.std.specs.Prelude.{◌≡◌, ◌<◌, ◌++◌, ◌^◌, All, IfOk, IsErrOf, IsTrue, OnOk, length, map};
 ghost use Rattle.std.specs.List.{list_all};
-ghost use Rattle.ps_trace.specs.Rows.{form_at, havocs_of_letters, nothing_yet, row_of_thread, rows_after, rows_of, RowsFit, start_rows, threads_of};
+ghost use Rattle.ps_trace.specs.Rows.{form_at, havocs_of_letters, nothing_yet, row_of_thread, rows_after, rows_of, RowsFit, rows_at_start, threads_in_trace};
 ghost use Rattle.ps_trace.specs.Traces.{pairs_in, pairs_of};
 ghost use Rattle.ps_trace.specs.inner.Own.{is_own_form, is_own_row};
 
@@ -74,7 +74,7 @@ fn rows_at_start(
     letters: &[Letter],
 ) -> Result<Vec<Row>, AllocError>
     ensures { IfOk result
-        (λ rows. rows.items ≡ start_rows setting.now (threads_of (pairs_in letters.now))) }
+        (λ rows. rows.items ≡ rows_at_start setting.now (threads_in_trace (pairs_in letters.now))) }
 {
     let mut rows = copies(alloc, setting.init_once.as_slice())?;
     let each = rows_for_each(setting);
@@ -86,7 +86,7 @@ fn rows_at_start(
 
 // The threads of the letters, in ascending order.
 fn threads_of(alloc: Global, letters: &[Letter]) -> Result<BTreeSet<u32>, AllocError>
-    ensures { IfOk result (λ threads. threads.keys ≡ threads_of (pairs_in letters.now)) }
+    ensures { IfOk result (λ threads. threads.keys ≡ threads_in_trace (pairs_in letters.now)) }
 {
     let mut threads = BTreeSet::new(alloc);
     for letter in letters {

@@ -24,12 +24,12 @@ use Rattle.ps_command.specs.declared.setting.Setting.{Setting}
 use Rattle.ps_command.specs.declared.state.State.{State}
 use Rattle.ps_command.specs.declared.symbolic_form.SymbolicForm.{SymbolicForm}
 use Rattle.ps_command.proofs.Alike.{same_value, runs_as_form}
-use Rattle.ps_atom.specs.Atoms.{at_threads, HoldsAt, renamed, renamed_variable, IsOfSlots, IsInjectiveOn}
+use Rattle.ps_atom.specs.Atoms.{at_threads, HoldsAt, renamed, renamed_variable, IsOfSlots, IsInjectiveOn, threads_of}
 use Rattle.ps_atom.specs.Range.{IsDeclared}
 use Rattle.ps_atom.specs.declared.atom.Atom.{Atom}
 use Rattle.ps_atom.specs.declared.predicate.Predicate.{Predicate}
 use Rattle.ps_atom.proofs.RenamedAtoms.{renamed_says}
-use Rattle.ps_triple.specs.Entries.{threads_of, threads_in}
+use Rattle.ps_triple.specs.Entries.{threads_in}
 use Rattle.ps_triple.specs.Rows.{form_in, initial_rows, predicate_of, triple_rows}
 use Rattle.ps_triple.specs.Tests.{IsAtomOf}
 use Rattle.ps_triple.specs.Validity.{worth, HoldsOf, IsTrueIn, IsValidTriple, IsTrueAtFirst}

@@ -4,6 +4,6 @@ use Rattle.ps_triple.specs.declared.entry_end.EntryEnd.TheVariants.{Fault, Memor
 use Rattle.ps_triple.specs.declared.entry_end.EntryFault.{EntryFault}
 
 -- the fact holds of the fault; of want of memory nothing is said
-abbrev pub EndsBy : (EntryFault → Type 0) → EntryEnd → Type 0
-EndsBy P (Fault fault) = P fault
-EndsBy P (Memory _) = Unit {0}
+abbrev pub EntryEndsBy : (EntryFault → Type 0) → EntryEnd → Type 0
+EntryEndsBy P (Fault fault) = P fault
+EntryEndsBy P (Memory _) = Unit {0}

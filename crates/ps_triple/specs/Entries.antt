@@ -1,16 +1,11 @@
 -- What the entries of a list give: triples with their threads renamed, and predicates that hold initially.
 use Rattle.std.specs.Prelude.{◌≡◌, ℕ, List, [], ◌∷◌, ◌++◌, map, Contains}
-use Rattle.std.specs.List.{flat_map}
-use Rattle.ps_atom.specs.Atoms.{renamed, IsInjectiveOn}
+use Rattle.ps_atom.specs.Atoms.{renamed, IsInjectiveOn, threads_of}
 use Rattle.ps_atom.specs.declared.atom.Atom.{Atom}
 use Rattle.ps_triple.specs.declared.entry.Entry.{Entry}
 use Rattle.ps_triple.specs.declared.entry.Entry.TheVariants.{Triple as OfTriple, Initial as OfInitial}
 use Rattle.ps_triple.specs.declared.initial.Initial.{Initial}
 use Rattle.ps_triple.specs.declared.triple.Triple.{Triple}
-
--- the threads of atoms
-abbrev pub threads_of : List Atom → List ℕ
-threads_of atoms = flat_map (λ (q : Atom). q.threads) atoms
 
 -- the threads of a triple: thread 0, which runs the command, and those of its atoms
 abbrev pub threads_in : Triple → List ℕ

@@ -1,6 +1,6 @@
 //! The check of an entry.
 ghost use Rattle.std.specs.Prelude.{IfErr, MatchOption, OnOk};
-ghost use Rattle.ps_triple.specs.Ends.{EndsBy};
+ghost use Rattle.ps_triple.specs.Ends.{EntryEndsBy};
 ghost use Rattle.ps_triple.specs.Faults.{EntryHolds, IsFirstEntryFault};
 ghost use Rattle.ps_triple.specs.Short.{AreShort};
 ghost use Rattle.ps_triple.specs.Tests.{HasDistinctThreads, HasNoFreeThread, NamesThings};
@@ -31,7 +31,7 @@ pub fn check_entry(
 ) -> Result<(), EntryEnd>
     requires { AreShort setting.now entry.now }
     ensures holds { OnOk result (EntryHolds setting.now predicates.now entry.now) }
-    ensures fault { IfErr result (EndsBy (IsFirstEntryFault setting.now predicates.now entry.now)) }
+    ensures fault { IfErr result (EntryEndsBy (IsFirstEntryFault setting.now predicates.now entry.now)) }
 {
     let list = predicates.list();
     if let Some(fault) = first_fault(setting, list, entry) {

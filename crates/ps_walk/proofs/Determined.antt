@@ -11,7 +11,7 @@ use Rattle.ps_walk.specs.Answer.{AllowsNone, IsWalk, StagePast}
 use Rattle.ps_walk.specs.Bounds.{Allows, HoldsWith, IsNearest, LowerRowsHold, StageFits, UpperRowsHold}
 use Rattle.ps_walk.specs.Rows.{Fails, FirstAt, IsPast, PassesRow}
 use Rattle.ps_walk.specs.Values.{value_found}
-use Rattle.ps_walk.specs.Walking.{AreFound, IsFound, WalkStopsAt}
+use Rattle.ps_walk.specs.Walking.{AreFound, IsFoundValue, WalkStopsAt}
 use Rattle.ps_walk.specs.declared.answer.Walk.{Walk}
 use Rattle.ps_walk.specs.declared.answer.Walk.TheVariants.{Values, NoInteger, Misses, Past128}
 use Rattle.ps_walk.proofs.Bounding.{same_lower, same_upper, times_neg}
@@ -62,7 +62,7 @@ found_once (s ∷ ss) [] qs f g = absurd f
 found_once (s ∷ ss) (p ∷ ps) [] f g = absurd g
 found_once (s ∷ ss) (p ∷ ps) (q ∷ qs) f g =
     let rest : qs ≡ ps = found_once ss ps qs f.1 g.1 in
-    let there : IsFound ps s q = subst (λ (rs : List (Var × ℤ)). IsFound rs s q) rest g.0 in
+    let there : IsFoundValue ps s q = subst (λ (rs : List (Var × ℤ)). IsFoundValue rs s q) rest g.0 in
     let number : q.1 ≡ p.1 = nearest_is_one (value_found ps) s.variable s.rows p.1 q.1 f.0.nearest there.nearest in
     let variable : q.0 ≡ p.0 = there.variable ∙ sym f.0.variable in
     ap (λ (x : Var). (x, q.1) ∷ qs) variable ∙ (ap (λ (n : ℤ). (p.0, n) ∷ qs) number ∙ ap (λ (rs : List (Var × ℤ)). p ∷ rs) rest)
@@ -82,7 +82,7 @@ stops_by reason stages w =
 
 -- no value is found where the walk stops
 abbrev Excludes : (List (Var × ℤ) → Stage → Type 0) → Type 0
-Excludes reason = (later : List (Var × ℤ)) (s : Stage) (p : Var × ℤ) → reason later s → IsFound later s p → ⊥
+Excludes reason = (later : List (Var × ℤ)) (s : Stage) (p : Var × ℤ) → reason later s → IsFoundValue later s p → ⊥
 
 found_or_stops : (reason : List (Var × ℤ) → Stage → Type 0) → Excludes reason → (stages : List Stage) (ps : List (Var × ℤ)) → AreFound stages ps → Stops reason stages → ⊥
 found_or_stops reason never [] ps f w = w

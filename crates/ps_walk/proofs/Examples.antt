@@ -10,7 +10,7 @@ use Rattle.ps_term.specs.Pairs.{coefficient}
 use Rattle.ps_walk.specs.Bounds.{Allows, HoldsWith, IsLower, IsUpper, BoundFits, StageFits}
 use Rattle.ps_walk.specs.Examples.{FarEndsWalk, FarIsPast, NoneIsBetween, NothingIsWalked, SecondIsMissed, SixIsFound, SixIsLower, SixIsNearest, below, far, first_of_three, from_6, one_row, over, second_of_three, stage_of, three, zero_row}
 use Rattle.ps_walk.specs.Rows.{PassesRow}
-use Rattle.ps_walk.specs.Walking.{IsFound}
+use Rattle.ps_walk.specs.Walking.{IsFoundValue}
 use Rattle.ps_walk.specs.Values.{value_found}
 use Rattle.ps_walk.proofs.RowBounds.{fits_above, fits_below}
 
@@ -75,7 +75,7 @@ six = (
 )
 
 -- g1 is bounded by no row, so it is 0
-free : IsFound [] second_of_three (Global 1, pos 0)
+free : IsFoundValue [] second_of_three (Global 1, pos 0)
 free = record {
   variable = refl;
   fits = All-from_recursion (λ r. coefficient (Global 1) r.term.pairs ≢ pos 0 → BoundFits (value_found []) (Global 1) r) (zero_row ∷ zero_row ∷ []) (λ n. absurd (n refl), (λ n. absurd (n refl), tt));

@@ -7,7 +7,7 @@ use Rattle.ps_walk.specs.Values.{value_found}
 
 -- at the values of the later stages' variables the pair is that of the stage's variable and its value, the number
 -- nearest to 0 that the stage's rows allow, and the stage fits
-pub record IsFound (later : List (Var × ℤ)) (s : Stage) (p : Var × ℤ) : Type 0 where
+pub record IsFoundValue (later : List (Var × ℤ)) (s : Stage) (p : Var × ℤ) : Type 0 where
   pub variable : p.0 ≡ s.variable
   pub fits : StageFits (value_found later) s.variable s.rows
   pub nearest : IsNearest (Allows (value_found later) s.variable s.rows) p.1
@@ -17,7 +17,7 @@ abbrev pub AreFound : List Stage → List (Var × ℤ) → Type 0
 AreFound [] [] = Unit {0}
 AreFound [] (p ∷ ps) = ⊥
 AreFound (s ∷ ss) [] = ⊥
-AreFound (s ∷ ss) (p ∷ ps) = IsFound ps s p × AreFound ss ps
+AreFound (s ∷ ss) (p ∷ ps) = IsFoundValue ps s p × AreFound ss ps
 
 -- the walk comes to a stage, at which this holds for the values of the later ones
 pub record WalkStopsAt (reason : List (Var × ℤ) → Stage → Type 0) (stages : List Stage) : Type 0 where

@@ -8,25 +8,9 @@ use Rattle.std.proofs.lemmas.Slice.Eq.{slice_eq-Decides}
 use Rattle.std.specs.Cmp.Lexicographic.{pointwise}
 use Rattle.std.specs.Ordering.{int_eq}
 use Rattle.ps_term.specs.declared.var.Var.{Var}
-use Rattle.ps_term.specs.declared.var.Var.TheVariants.{Global, Local, Havoc}
-use Rattle.ps_term.specs.contracts.var.VarPartialEq.TheImpl as tests
+use Rattle.ps_term.specs.Hashed.{pair_decides, pair_eq}
 use Rattle.ps_atom.specs.declared.key.Key.{Key}
-use Rattle.ps_atom.specs.inner.Keys.{pair_eq, key_eq, key_fed}
-
-var_decides : (a b : Var) → Decides (tests.ghosts.eq a b) (a ≡ b)
-var_decides (Global m) (Global n) = ((λ e. grind (arith, nat_tests)), (λ e. grind (arith, nat_tests)))
-var_decides (Local s m) (Local t n) = ((λ e. grind (arith, nat_tests)), (λ e. grind (arith, nat_tests)))
-var_decides (Havoc m) (Havoc n) = ((λ e. grind (arith, nat_tests)), (λ e. grind (arith, nat_tests)))
-var_decides (Global _) (Local _ _) = ((λ e. cc), (λ e. cc))
-var_decides (Global _) (Havoc _) = ((λ e. cc), (λ e. cc))
-var_decides (Local _ _) (Global _) = ((λ e. cc), (λ e. cc))
-var_decides (Local _ _) (Havoc _) = ((λ e. cc), (λ e. cc))
-var_decides (Havoc _) (Global _) = ((λ e. cc), (λ e. cc))
-var_decides (Havoc _) (Local _ _) = ((λ e. cc), (λ e. cc))
-
-pair_decides : (p q : Var × ℤ) → Decides (pair_eq p q) (p ≡ q)
-pair_decides p q =
-    Decides-like (pair_eq p q) (λ e. λ i. (e.0 i, e.1 i)) (λ e. (ap (λ (r : Var × ℤ). r.0) e, ap (λ (r : Var × ℤ). r.1) e)) (Decides-and (tests.ghosts.eq p.0 q.0) (int_eq p.1 q.1) (var_decides p.0 q.0) (Decides-int_eq p.1 q.1))
+use Rattle.ps_atom.specs.inner.Keys.{key_eq, key_fed}
 
 pub key_decides : (a b : Key) → Decides (key_eq a b) (a ≡ b)
 key_decides a b =

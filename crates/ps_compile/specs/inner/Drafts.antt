@@ -14,7 +14,7 @@ use Rattle.ps_compile.specs.declared.route.Route.{Route}
 use Rattle.ps_compile.specs.declared.draft.Draft.{Draft}
 use Rattle.ps_compile.specs.declared.plan.Plan.{Plan}
 use Rattle.ps_compile.specs.declared.compile_end.CompileEnd.{CompileEnd}
-use Rattle.ps_compile.specs.Ends.{IsEndOf}
+use Rattle.ps_compile.specs.Ends.{IsCompileEnd}
 
 -- what a path does
 abbrev pub route_of : List Act → Route
@@ -34,7 +34,7 @@ commands_on drafts = map (λ (l : Draft). l.route.command.ops) drafts
 
 -- the tests, in their order
 abbrev pub Tested : {T : Type 0} → Result T CompileEnd → List Check → Type 0
-Tested {T} result checks = MatchResult result (λ (_ : T). NoneIsExceeded checks) (IsEndOf checks)
+Tested {T} result checks = MatchResult result (λ (_ : T). NoneIsExceeded checks) (IsCompileEnd checks)
 
 -- the sites were laid out: no limit is exceeded, their edges came to the drafts, and so many locations to the owners
 pub record Grows (body : ℕ) (old new : Plan) (ss : List Site) (size : ℕ) : Type 0 where
@@ -45,7 +45,7 @@ pub record Grows (body : ℕ) (old new : Plan) (ss : List Site) (size : ℕ) : T
 -- the sites were laid out, or of their limits that are passed this is the first
 abbrev pub Lays : {T : Type 0} → Result T CompileEnd → ℕ → Plan → Plan → List Site → ℕ → Type 0
 Lays {T} result body old new ss size =
-    MatchResult result (λ (_ : T). Grows body old new ss size) (IsEndOf (checks (length old.drafts.items) ss))
+    MatchResult result (λ (_ : T). Grows body old new ss size) (IsCompileEnd (checks (length old.drafts.items) ss))
 
 -- an `if`, and a `while`, as statements whose blocks are lists
 abbrev pub if_site : Place → StmtKind → Test → List Stmt → List Stmt → ℕ → ℕ → ℕ → Site

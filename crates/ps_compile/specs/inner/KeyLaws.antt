@@ -11,28 +11,13 @@ use Rattle.ps_command.specs.declared.op.Op.{Op}
 use Rattle.ps_command.specs.declared.op.Op.TheVariants.{Assume, Assign, Havoc as HavocOp}
 use Rattle.ps_compile.specs.declared.command_key.CommandKey.{CommandKey}
 use Rattle.ps_compile.specs.declared.command_key.OpKey.{OpKey}
-use Rattle.ps_compile.specs.inner.Keys.{pair_eq, term_eq, op_eq, op_key_eq, op_key_fed, key_eq, key_fed}
+use Rattle.ps_compile.specs.inner.Keys.{term_eq, op_eq, op_key_eq, op_key_fed, key_eq, key_fed}
+use Rattle.ps_term.specs.Hashed.{pair_decides, pair_eq, var_decides}
 use Rattle.ps_term.specs.contracts.var.VarPartialEq.TheImpl as tests
 use Rattle.ps_term.specs.declared.row.Row.{Row}
 use Rattle.ps_term.specs.declared.term.Term.{Term}
 use Rattle.ps_term.specs.declared.var.Var.{Var}
 use Rattle.ps_term.specs.declared.var.Var.TheVariants.{Global, Local, Havoc}
-
-var_decides : (a b : Var) → Decides (tests.ghosts.eq a b) (a ≡ b)
-var_decides (Global m) (Global n) = ((λ e. grind (arith, nat_tests)), (λ e. grind (arith, nat_tests)))
-var_decides (Local s m) (Local t n) = ((λ e. grind (arith, nat_tests)), (λ e. grind (arith, nat_tests)))
-var_decides (Havoc m) (Havoc n) = ((λ e. grind (arith, nat_tests)), (λ e. grind (arith, nat_tests)))
-var_decides (Global _) (Local _ _) = ((λ e. cc), (λ e. cc))
-var_decides (Global _) (Havoc _) = ((λ e. cc), (λ e. cc))
-var_decides (Local _ _) (Global _) = ((λ e. cc), (λ e. cc))
-var_decides (Local _ _) (Havoc _) = ((λ e. cc), (λ e. cc))
-var_decides (Havoc _) (Global _) = ((λ e. cc), (λ e. cc))
-var_decides (Havoc _) (Local _ _) = ((λ e. cc), (λ e. cc))
-
-pair_decides : (p q : Var × ℤ) → Decides (pair_eq p q) (p ≡ q)
-pair_decides p q =
-    Decides-like (pair_eq p q) (λ e. λ i. (e.0 i, e.1 i)) (λ e. (ap (λ (r : Var × ℤ). r.0) e, ap (λ (r : Var × ℤ). r.1) e))
-    (Decides-and (tests.ghosts.eq p.0 q.0) (int_eq p.1 q.1) (var_decides p.0 q.0) (Decides-int_eq p.1 q.1))
 
 term_decides : (a b : Term) → Decides (term_eq a b) (a ≡ b)
 term_decides a b =

@@ -8,6 +8,7 @@ use Rattle.ps_command.specs.declared.op.Op.{Op}
 use Rattle.ps_command.specs.declared.op.Op.TheVariants.{Assume, Assign, Havoc}
 use Rattle.ps_compile.specs.declared.command_key.CommandKey.{CommandKey}
 use Rattle.ps_compile.specs.declared.command_key.OpKey.{OpKey}
+use Rattle.ps_term.specs.Hashed.{pair_eq, pair_fed}
 use Rattle.ps_term.specs.contracts.var.VarHash.TheImpl as hashes
 use Rattle.ps_term.specs.contracts.var.VarPartialEq.TheImpl as tests
 use Rattle.ps_term.specs.declared.term.Term.{Term}
@@ -24,9 +25,6 @@ abbrev pub command_of : CommandKey → Command
 command_of k = record { ops = map (λ (o : OpKey). o.op) k.ops }
 
 -- the two are one
-abbrev pub pair_eq : Var × ℤ → Var × ℤ → Bool
-pair_eq p q = tests.ghosts.eq p.0 q.0 && int_eq p.1 q.1
-
 abbrev pub term_eq : Term → Term → Bool
 term_eq a b = int_eq a.constant b.constant && pointwise pair_eq a.pairs b.pairs
 
@@ -43,9 +41,6 @@ abbrev pub key_eq : CommandKey → CommandKey → Bool
 key_eq a b = pointwise op_key_eq a.ops b.ops
 
 -- what a hash is fed; of an assignment the term alone
-abbrev pub pair_fed : Var × ℤ → fed.HashWrites
-pair_fed p = hashes.ghosts.hash_input p.0 ++ fed.i128 p.1
-
 abbrev pub term_fed : Term → fed.HashWrites
 term_fed t = fed.i128 t.constant ++ fed.slice pair_fed t.pairs
 

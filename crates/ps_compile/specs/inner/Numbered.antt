@@ -33,7 +33,7 @@ pub record AreNumberedDrafts (commands : List Command) (drafts : List Draft) (es
   pub used : AllByRecursion (ComesFrom drafts) commands
 
 -- the edge of one draft more, whose command was entered in the table
-pub record IsNumbered (old new : List CommandKey) (d : Draft) (e : Edge) : Type 0 where
+pub record AreNumberedSoFar (old new : List CommandKey) (d : Draft) (e : Edge) : Type 0 where
   pub source : e.source ≡ d.source
   pub target : e.target ≡ d.target
   pub picks : e.picks ≡ d.route.picks

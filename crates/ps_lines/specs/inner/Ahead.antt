@@ -5,7 +5,7 @@ use Rattle.ps_lines.specs.declared.span.Span.{Span}
 use Rattle.ps_lines.specs.Lines.{IsSpanWithin, lines_of, span_text}
 use Rattle.ps_lines.specs.Reading.{Read, leaf_at}
 use Rattle.ps_lines.specs.Steps.{◌>>=◌}
-use Rattle.ps_lines.specs.Tokens.{next_field, pieces}
+use Rattle.ps_lines.specs.Tokens.{next_field, line_parts}
 
 -- How many bytes stand before the first blank or line feed.
 abbrev pub field_len : List ℕ → ℕ
@@ -14,9 +14,9 @@ field_len (b ∷ bs) = if b == 32 || b == 10 then 0 else field_len bs + 1
 
 -- The line that begins at a place: its spans and the place after it, or none where no line ends ahead.
 abbrev pub IsLineAhead : List ℕ → ℕ → Option (List Span × ℕ) → Type 0
-IsLineAhead bytes start None = lines_of (pieces (drop start bytes)) ≡ []
+IsLineAhead bytes start None = lines_of (line_parts (drop start bytes)) ≡ []
 IsLineAhead bytes start (Some p) =
-    (lines_of (pieces (drop start bytes)) ≡ map (span_text bytes) p.0 ∷ lines_of (pieces (drop p.1 bytes))) × All (IsSpanWithin (length bytes)) p.0 × (start < p.1) × (p.1 ≤ length bytes)
+    (lines_of (line_parts (drop start bytes)) ≡ map (span_text bytes) p.0 ∷ lines_of (line_parts (drop p.1 bytes))) × All (IsSpanWithin (length bytes)) p.0 × (start < p.1) × (p.1 ≤ length bytes)
 
 -- Whether a list goes on with what stands next.
 abbrev pub list_goes_on : (List ℕ → Bool) → Option (List ℕ) → Bool

@@ -20,12 +20,12 @@ of_once None owner = false
 of_once (Some body) owner = is_body body owner
 
 -- each thread at a location of that body is this one
-abbrev pub is_alone : Graph → List (ℕ × ℕ) → ℕ → Bool
-is_alone graph at thread = list_all (λ (p : ℕ × ℕ). not (of_once graph.once (owner_of graph.owner p.1)) || p.0 == thread) at
+abbrev pub is_only_thread : Graph → List (ℕ × ℕ) → ℕ → Bool
+is_only_thread graph at thread = list_all (λ (p : ℕ × ℕ). not (of_once graph.once (owner_of graph.owner p.1)) || p.0 == thread) at
 
 -- each thread at a location of that body is the only one
 abbrev pub are_alone : Graph → List (ℕ × ℕ) → Bool
-are_alone graph at = list_all (λ (p : ℕ × ℕ). not (of_once graph.once (owner_of graph.owner p.1)) || is_alone graph at p.0) at
+are_alone graph at = list_all (λ (p : ℕ × ℕ). not (of_once graph.once (owner_of graph.owner p.1)) || is_only_thread graph at p.0) at
 
 -- the thread is at the target, or at no location
 abbrev pub may_move : List (ℕ × ℕ) → ℕ → ℕ → Bool

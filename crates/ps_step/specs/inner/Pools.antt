@@ -32,5 +32,5 @@ pub record ArePlaces (pool set : List Atom) (places : List ℕ) : Type 0 where
   pub are : named pool places ≡ set
 
 -- each number is a place of the pool
-abbrev pub AreWithin : List Atom → List ℕ → Type 0
-AreWithin pool places = (n : ℕ) → Contains places n → n < length pool
+abbrev pub AreOfPool : List Atom → List ℕ → Type 0
+AreOfPool pool places = (n : ℕ) → Contains places n → n < length pool

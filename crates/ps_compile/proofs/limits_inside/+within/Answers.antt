@@ -1,7 +1,7 @@
 use Rattle.std.proofs.Common.{rules, ◌<◌, length, refl, subst, List}
 use Rattle.ps_compile.specs.Checks.{Check, NoneIsExceeded}
 use Rattle.ps_compile.specs.inner.Inside.{inside_of}
-use Rattle.ps_compile.specs.Ends.{IsEndOf}
+use Rattle.ps_compile.specs.Ends.{IsCompileEnd}
 use Rattle.ps_compile.specs.inner.Drafts.{Tested}
 use Rattle.ps_compile.proofs.Inside.{inside_atomic, inside_if, within_step, within_end}
 use Rattle.ps_compile.proofs.Testing.{end_left, end_right, none_append}
@@ -13,7 +13,7 @@ test_kind-returns-in-Atomic t c =
 
 pub test_kind-returns-in-Err : goal.test_kind-returns-in-Err
 test_kind-returns-in-Err t c =
-    subst (λ (cs : List Check). IsEndOf cs c.in-Err.end) (inside_if c.args.kind.now c.in-If._test c.in-If.held c.in-If.failed c.as_slice-in-If.result.now c.in-If.failed c.in-If.is c.as_slice-in-If.ensures refl)
+    subst (λ (cs : List Check). IsCompileEnd cs c.in-Err.end) (inside_if c.args.kind.now c.in-If._test c.in-If.held c.in-If.failed c.as_slice-in-If.result.now c.in-If.failed c.in-If.is c.as_slice-in-If.ensures refl)
     (end_left (inside_of c.as_slice-in-If.result.now) (inside_of c.in-If.failed) c.in-Err.end c.in-Err.ensures)
 
 pub test_kind-returns-in-Ok-test_within : goal.test_kind-returns-in-Ok-test_within
@@ -23,7 +23,7 @@ test_kind-returns-in-Ok-test_within t c =
 
 pub test_kind-returns-in-Err-test_within : goal.test_kind-returns-in-Err-test_within
 test_kind-returns-in-Err-test_within t c =
-    subst (λ (cs : List Check). IsEndOf cs c.in-Err-test_within.end)
+    subst (λ (cs : List Check). IsCompileEnd cs c.in-Err-test_within.end)
     (inside_if c.args.kind.now c.in-If._test c.in-If.held c.in-If.failed c.as_slice-in-If.result.now c.as_slice-in-If-2.result.now c.in-If.is c.as_slice-in-If.ensures c.as_slice-in-If-2.ensures)
     (end_right (inside_of c.as_slice-in-If.result.now) (inside_of c.as_slice-in-If-2.result.now) c.in-Err-test_within.end c.in-Ok.ensures c.in-Err-test_within.ensures)
 

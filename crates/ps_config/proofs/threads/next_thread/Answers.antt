@@ -1,6 +1,6 @@
 use Rattle.std.proofs.Common.{ℕ, List, ◌++◌, subst, map, get_or}
 use Rattle.std.proofs.lemmas.List.{take_all}
-use Rattle.ps_config.specs.Configurations.{threads_of}
+use Rattle.ps_atom.specs.Atoms.{threads_of}
 use Rattle.ps_atom.specs.declared.atom.Atom.{Atom}
 use Rattle.ps_config.specs.Next.{IsNextThread}
 use Rattle.ps_config.proofs.Nexts.{next_atom_step}

@@ -5,7 +5,7 @@ use Rattle.ps_hit.specs.Hitting.{numbers_of, IsListedHit}
 use Rattle.ps_hit.specs.declared.hits.Hits.{Hits}
 use Rattle.ps_step.specs.inner.Demands.{demands}
 use Rattle.ps_step.specs.inner.Numbered.{IsNumbered}
-use Rattle.ps_step.specs.inner.Pools.{lists_of, HasAll, AreWithin}
+use Rattle.ps_step.specs.inner.Pools.{lists_of, HasAll, AreOfPool}
 use Rattle.ps_step.proofs.LeastSets.{listed_within, moved_numbers, found_all, are_more}
 use Rattle.ps_step.proofs.found.least_sets.Goals as goal
 

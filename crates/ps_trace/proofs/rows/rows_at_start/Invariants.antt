@@ -1,7 +1,7 @@
 use Rattle.std.proofs.Common.{◌≡◌, ◌++◌}
-use Rattle.ps_trace.specs.Rows.{rows_of_threads, start_rows, threads_of}
+use Rattle.ps_trace.specs.Rows.{rows_of_each, rows_at_start, threads_in_trace}
 use Rattle.ps_trace.specs.Traces.{pairs_in}
 use Rattle.ps_trace.proofs.rows.rows_at_start.Given as goal
 
 abbrev pub invariant-loop-thread : goal.invariant-loop-thread
-invariant-loop-thread l = l.rows.items ++ rows_of_threads l.each l.thread-iterator ≡ start_rows l.setting (threads_of (pairs_in l.letters))
+invariant-loop-thread l = l.rows.items ++ rows_of_each l.each l.thread-iterator ≡ rows_at_start l.setting (threads_in_trace (pairs_in l.letters))
