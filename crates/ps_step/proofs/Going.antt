@@ -53,11 +53,11 @@ alone_is graph at c e h s t l m hs ht ol om =
     let p : ℕ × ℕ = (s, l) in
     let q : ℕ × ℕ = (t, m) in
     let first : is_only_thread graph at s ≡ true = implied (of_once graph.once (owner_of graph.owner l)) (is_only_thread graph at s)
-        (all_from (λ (p : ℕ × ℕ). not (of_once graph.once (owner_of graph.owner p.1)) || is_only_thread graph at p.0) at h p (subst (λ (ps : List (ℕ × ℕ)). Contains ps p) e hs))
-        (once_is graph.once (owner_of graph.owner l) ol.0 ol.1 ol.2) in
+    (all_from (λ (p : ℕ × ℕ). not (of_once graph.once (owner_of graph.owner p.1)) || is_only_thread graph at p.0) at h p (subst (λ (ps : List (ℕ × ℕ)). Contains ps p) e hs))
+    (once_is graph.once (owner_of graph.owner l) ol.0 ol.1 ol.2) in
     let second : (t == s) ≡ true = implied (of_once graph.once (owner_of graph.owner m)) (t == s)
-        (all_from (λ (p : ℕ × ℕ). not (of_once graph.once (owner_of graph.owner p.1)) || p.0 == s) at first q (subst (λ (ps : List (ℕ × ℕ)). Contains ps q) e ht))
-        (once_is graph.once (owner_of graph.owner m) om.0 om.1 om.2) in
+    (all_from (λ (p : ℕ × ℕ). not (of_once graph.once (owner_of graph.owner p.1)) || p.0 == s) at first q (subst (λ (ps : List (ℕ × ℕ)). Contains ps q) e ht))
+    (once_is graph.once (owner_of graph.owner m) om.0 om.1 om.2) in
     sym (eqb-true t s second)
 
 pub is_alone_of : (graph : Graph) (at : List (ℕ × ℕ)) (c : Configuration) → ((t l : ℕ) → Contains at (t, l) → IsAt c t l) → HasOneInOnce graph c → are_alone graph at ≡ true
@@ -175,12 +175,12 @@ in_order_up at thread location h =
     let is_above : (q : ℕ × ℕ) → Contains above q → thread < q.0 = λ q c. ltb-true thread q.0 (from_kept (λ (p : ℕ × ℕ). ltb thread p.0) at q c).1 in
     let is_below : (q : ℕ × ℕ) → Contains below q → q.0 < thread = λ q c. ltb-true q.0 thread (from_kept (λ (p : ℕ × ℕ). ltb p.0 thread) at q c).1 in
     let rest : IsStrictlySortedBy thread_cmp (first ∷ above) = sorted_append thread_cmp (first ∷ []) above (one_up first) (IsStrictlySortedBy-filter thread_cmp (λ (p : ℕ × ℕ). ltb thread p.0) at up)
-        (λ x y hx hy. less_is x.0 y.0 (subst (λ (q : ℕ × ℕ). q.0 < y.0) (only first x hx) (is_above y hy))) in
+    (λ x y hx hy. less_is x.0 y.0 (subst (λ (q : ℕ × ℕ). q.0 < y.0) (only first x hx) (is_above y hy))) in
     let all : IsStrictlySortedBy thread_cmp (in_order at thread location) = sorted_append thread_cmp below (first ∷ above) (IsStrictlySortedBy-filter thread_cmp (λ (p : ℕ × ℕ). ltb p.0 thread) at up) rest
-        (λ x y hx hy. less_is x.0 y.0 (let low : x.0 < thread = is_below x hx in elim (cons_cases first above y hy) [
-          | inl is ↦ subst (λ (q : ℕ × ℕ). x.0 < q.0) is low
-          | inr later ↦ (let high : thread < y.0 = is_above y later in omega (arith, low, high))
-        ])) in
+    (λ x y hx hy. less_is x.0 y.0 (let low : x.0 < thread = is_below x hx in elim (cons_cases first above y hy) [
+      | inl is ↦ subst (λ (q : ℕ × ℕ). x.0 < q.0) is low
+      | inr later ↦ (let high : thread < y.0 = is_above y later in omega (arith, low, high))
+    ])) in
     IsStrictlyIncreasing-from_sorted (map (λ (p : ℕ × ℕ). p.0) (in_order at thread location)) (of_threads (in_order at thread location) all)
 
 -- ---- the whole step
@@ -188,8 +188,7 @@ in_order_up at thread location h =
 pub step_made : (graph : Graph) (from : Configuration) (e : Edge) (thread : ℕ) (at moved slice : List (ℕ × ℕ)) → IsConfig from → IsDue from e thread → at ≡ from.at → may_move at thread e.target ≡ true →
     (p : List (ℕ × ℕ)) → p ≡ from.at → moved ≡ in_order p thread e.source → slice ≡ moved → are_alone graph slice ≡ true → IsStepTo graph from e thread (Some moved)
 step_made graph from e thread at moved slice form due is was p same made viewed alone =
-    let is_made : moved ≡ in_order from.at thread e.source = made ∙ ap (λ (ps : List (ℕ × ℕ)). in_order ps thread e.source) same in
-    (
+    let is_made : moved ≡ in_order from.at thread e.source = made ∙ ap (λ (ps : List (ℕ × ℕ)). in_order ps thread e.source) same in (
       subst (λ (ps : List (ℕ × ℕ)). IsStrictlyIncreasing (map (λ (p : ℕ × ℕ). p.0) ps)) (sym is_made) (in_order_up from.at thread e.source form.located),
       record {
         due = due;

@@ -149,10 +149,10 @@ module _ (graph : Graph) (entries : List Entry) (from : Configuration) (fresh : 
   thread_more number at thread next old mid new is_fresh found is_next step done =
       adds_both (IsStepBelow from number at) (IsStep number thread) (IsStepBelow from number next) old mid new
       (λ n k m l one other.
-          let low : k < at = one.2 in
-          let up : at ≤ thread = found.1 in
-          subst (λ (a : ℕ). step_cmp fresh a k m l ≡ Less) (sym one.0) (subst (λ (b : ℕ). step_cmp fresh number k b l ≡ Less) (sym other.0) (subst (λ (t : ℕ). step_cmp fresh number k number t ≡ Less) (sym other.1)
-          (both_occur fresh number k thread (not_fresh from fresh k is_fresh one.1) (not_fresh from fresh thread is_fresh found.0) ∙ less_is k thread (omega (arith, low, up))))))
+      let low : k < at = one.2 in
+      let up : at ≤ thread = found.1 in
+      subst (λ (a : ℕ). step_cmp fresh a k m l ≡ Less) (sym one.0) (subst (λ (b : ℕ). step_cmp fresh number k b l ≡ Less) (sym other.0) (subst (λ (t : ℕ). step_cmp fresh number k number t ≡ Less) (sym other.1)
+      (both_occur fresh number k thread (not_fresh from fresh k is_fresh one.1) (not_fresh from fresh thread is_fresh found.0) ∙ less_is k thread (omega (arith, low, up))))))
       (λ n k step. elim step [
         | inl one ↦ (one.0, one.1, (let low : k < at = one.2 in let up : at ≤ thread = found.1 in omega (arith, low, up, is_next)))
         | inr other ↦ (other.0, subst (λ (t : ℕ). Contains (threads_at from) t) (sym other.1) found.0, (let e : k ≡ thread = other.1 in omega (arith, e, is_next)))
@@ -168,8 +168,8 @@ module _ (graph : Graph) (entries : List Entry) (from : Configuration) (fresh : 
   all_threads number at old mid new is_fresh none step done =
       adds_both (IsStepBelow from number at) (IsStep number fresh) (IsStepAlong from fresh number) old mid new
       (λ n k m l one other.
-          subst (λ (a : ℕ). step_cmp fresh a k m l ≡ Less) (sym one.0) (subst (λ (b : ℕ). step_cmp fresh number k b l ≡ Less) (sym other.0) (subst (λ (t : ℕ). step_cmp fresh number k number t ≡ Less) (sym other.1)
-          (fresh_last fresh number k (not_fresh from fresh k is_fresh one.1)))))
+      subst (λ (a : ℕ). step_cmp fresh a k m l ≡ Less) (sym one.0) (subst (λ (b : ℕ). step_cmp fresh number k b l ≡ Less) (sym other.0) (subst (λ (t : ℕ). step_cmp fresh number k number t ≡ Less) (sym other.1)
+      (fresh_last fresh number k (not_fresh from fresh k is_fresh one.1)))))
       (λ n k step. elim step [ inl one ↦ (one.0, inl one.1) | inr other ↦ (other.0, inr other.1) ])
       (λ n k all. elim all.1 [ inl occurs ↦ inl (all.0, occurs, none k occurs) | inr is ↦ inr (all.0, is) ])
       done (as_steps number fresh mid new step)
