@@ -28,7 +28,7 @@ impl<'a> Model for Reader<'a> {
 
     ghost Value = { Position };
 
-    ghost view = { λ r. record { line = r.line; field = r.field; line_parts = ahead r.ended r.rest.now } };
+    ghost view = { λ r. record { line = r.line; field = r.field; tokens = ahead r.ended r.rest.now } };
 
     ghost invariant = { λ r. (1 ≤ r.line) × (r.line + (if r.ended then 1 else 0) + length r.rest.now < 2 ^ 32) × (r.field + length r.rest.now < 2 ^ 32) };
 }
