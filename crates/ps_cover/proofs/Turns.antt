@@ -1,11 +1,9 @@
 -- The threads one after another, each to the least image with a way to go on.
-use Rattle.std.proofs.Common.{◌≡◌, ◌<◌, ◌≤◌, ◌+◌, ◌-◌, ◌==◌, ℕ, Bool, true, false, List, [], ◌∷◌, ◌++◌, length, drop, get_or, refl, sym, ap, ◌∙◌, subst, inl, inr, ◌⊎◌, Contains, Some, None, arith}
-use Rattle.std.specs.List.{list_any}
-use Rattle.std.proofs.lemmas.Bool.{both_ways, cases_lt}
+use Rattle.std.proofs.Common.{◌≡◌, ◌<◌, ◌≤◌, ◌+◌, ◌-◌, ◌==◌, ℕ, Bool, true, false, List, [], ◌∷◌, ◌++◌, length, drop, get_or, sym, ap, ◌∙◌, subst, Some, arith}
+use Rattle.std.proofs.lemmas.Bool.{both_ways}
 use Rattle.std.proofs.lemmas.List.{append_assoc, append-nil, length-append, length_push, length-drop}
-use Rattle.std.proofs.lemmas.List.Elements.{Contains-get_or, Contains-push_cases}
-use Rattle.ps_list.proofs.Members.{nothing, here, there}
-use Rattle.ps_config.specs.Configurations.{Configuration, threads_at}
+use Rattle.ps_list.proofs.Members.{here}
+use Rattle.ps_config.specs.Configurations.{Configuration}
 use Rattle.ps_config.specs.Forms.{AreThreads}
 use Rattle.ps_cover.specs.declared.partial.Partial.{Partial}
 use Rattle.ps_cover.specs.inner.Rests.{Fits, IsRestAnswer, one_more, AllOccur}

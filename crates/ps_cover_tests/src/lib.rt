@@ -2,9 +2,13 @@
 #![tactic(auto)]
 
 #[cfg(test)]
+mod among;
+#[cfg(test)]
 mod configs;
 #[cfg(test)]
 mod coverings;
+#[cfg(test)]
+mod embeds;
 #[cfg(test)]
 mod slow;
 #[cfg(test)]

@@ -1,127 +1,113 @@
-//! The first injection by trying all lists of images in lexicographic order.
-use crate::text::Lists;
+//! The first injection by trying all lists of images in lexicographic order, with the contract of
+//! `covers_lists`.
+ghost use Rattle.std.specs.Prelude.{◌≡◌, ◌+◌, ◌++◌, ◌∷◌, [], length, IfOk, IfSome, IfNone};
+ghost use Rattle.ps_config.specs.Configurations.{Configuration, Covers};
+ghost use Rattle.ps_config.specs.Forms.{AreThreads};
+ghost use Rattle.ps_cover.specs.Coverings.{IsCovering, IsFirstInjection};
+ghost use Rattle.ps_cover_tests.specs.Trials.{HasNone, IsLeast};
+
+use crate::embeds::embeds;
 use ps_atom::Atom;
-use ps_config::next_thread;
+use ps_config::{Config, next_thread};
 use std::alloc::{AllocError, Global};
 
+/// The images of the first injection.
+pub fn first(
+    alloc: Global,
+    small: &Config,
+    at: &[(u32, u32)],
+    atoms: &[Atom],
+) -> Result<Option<Vec<u32>>, AllocError>
+    ensures some { IfOk result (λ answer. IfSome answer
+        (λ to. IsFirstInjection small.now (record { at = at.now; atoms = atoms.now }) to.items)) }
+    ensures none { IfOk result (λ answer. IfNone answer
+        (¬ Covers small.now (record { at = at.now; atoms = atoms.now }))) }
+{
+    let threads = threads_in(alloc, small.at(), small.atoms())?;
+    let left = threads.len();
+    let answer = first_from(alloc, small, at, atoms, threads.as_slice(), &[], left)?;
+    Ok(answer)
+}
+
 /// The threads that occur, ascending.
-fn threads_of(alloc: Global, lists: &Lists) -> Result<Vec<u32>, AllocError> {
+fn threads_in(alloc: Global, at: &[(u32, u32)], atoms: &[Atom]) -> Result<Vec<u32>, AllocError>
+    ensures { IfOk result
+        (λ threads. AreThreads (record { at = at.now; atoms = atoms.now }) threads.items) }
+{
     let mut threads = Vec::new(alloc);
-    for thread in 0..64u32 {
-        if next_thread(
-            lists.at.as_slice(),
-            lists.atoms.as_slice(),
-            u64::from(thread),
-        ) == Some(thread)
-        {
-            threads.push(thread)?;
-        }
+    let mut from: u64 = 0;
+    while let Some(thread) = next_thread(at, atoms, from) {
+        threads.push(thread)?;
+        from = u64::from(thread) + 1;
     }
     Ok(threads)
 }
 
-/// The image at the thread's place.
-fn image_of(threads: &[u32], to: &[u32], thread: u32) -> u32 {
-    for (other, image) in threads.iter().zip(to) {
-        if *other == thread {
-            return *image;
-        }
-    }
-    thread
-}
-
-/// Whether the atom's image is this atom.
-fn is_image(threads: &[u32], to: &[u32], atom: &Atom, other: &Atom) -> bool {
-    let slots = atom.threads.as_slice();
-    let others = other.threads.as_slice();
-    for (slot, image) in slots.iter().zip(others) {
-        if image_of(threads, to, *slot) != *image {
-            return false;
-        }
-    }
-    atom.predicate == other.predicate && slots.len() == others.len()
-}
-
-fn has_image(threads: &[u32], to: &[u32], atom: &Atom, atoms: &[Atom]) -> bool {
-    for other in atoms {
-        if is_image(threads, to, atom, other) {
-            return true;
-        }
-    }
-    false
-}
-
-/// Whether the images are those of an injection that takes the smaller configuration into the larger.
-fn embeds(small: &Lists, large: &Lists, threads: &[u32], to: &[u32]) -> bool {
-    for (place, image) in to.iter().enumerate() {
-        if to[..place].contains(image) {
-            return false;
-        }
-    }
-    for (thread, location) in small.at.as_slice() {
-        if !large
-            .at
-            .contains(&(image_of(threads, to, *thread), *location))
-        {
-            return false;
-        }
-    }
-    for atom in small.atoms.as_slice() {
-        if !has_image(threads, to, atom, large.atoms.as_slice()) {
-            return false;
-        }
-    }
-    true
-}
-
-/// The first list that begins with these images and embeds.
+/// The first list that begins with these images, has so many more, and embeds.
 fn first_from(
     alloc: Global,
-    small: &Lists,
-    large: &Lists,
+    small: &Config,
+    at: &[(u32, u32)],
+    atoms: &[Atom],
     threads: &[u32],
-    images: &[u32],
     to: &[u32],
-    left: u32,
-) -> Result<Option<Vec<u32>>, AllocError> {
+    left: usize,
+) -> Result<Option<Vec<u32>>, AllocError>
+    requires threads { AreThreads small.now threads.now }
+    requires long { length to.now + left ≡ length threads.now }
+    ensures some { IfOk result (λ answer. IfSome answer (λ all. IsLeast small.now
+        (record { at = at.now; atoms = atoms.now }) threads.now to.now left all.items)) }
+    ensures none { IfOk result (λ answer. IfNone answer (HasNone small.now
+        (record { at = at.now; atoms = atoms.now }) threads.now to.now left)) }
+{
     if left == 0 {
-        let all = Vec::from_slice(alloc, to)?;
-        return Ok(if embeds(small, large, threads, to) {
-            Some(all)
-        } else {
-            None
-        });
+        return at_end(alloc, small, at, atoms, threads, to);
     }
-    for image in images {
-        let mut longer = Vec::from_slice(alloc, to)?;
-        longer.push(*image)?;
-        if let Some(all) = first_from(
+    let mut from: u64 = 0;
+    while let Some(image) = next_thread(at, atoms, from) {
+        let longer = with(alloc, to, image)?;
+        match first_from(
             alloc,
             small,
-            large,
+            at,
+            atoms,
             threads,
-            images,
             longer.as_slice(),
             left - 1,
         )? {
-            return Ok(Some(all));
+            Some(all) => return Ok(Some(all)),
+            None => from = u64::from(image) + 1,
         }
     }
     Ok(None)
 }
 
-/// The images of the first injection.
-pub fn first(alloc: Global, small: &Lists, large: &Lists) -> Result<Option<Vec<u32>>, AllocError> {
-    let threads = threads_of(alloc, small)?;
-    let images = threads_of(alloc, large)?;
-    let left = threads.len().min(64) as u32;
-    first_from(
-        alloc,
-        small,
-        large,
-        threads.as_slice(),
-        images.as_slice(),
-        &[],
-        left,
-    )
+fn with(alloc: Global, to: &[u32], image: u32) -> Result<Vec<u32>, AllocError>
+    ensures { IfOk result (λ longer. longer.items ≡ to.now ++ image ∷ []) }
+{
+    let mut longer = Vec::from_slice(alloc, to)?;
+    longer.push(image)?;
+    Ok(longer)
+}
+
+/// The images, where each thread has one, if they embed.
+fn at_end(
+    alloc: Global,
+    small: &Config,
+    at: &[(u32, u32)],
+    atoms: &[Atom],
+    threads: &[u32],
+    to: &[u32],
+) -> Result<Option<Vec<u32>>, AllocError>
+    requires threads { AreThreads small.now threads.now }
+    requires long { length to.now ≡ length threads.now }
+    ensures some { IfOk result (λ answer. IfSome answer (λ all. IsLeast small.now
+        (record { at = at.now; atoms = atoms.now }) threads.now to.now 0 all.items)) }
+    ensures none { IfOk result (λ answer. IfNone answer (HasNone small.now
+        (record { at = at.now; atoms = atoms.now }) threads.now to.now 0)) }
+{
+    if !embeds(small, at, atoms, threads, to) {
+        return Ok(None);
+    }
+    Ok(Some(Vec::from_slice(alloc, to)?))
 }

@@ -69,11 +69,12 @@ fn some_lists(alloc: Global, seed: u64, atoms: u32, threads: u32) -> Result<List
 fn agree(alloc: Global, seed: u64) -> Result<(bool, bool), AllocError> {
     let small = some_lists(alloc, seed, 2, 3)?;
     let large = some_lists(alloc, seed.wrapping_add(1_000_000), 7, 5)?;
-    let slow = first(alloc, &small, &large)?;
     let Some(small) = config_of(small) else {
         return Ok((false, false));
     };
-    let found = covers_lists(&small, large.at.as_slice(), large.atoms.as_slice());
+    let (at, atoms) = (large.at.as_slice(), large.atoms.as_slice());
+    let slow = first(alloc, &small, at, atoms)?;
+    let found = covers_lists(&small, at, atoms);
     match (slow, found) {
         (Some(all), Some(found)) => Ok((
             found.to.starts_with(all.as_slice()) && found.count as usize == all.len(),

@@ -1,17 +1,17 @@
 -- How the covers change as one more number is chosen.
-use Rattle.std.proofs.Common.{◌≡◌, ℕ, suc, zero, ◌+◌, ◌<◌, ◌≤◌, Bool, true, false, List, [], ◌∷◌, ◌++◌, length, get_or, drop, sym, subst, refl, inl, inr, ◌⊎◌, Contains, All, arith, append_assoc, eqb, rules}
+use Rattle.std.proofs.Common.{◌≡◌, ℕ, suc, zero, ◌+◌, ◌<◌, ◌≤◌, Bool, true, false, List, [], ◌∷◌, ◌++◌, length, get_or, drop, sym, subst, refl, inl, inr, Contains, All, arith, append_assoc, rules}
 use Rattle.std.specs.Prelude.{◌==◌}
 use Rattle.std.specs.List.{list_any, AllZip}
 use Rattle.std.specs.declared.vec.Vec.{Vec}
-use Rattle.std.proofs.lemmas.Bool.{both_ways, eqb-true, eq-eqb, cases_Bool, false≢true, or_cases, or_left, or_right}
+use Rattle.std.proofs.lemmas.Bool.{both_ways}
 use Rattle.std.proofs.lemmas.List.{drop_more}
 use Rattle.std.proofs.lemmas.List.Elements.{All-head, All-tail, Contains-append_left, Contains-push, Contains-push_cases}
 use Rattle.ps_hit.specs.declared.cover.Cover.{Cover}
 use Rattle.ps_hit.specs.declared.cover.Cover.TheVariants.{Unmet, Once, Again}
 use Rattle.ps_hit.specs.Hitting.{numbers_of}
 use Rattle.ps_hit.specs.inner.Covers.{IsCover, cover_with, covers_with, unmet}
-use Rattle.ps_list.proofs.Numbers.{has_from, has_to, is_in}
-use Rattle.ps_list.proofs.Members.{nothing, cons_cases, here, there}
+use Rattle.ps_list.proofs.Numbers.{has_from, has_to}
+use Rattle.ps_list.proofs.Members.{nothing}
 
 -- one more set is done
 pub covers_more : {A : Type 0} (n : ℕ) (sets : List (Vec ℕ A)) (covers : List Cover) (i : ℕ) (set : Vec ℕ A) (d : Cover) (done all : List Cover) (cover : Cover) (has : Bool)

@@ -1,6 +1,5 @@
 use Rattle.std.proofs.Common.{◌≡◌, ◌<◌, ◌∙◌, ◌+◌, length, sym, ap, arith, rules}
 use Rattle.std.proofs.lemmas.List.{length_push}
-use Rattle.ps_config.specs.declared.config.TheConstants.{MOST_THREADS}
 use Rattle.ps_cover.specs.inner.Rests.{large_of}
 use Rattle.ps_cover.proofs.Trying.{IsTried, NoneBelow, below_next, below_more, none_goes, unfit_ends, unused, alike_ends, one_failed, more_occur}
 use Rattle.ps_cover.proofs.open.+is_open.Goals as goal
