@@ -18,9 +18,12 @@ use ps_list::Sequence;
 use ps_tree::Program;
 use std::alloc::{AllocError, Global};
 
-/// The exact graph of a program, or the first limit that is exceeded, at its place. Paths and alternatives
-/// are counted before any is made, so the time is that of the text, and of the graph within its limits. The
-/// program never fails exactly where no error trace of the graph is feasible.
+/// The exact graph of a program, or the limit that is exceeded first, with its place. The program never
+/// fails exactly where no error trace of the graph is feasible.
+///
+/// Alternatives and paths are counted before any is made. So the time, of a program that is read, is that
+/// of its text and of the graph within its limits: each command's symbolic form is made for each edge, to
+/// see that it stays within 128 bits, and once more to be kept.
 pub fn compile(alloc: Global, program: &Program) -> Result<Graph, CompileEnd>
     requires { IsCompilable program.now }
     ensures compiled { IfOk result (λ graph. IsCompiled program.now graph) }
