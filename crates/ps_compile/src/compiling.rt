@@ -6,6 +6,7 @@ ghost use Rattle.ps_compile.specs.Conditions.{IsCompilable};
 ghost use Rattle.ps_compile.specs.Ends.{IsCompileEnd};
 ghost use Rattle.ps_compile.specs.Layout.{body_sites};
 ghost use Rattle.ps_compile.specs.inner.Plans.{IsPlanOf};
+ghost use Rattle.ps_graph.specs.Errors.{IsSafeExactly};
 
 use crate::compile_end::CompileEnd;
 use crate::layout::lay_block;
@@ -17,13 +18,18 @@ use ps_list::Sequence;
 use ps_tree::Program;
 use std::alloc::{AllocError, Global};
 
-/// The exact graph of a program, or the first limit that is exceeded, at its place. Paths and alternatives
-/// are counted before any is made, so the time is that of the text, and of the graph within its limits.
+/// The exact graph of a program, or the limit that is exceeded first, with its place. The program never
+/// fails exactly where no error trace of the graph is feasible.
+///
+/// Alternatives and paths are counted before any is made. So the time, of a program that is read, is that
+/// of its text and of the graph within its limits: each command's symbolic form is made for each edge, to
+/// see that it stays within 128 bits, and once more to be kept.
 pub fn compile(alloc: Global, program: &Program) -> Result<Graph, CompileEnd>
     requires { IsCompilable program.now }
     ensures compiled { IfOk result (λ graph. IsCompiled program.now graph) }
     ensures within { OnOk result (NoneIsExceeded (checks 0 (body_sites program.now.body 0 2))) }
     ensures exceeded { IfErr result (IsCompileEnd (checks 0 (body_sites program.now.body 0 2))) }
+    ensures safe { IfOk result (λ graph. IsSafeExactly program.now graph) }
 {
     let plan = match plan_of(alloc, program) {
         Ok(plan) => plan,

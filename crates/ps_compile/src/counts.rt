@@ -1,4 +1,5 @@
-//! How many alternatives a condition has, and how many paths a statement, counted up to 65.
+// How many alternatives a condition has, and how many paths a statement. Counts stop at 65, which is above each limit on
+// them, so a text of any length is counted in time of its length.
 ghost use Rattle.std.specs.Prelude.{◌≡◌, ◌+◌, ◌*◌, length, min};
 ghost use Rattle.ps_graph.specs.Alternatives.{alternatives, of_relation, opposite};
 ghost use Rattle.ps_compile.specs.inner.Counts.{going, failing, paths_of, held_alternatives};
@@ -8,6 +9,7 @@ ghost use Rattle.ps_tree.specs.declared.sum.Sum.{Sum};
 
 use ps_tree::{Cond, Sign, Stmt, StmtKind, Test};
 
+// How many alternatives a relation of this sign has, or its negation.
 fn count_relation(sign: Sign, holds: bool) -> usize
     ensures { (a b : Sum) → result ≡ length (held_alternatives holds sign a b) }
 {
@@ -21,6 +23,7 @@ fn count_relation(sign: Sign, holds: bool) -> usize
     }
 }
 
+// Those of a condition that holds, or doesn't.
 #[cycle(counts)]
 pub(crate) fn count_alternatives(cond: &Cond, holds: bool) -> usize
     ensures { result ≡ min (length (alternatives holds cond.now)) 65 }
@@ -45,6 +48,7 @@ pub(crate) fn count_alternatives(cond: &Cond, holds: bool) -> usize
     }
 }
 
+// One of each member.
 #[cycle(counts)]
 fn count_each(members: &[Cond], holds: bool) -> usize
     ensures { result ≡ min (length (each_of holds members.now)) 65 }
@@ -58,6 +62,7 @@ fn count_each(members: &[Cond], holds: bool) -> usize
     all
 }
 
+// One of any member.
 #[cycle(counts)]
 fn count_any(members: &[Cond], holds: bool) -> usize
     ensures { result ≡ min (length (any_of holds members.now)) 65 }
@@ -71,8 +76,8 @@ fn count_any(members: &[Cond], holds: bool) -> usize
     all
 }
 
-/// How many paths go on, and how many fail.
-#[derive(Debug, Drop)]
+// How many paths go on, and how many fail.
+#[derive(Drop)]
 pub(crate) struct Count {
     pub(crate) going: usize,
     pub(crate) failing: usize,
@@ -86,6 +91,7 @@ fn sum_of_products(a: usize, b: usize, c: usize, d: usize) -> usize
         .min(65)
 }
 
+// The ways in which a test holds, or fails.
 fn count_ways(test: &Test, holds: bool) -> usize
     ensures { result ≡ min (length (ways holds test.now)) 65 }
 {
@@ -95,8 +101,9 @@ fn count_ways(test: &Test, holds: bool) -> usize
     }
 }
 
+// The paths of a statement that is run in one go.
 #[cycle(paths)]
-pub(crate) fn count_paths(kind: &StmtKind) -> Count
+fn count_paths(kind: &StmtKind) -> Count
     ensures going { result.going ≡ min (going (paths kind.now)) 65 }
     ensures failing { result.failing ≡ min (failing (paths kind.now)) 65 }
 {
@@ -139,6 +146,7 @@ pub(crate) fn count_paths(kind: &StmtKind) -> Count
     }
 }
 
+// The paths of a block: those that go on do so through each statement, and a path fails in one of them.
 #[cycle(paths)]
 pub(crate) fn count_block(block: &[Stmt]) -> Count
     ensures going { result.going ≡ min (going (paths_of block.now)) 65 }

@@ -89,7 +89,7 @@ fn cond_routes(
     }
 }
 
-// Want of memory. No number of a program that can be compiled is so great that its terms leave 128 bits.
+// Want of memory. A term leaves 128 bits only in what can't be compiled, as the calls that make terms say: never here.
 fn memory_end(end: TermEnd) -> AllocError {
     match end {
         TermEnd::Memory(end) => end,
