@@ -1,30 +1,28 @@
 -- What the tests of a step tell, and its locations in order.
-use Rattle.std.proofs.Common.{◌≡◌, ◌≢◌, ◌<◌, ◌≤◌, ℕ, Bool, true, false, cond, not, ◌&&◌, ◌||◌, ◌==◌, ltb, List, [], ◌∷◌, ◌++◌, map, refl, sym, ap, ap₂, ◌∙◌, subst, inl, inr, ◌⊎◌, Contains, Option, Some, None, arith}
-use Rattle.std.specs.Prelude.{option_map}
-use Rattle.std.specs.List.{AllByRecursion, filter, list_all, list_any}
+use Rattle.std.proofs.Common.{◌≡◌, ◌≢◌, ◌<◌, ℕ, Bool, true, false, not, ◌&&◌, ◌||◌, ◌==◌, ltb, List, [], ◌∷◌, ◌++◌, map, refl, sym, ap, ap₂, ◌∙◌, subst, inl, inr, ◌⊎◌, Contains, Option, Some, None, arith}
+use Rattle.std.specs.List.{AllByRecursion, filter, list_any}
 use Rattle.std.specs.List.Sorted.{IsStrictlyIncreasing, IsStrictlySortedBy}
 use Rattle.std.specs.Ordering.{nat_cmp}
 use Rattle.std.specs.declared.cmp.Ordering.{Ordering}
 use Rattle.std.specs.declared.cmp.Ordering.TheVariants.{Less}
-use Rattle.std.specs.declared.vec.Vec.{Vec}
 use Rattle.std.specs.Cmp.{nat_cmp_is}
-use Rattle.std.proofs.lemmas.Bool.{and_from, and_parts, both_ways, cases_eq, cases_lt, eq-eqb, eqb-true, false≢true, lt-ltb, ltb-true, or_cases, or_left, or_right}
+use Rattle.std.proofs.lemmas.Bool.{and_from, and_parts, both_ways, cases_lt, eq-eqb, eqb-true, false≢true, lt-ltb, ltb-true, or_cases, or_left, or_right}
 use Rattle.std.proofs.lemmas.List.Kept.{IsStrictlySortedBy-filter}
 use Rattle.std.proofs.lemmas.List.Elements.{Contains-append_left, Contains-append_right, Contains-append_cases}
 use Rattle.std.proofs.lemmas.Map.Keys.{IsStrictlyIncreasing-from_sorted, sorted_from_strictly_increasing}
 use Rattle.ps_config.specs.Configurations.{Configuration, IsAt}
 use Rattle.ps_config.specs.Forms.{IsConfig}
-use Rattle.ps_config.proofs.Lists.{from_kept, kept, mapped, from_mapped}
+use Rattle.ps_config.proofs.Lists.{from_kept, kept}
 use Rattle.ps_cover.proofs.Testing.{all_from, all_to, any_from, any_to}
 use Rattle.ps_graph.specs.Facts.{owner_of}
 use Rattle.ps_graph.specs.declared.edge.Edge.{Edge}
 use Rattle.ps_graph.specs.declared.graph.Graph.{Graph}
-use Rattle.ps_list.proofs.Members.{nothing, cons_cases, here, there}
-use Rattle.ps_step.specs.Steps.{GoesBack, HasOneInOnce, IsDue, IsMovedTo, IsNowhere, IsOfOnce}
+use Rattle.ps_list.proofs.Members.{cons_cases, here, there}
+use Rattle.ps_step.specs.Steps.{HasOneInOnce, IsDue, IsMovedTo, IsNowhere}
 use Rattle.ps_step.specs.inner.Going.{IsStepTo, are_alone, is_alone, is_body, located, may_move, of_once}
 use Rattle.ps_step.proofs.Counter.{only}
 use Rattle.ps_step.proofs.Expanding.{sorted_append}
-use Rattle.ps_step.proofs.Moved.{goes_same, pair_is}
+use Rattle.ps_step.proofs.Moved.{pair_is}
 
 -- ---- the body that at most one thread runs
 
@@ -53,11 +51,11 @@ alone_is graph at c e h s t l m hs ht ol om =
     let p : ℕ × ℕ = (s, l) in
     let q : ℕ × ℕ = (t, m) in
     let first : is_alone graph at s ≡ true = implied (of_once graph.once (owner_of graph.owner l)) (is_alone graph at s)
-        (all_from (λ (p : ℕ × ℕ). not (of_once graph.once (owner_of graph.owner p.1)) || is_alone graph at p.0) at h p (subst (λ (ps : List (ℕ × ℕ)). Contains ps p) e hs))
-        (once_is graph.once (owner_of graph.owner l) ol.0 ol.1 ol.2) in
+    (all_from (λ (p : ℕ × ℕ). not (of_once graph.once (owner_of graph.owner p.1)) || is_alone graph at p.0) at h p (subst (λ (ps : List (ℕ × ℕ)). Contains ps p) e hs))
+    (once_is graph.once (owner_of graph.owner l) ol.0 ol.1 ol.2) in
     let second : (t == s) ≡ true = implied (of_once graph.once (owner_of graph.owner m)) (t == s)
-        (all_from (λ (p : ℕ × ℕ). not (of_once graph.once (owner_of graph.owner p.1)) || p.0 == s) at first q (subst (λ (ps : List (ℕ × ℕ)). Contains ps q) e ht))
-        (once_is graph.once (owner_of graph.owner m) om.0 om.1 om.2) in
+    (all_from (λ (p : ℕ × ℕ). not (of_once graph.once (owner_of graph.owner p.1)) || p.0 == s) at first q (subst (λ (ps : List (ℕ × ℕ)). Contains ps q) e ht))
+    (once_is graph.once (owner_of graph.owner m) om.0 om.1 om.2) in
     sym (eqb-true t s second)
 
 pub is_alone_of : (graph : Graph) (at : List (ℕ × ℕ)) (c : Configuration) → ((t l : ℕ) → Contains at (t, l) → IsAt c t l) → HasOneInOnce graph c → are_alone graph at ≡ true
@@ -175,12 +173,12 @@ in_order_up at thread location h =
     let is_above : (q : ℕ × ℕ) → Contains above q → thread < q.0 = λ q c. ltb-true thread q.0 (from_kept (λ (p : ℕ × ℕ). ltb thread p.0) at q c).1 in
     let is_below : (q : ℕ × ℕ) → Contains below q → q.0 < thread = λ q c. ltb-true q.0 thread (from_kept (λ (p : ℕ × ℕ). ltb p.0 thread) at q c).1 in
     let rest : IsStrictlySortedBy thread_cmp (first ∷ above) = sorted_append thread_cmp (first ∷ []) above (one_up first) (IsStrictlySortedBy-filter thread_cmp (λ (p : ℕ × ℕ). ltb thread p.0) at up)
-        (λ x y hx hy. less_is x.0 y.0 (subst (λ (q : ℕ × ℕ). q.0 < y.0) (only first x hx) (is_above y hy))) in
+    (λ x y hx hy. less_is x.0 y.0 (subst (λ (q : ℕ × ℕ). q.0 < y.0) (only first x hx) (is_above y hy))) in
     let all : IsStrictlySortedBy thread_cmp (in_order at thread location) = sorted_append thread_cmp below (first ∷ above) (IsStrictlySortedBy-filter thread_cmp (λ (p : ℕ × ℕ). ltb p.0 thread) at up) rest
-        (λ x y hx hy. less_is x.0 y.0 (let low : x.0 < thread = is_below x hx in elim (cons_cases first above y hy) [
-          | inl is ↦ subst (λ (q : ℕ × ℕ). x.0 < q.0) is low
-          | inr later ↦ (let high : thread < y.0 = is_above y later in omega (arith, low, high))
-        ])) in
+    (λ x y hx hy. less_is x.0 y.0 (let low : x.0 < thread = is_below x hx in elim (cons_cases first above y hy) [
+      | inl is ↦ subst (λ (q : ℕ × ℕ). x.0 < q.0) is low
+      | inr later ↦ (let high : thread < y.0 = is_above y later in omega (arith, low, high))
+    ])) in
     IsStrictlyIncreasing-from_sorted (map (λ (p : ℕ × ℕ). p.0) (in_order at thread location)) (of_threads (in_order at thread location) all)
 
 -- ---- the whole step
@@ -188,8 +186,7 @@ in_order_up at thread location h =
 pub step_made : (graph : Graph) (from : Configuration) (e : Edge) (thread : ℕ) (at moved slice : List (ℕ × ℕ)) → IsConfig from → IsDue from e thread → at ≡ from.at → may_move at thread e.target ≡ true →
     (p : List (ℕ × ℕ)) → p ≡ from.at → moved ≡ in_order p thread e.source → slice ≡ moved → are_alone graph slice ≡ true → IsStepTo graph from e thread (Some moved)
 step_made graph from e thread at moved slice form due is was p same made viewed alone =
-    let is_made : moved ≡ in_order from.at thread e.source = made ∙ ap (λ (ps : List (ℕ × ℕ)). in_order ps thread e.source) same in
-    (
+    let is_made : moved ≡ in_order from.at thread e.source = made ∙ ap (λ (ps : List (ℕ × ℕ)). in_order ps thread e.source) same in (
       subst (λ (ps : List (ℕ × ℕ)). IsStrictlyIncreasing (map (λ (p : ℕ × ℕ). p.0) ps)) (sym is_made) (in_order_up from.at thread e.source form.located),
       record {
         due = due;

@@ -1,5 +1,5 @@
 -- The first set that is too great.
-use Rattle.std.proofs.Common.{◌≡◌, ◌<◌, ◌≤◌, ◌+◌, ℕ, List, [], ◌∷◌, ◌++◌, Some, None, length, take, drop, get_or, map, refl, sym, ap, ◌∙◌, subst, inl, inr, Contains, arith}
+use Rattle.std.proofs.Common.{◌≡◌, ◌<◌, ◌≤◌, ◌+◌, ℕ, List, [], ◌∷◌, ◌++◌, Some, None, length, take, drop, get_or, map, sym, ap, ◌∙◌, subst, inl, inr, Contains}
 use Rattle.std.specs.Prelude.{IfErr, OnOk}
 use Rattle.std.specs.List.Sorted.{IsStrictlyIncreasing, IsStrictlySortedBy}
 use Rattle.std.specs.declared.result.Result.{Result}
@@ -9,7 +9,7 @@ use Rattle.ps_atom.specs.Atoms.{atom_cmp}
 use Rattle.ps_config.specs.Forms.{IsConfig}
 use Rattle.ps_config.specs.declared.config.TheConstants.{MOST_ATOMS, MOST_THREADS}
 use Rattle.ps_config.specs.declared.wide.WideName.{WideName}
-use Rattle.ps_config.specs.declared.wide.WideName.TheVariants.{Sets, Atoms, Threads}
+use Rattle.ps_config.specs.declared.wide.WideName.TheVariants.{Atoms, Threads}
 use Rattle.ps_config.specs.declared.wide.WideStep.{WideStep}
 use Rattle.ps_step.specs.Wide.{EndsBy}
 use Rattle.ps_step.specs.declared.expand_end.ExpandEnd.{ExpandEnd}
@@ -20,7 +20,7 @@ use Rattle.std.proofs.lemmas.List.Elements.{Contains-push_cases}
 use Rattle.ps_atom.specs.declared.atom.Atom.{Atom}
 use Rattle.ps_list.proofs.Members.{nothing}
 use Rattle.ps_step.specs.inner.Pools.{lists_of}
-use Rattle.ps_step.specs.inner.Sets.{HasLength, HasThreadsWith, IsFirstOver, IsNamed, IsPastBy, IsWithin, successor_of}
+use Rattle.ps_step.specs.inner.Sets.{HasLength, HasThreadsWith, IsFirstOver, IsNamed, IsPastBy, IsWithin}
 
 -- each of the first sets has a size within the most
 abbrev pub AreFine : ℕ → (List Atom → ℕ → Type 0) → List (List Atom) → Type 0
@@ -45,9 +45,9 @@ pub first_over : {A : Type 0} (most : ℕ) (HasSize : List Atom → ℕ → Type
 first_over {A} most HasSize sets i n set inside is has above fine =
     let items : Vec Atom A → List Atom = λ v. v.items in
     let parts : lists_of (take i sets) ++ set.items ∷ lists_of (drop (i + 1) sets) ≡ lists_of sets =
-        ap (λ (v : Vec Atom A). lists_of (take i sets) ++ v.items ∷ lists_of (drop (i + 1) sets)) is
-        ∙ (ap (λ (vs : List (Vec Atom A)). lists_of (take i sets) ++ lists_of vs) (sym (drop_more sets i set inside))
-        ∙ (sym (map-append items (take i sets) (drop i sets)) ∙ ap lists_of (take-append-drop i sets))) in
+    ap (λ (v : Vec Atom A). lists_of (take i sets) ++ v.items ∷ lists_of (drop (i + 1) sets)) is
+    ∙ (ap (λ (vs : List (Vec Atom A)). lists_of (take i sets) ++ lists_of vs) (sym (drop_more sets i set inside))
+    ∙ (sym (map-append items (take i sets) (drop i sets)) ∙ ap lists_of (take-append-drop i sets))) in
     (lists_of (take i sets), set.items, lists_of (drop (i + 1) sets), parts, has, above, fine)
 
 -- ---- sets as successors
@@ -69,15 +69,21 @@ pushed f old new s set before rest whole added is first all =
 
 pub past_threads : (at : List (ℕ × ℕ)) (number thread n : ℕ) (sets one two : List (List Atom)) → one ≡ sets → two ≡ sets → IsFirstOver MOST_ATOMS HasLength one None → IsFirstOver MOST_THREADS (HasThreadsWith at) two (Some n)
     → (w : WideStep) → (w.edge ≡ number) × (w.thread ≡ thread) × (w.what ≡ Threads) × (w.count ≡ n) → IsNamed number thread (IsPastBy at sets) w
-past_threads at number thread n sets one two is_one is_two few over w is =
-    (is.0, is.1, subst (λ (what : WideName). IsPastBy at sets what w.count) (sym is.2) (subst (λ (count : ℕ). IsPastBy at sets Threads count) (sym is.3)
-    (subst (λ (xs : List (List Atom)). IsFirstOver MOST_ATOMS HasLength xs None) is_one few, subst (λ (xs : List (List Atom)). IsFirstOver MOST_THREADS (HasThreadsWith at) xs (Some n)) is_two over)))
+past_threads at number thread n sets one two is_one is_two few over w is = (
+  is.0,
+  is.1,
+  subst (λ (what : WideName). IsPastBy at sets what w.count) (sym is.2) (subst (λ (count : ℕ). IsPastBy at sets Threads count) (sym is.3)
+      (subst (λ (xs : List (List Atom)). IsFirstOver MOST_ATOMS HasLength xs None) is_one few, subst (λ (xs : List (List Atom)). IsFirstOver MOST_THREADS (HasThreadsWith at) xs (Some n)) is_two over)),
+)
 
 pub past_atoms : (at : List (ℕ × ℕ)) (number thread n : ℕ) (sets one : List (List Atom)) → one ≡ sets → IsFirstOver MOST_ATOMS HasLength one (Some n)
     → (w : WideStep) → (w.edge ≡ number) × (w.thread ≡ thread) × (w.what ≡ Atoms) × (w.count ≡ n) → IsNamed number thread (IsPastBy at sets) w
-past_atoms at number thread n sets one is_one over w is =
-    (is.0, is.1, subst (λ (what : WideName). IsPastBy at sets what w.count) (sym is.2) (subst (λ (count : ℕ). IsPastBy at sets Atoms count) (sym is.3)
-    (subst (λ (xs : List (List Atom)). IsFirstOver MOST_ATOMS HasLength xs (Some n)) is_one over)))
+past_atoms at number thread n sets one is_one over w is = (
+  is.0,
+  is.1,
+  subst (λ (what : WideName). IsPastBy at sets what w.count) (sym is.2) (subst (λ (count : ℕ). IsPastBy at sets Atoms count) (sym is.3)
+      (subst (λ (xs : List (List Atom)). IsFirstOver MOST_ATOMS HasLength xs (Some n)) is_one over)),
+)
 
 -- sets that ascend and pass no limit make configurations
 pub are_configs : (at : List (ℕ × ℕ)) (sets one two : List (List Atom)) → one ≡ sets → two ≡ sets → IsStrictlyIncreasing (map (λ (p : ℕ × ℕ). p.0) at) → ((set : List Atom) → Contains sets set → IsStrictlySortedBy atom_cmp set)

@@ -1,5 +1,5 @@
 -- The least sets of a step are its smallest configurations.
-use Rattle.std.proofs.Common.{◌≡◌, ◌≢◌, ◌<◌, ◌≤◌, ℕ, List, [], ◌∷◌, ◌++◌, length, get_or, map, refl, sym, ap, ap₂, ◌∙◌, subst, inl, inr, Contains, Option, Some, None, arith}
+use Rattle.std.proofs.Common.{◌≡◌, ◌<◌, ◌≤◌, ℕ, List, [], ◌∷◌, ◌++◌, length, get_or, map, refl, sym, ◌∙◌, subst, inl, inr, Contains, Some, None, arith}
 use Rattle.std.specs.Prelude.{◌↔◌, slice_get}
 use Rattle.std.specs.Cmp.{IsTotalOrder}
 use Rattle.std.specs.Cmp.Lexicographic.{slice_cmp, lists_total}
@@ -14,7 +14,7 @@ use Rattle.std.proofs.lemmas.Option.{same_Some, slice_get_read}
 use Rattle.ps_atom.specs.Atoms.{atom_cmp}
 use Rattle.ps_atom.specs.declared.atom.Atom.{Atom}
 use Rattle.ps_config.specs.Configurations.{Configuration, IsAt}
-use Rattle.ps_config.specs.Forms.{AreThreads, HasThreads}
+use Rattle.ps_config.specs.Forms.{HasThreads}
 use Rattle.ps_config.specs.declared.config.TheConstants.{MOST_ATOMS, MOST_THREADS}
 use Rattle.ps_config.specs.declared.wide.WideName.{WideName}
 use Rattle.ps_config.specs.declared.wide.WideName.TheVariants.{Sets, Atoms, Threads}
@@ -24,21 +24,19 @@ use Rattle.ps_config.proofs.Lists.{from_mapped, mapped}
 use Rattle.ps_config.proofs.Once.{IsOnce, no_longer, once_sorted}
 use Rattle.ps_graph.specs.declared.edge.Edge.{Edge}
 use Rattle.ps_graph.specs.declared.graph.Graph.{Graph}
-use Rattle.ps_list.proofs.Members.{nothing, cons_cases, here, there}
-use Rattle.ps_step.specs.Steps.{AreTied, GoesBack, IsSmallest, StandsBy}
-use Rattle.ps_step.specs.Successors.{IsSame}
-use Rattle.ps_step.specs.Wide.{HasAtoms, HasMoreThan, IsFirstAbove, IsNarrow, IsWideBy, IsWritten}
+use Rattle.ps_list.proofs.Members.{nothing, cons_cases, here}
+use Rattle.ps_step.specs.Steps.{AreTied, GoesBack, IsSmallest}
+use Rattle.ps_step.specs.Wide.{HasMoreThan, IsNarrow, IsWideBy, IsWritten}
 use Rattle.ps_step.specs.declared.expand_end.TheConstants.{MOST_SETS}
 use Rattle.ps_step.specs.declared.expansion.Successor.{Successor}
 use Rattle.ps_step.specs.inner.Demands.{IsLeastHit, demands}
-use Rattle.ps_step.specs.inner.Found.{AreAllLeast, AreLeast}
 use Rattle.ps_step.specs.inner.Going.{IsStepTo, located}
-use Rattle.ps_step.specs.inner.Parts.{AddsStep, AreOfStep, IsStep, IsWideAt}
+use Rattle.ps_step.specs.inner.Parts.{AddsStep, IsStep, IsWideAt}
 use Rattle.ps_step.specs.inner.Sets.{AddsSets, AreAllOf, HasLength, HasThreadsWith, IsFirstOver, IsNamed, IsWideOf, IsWithin, successor_of}
 use Rattle.ps_step.proofs.Going.{located_up, thread_cmp}
 use Rattle.ps_step.proofs.Moved.{goes_same}
 use Rattle.ps_step.proofs.Numbered.{atoms_total}
-use Rattle.ps_step.proofs.Same.{IsAsymmetric, after_greater, map_sorted, same_sorted, total_asymmetric}
+use Rattle.ps_step.proofs.Same.{after_greater, map_sorted, same_sorted, total_asymmetric}
 use Rattle.ps_step.proofs.Smallest.{at_edge, least_smallest, smallest_least}
 use Rattle.ps_triple.specs.declared.entry.Entry.{Entry}
 
@@ -78,12 +76,16 @@ module _ (graph : Graph) (entries : List Entry) (from : Configuration) (edge : E
   none_up = tt
 
   pub adds_none : (old : List Successor) → ((to : Configuration) → ¬ GoesBack graph from edge thread to) → AddsStep graph entries from number thread old old
-  adds_none old never = ([], sym (append-nil old), record {
-    ordered = none_up;
-    are = λ s h. absurd (nothing s h);
-    every = λ to s. absurd (never to (goes_of to s));
-    narrow = narrow_of_none graph entries from number thread (none_written never);
-  })
+  adds_none old never = (
+    [],
+    sym (append-nil old),
+    record {
+      ordered = none_up;
+      are = λ s h. absurd (nothing s h);
+      every = λ to s. absurd (never to (goes_of to s));
+      narrow = narrow_of_none graph entries from number thread (none_written never);
+    },
+  )
 
   -- ---- one that does
 
@@ -124,9 +126,9 @@ module _ (graph : Graph) (entries : List Entry) (from : Configuration) (edge : E
     not_more sets all m =
         let atoms : List (List Atom) = map (λ (c : Configuration). c.atoms) m.list in
         let once : IsOnce atoms = once_sorted (slice_cmp atom_cmp) (λ xs h. total_asymmetric (slice_cmp atom_cmp) sets_total xs xs h h) atoms
-            (map_sorted by_atoms (slice_cmp atom_cmp) (λ (c : Configuration). c.atoms) (λ a b. refl) m.list m.ordered) in
+        (map_sorted by_atoms (slice_cmp atom_cmp) (λ (c : Configuration). c.atoms) (λ a b. refl) m.list m.ordered) in
         let le : length atoms ≤ length sets = no_longer atoms sets once (λ set h. (let w = from_mapped (λ (c : Configuration). c.atoms) m.list set h in
-            subst (λ (xs : List Atom). Contains sets xs) w.2 (written_in sets all w.0 (m.are w.0 w.1)))) in
+        subst (λ (xs : List Atom). Contains sets xs) w.2 (written_in sets all w.0 (m.are w.0 w.1)))) in
         let long : length atoms ≡ length m.list = length-map m.list (λ (c : Configuration). c.atoms) in
         let more : MOST_SETS < length m.list = m.more in
         let few : length sets ≤ MOST_SETS = all.few in
@@ -154,14 +156,18 @@ module _ (graph : Graph) (entries : List Entry) (from : Configuration) (edge : E
         let f : ⊥ = omega (arith, le, more) in f
 
     pub adds_sets : (old new : List Successor) → AddsSets wanted at number thread old new → AddsStep graph entries from number thread old new
-    adds_sets old new a = (map (successor_of number thread at) a.sets, a.added, record {
-      ordered = map_sorted (slice_cmp atom_cmp) (λ (s t : Successor). slice_cmp atom_cmp s.config.atoms t.config.atoms) (successor_of number thread at) (λ x y. refl) a.sets a.are.least.ordered;
-      are = λ s h. (let w = from_mapped (successor_of number thread at) a.sets s h in
-          subst (λ (t : Successor). IsStep number thread t.edge t.thread × IsSmallest graph entries from number thread t.config) w.2 ((refl, refl), smallest_made w.0 (a.are.least.least w.0 w.1)));
-      every = λ to s. (let found = a.are.all to.atoms (least_of_smallest to s) in
-          (successor_of number thread at found.0, mapped (successor_of number thread at) a.sets found.0 found.1, record { at = same_at to s; atoms = λ q. (found.3 q, found.2 q) }));
-      narrow = narrow_of a.sets a.are a.within;
-    })
+    adds_sets old new a = (
+      map (successor_of number thread at) a.sets,
+      a.added,
+      record {
+        ordered = map_sorted (slice_cmp atom_cmp) (λ (s t : Successor). slice_cmp atom_cmp s.config.atoms t.config.atoms) (successor_of number thread at) (λ x y. refl) a.sets a.are.least.ordered;
+        are = λ s h. (let w = from_mapped (successor_of number thread at) a.sets s h in
+            subst (λ (t : Successor). IsStep number thread t.edge t.thread × IsSmallest graph entries from number thread t.config) w.2 ((refl, refl), smallest_made w.0 (a.are.least.least w.0 w.1)));
+        every = λ to s. (let found = a.are.all to.atoms (least_of_smallest to s) in
+            (successor_of number thread at found.0, mapped (successor_of number thread at) a.sets found.0 found.1, record { at = same_at to s; atoms = λ q. (found.3 q, found.2 q) }));
+        narrow = narrow_of a.sets a.are a.within;
+      },
+    )
 
     -- ---- a limit is passed
 
@@ -178,29 +184,39 @@ module _ (graph : Graph) (entries : List Entry) (from : Configuration) (edge : E
     ]
 
     pub wide_of : (what : WideName) (count : ℕ) → IsWideOf wanted at what count → IsWideBy graph entries from number thread what count
-    wide_of Sets count w = (record {
-      list = map made w.0;
-      are = λ to h. (let v = from_mapped made w.0 to h in subst (λ (c : Configuration). IsWritten graph entries from number thread c) v.2 (written_made v.0 (w.1.least v.0 v.1) (w.1.ascend v.0 v.1)));
-      ordered = map_sorted (slice_cmp atom_cmp) by_atoms made (λ x y. refl) w.0 w.1.ordered;
-      more = (let long : length (map made w.0) ≡ length w.0 = length-map w.0 made in let more : MOST_SETS < length w.0 = w.2 in omega (arith, long, more));
-    }, w.3)
-    wide_of Atoms count (sets, all, (before, set, after, parts, has, above, fine)) = (not_more sets all, record {
-      to = made set;
-      written = written_made set (all.least.least set (in_sets sets before after set parts)) (all.least.ascend set (in_sets sets before after set parts));
-      is = has;
-      above = above;
-      before = λ c n w less size.
-          let found = fine c.atoms (earlier sets before after set c.atoms parts all.least.ordered (written_in sets all c w) less) in
-          let same : length c.atoms ≡ n = size in
-          omega (arith, found.1, found.2, same);
-    })
-    wide_of Threads count (sets, all, (fine_atoms, (before, set, after, parts, has, above, fine))) = (not_more sets all, atoms_within sets all fine_atoms, record {
-      to = made set;
-      written = written_made set (all.least.least set (in_sets sets before after set parts)) (all.least.ascend set (in_sets sets before after set parts));
-      is = has;
-      above = above;
-      before = λ c n w less size. threads_within sets c n (written_at c w) (fine c.atoms (earlier sets before after set c.atoms parts all.least.ordered (written_in sets all c w) less)) size;
-    })
+    wide_of Sets count w = (
+      record {
+        list = map made w.0;
+        are = λ to h. (let v = from_mapped made w.0 to h in subst (λ (c : Configuration). IsWritten graph entries from number thread c) v.2 (written_made v.0 (w.1.least v.0 v.1) (w.1.ascend v.0 v.1)));
+        ordered = map_sorted (slice_cmp atom_cmp) by_atoms made (λ x y. refl) w.0 w.1.ordered;
+        more = (let long : length (map made w.0) ≡ length w.0 = length-map w.0 made in let more : MOST_SETS < length w.0 = w.2 in omega (arith, long, more));
+      },
+      w.3,
+    )
+    wide_of Atoms count (sets, all, (before, set, after, parts, has, above, fine)) = (
+      not_more sets all,
+      record {
+        to = made set;
+        written = written_made set (all.least.least set (in_sets sets before after set parts)) (all.least.ascend set (in_sets sets before after set parts));
+        is = has;
+        above = above;
+        before = λ c n w less size.
+            let found = fine c.atoms (earlier sets before after set c.atoms parts all.least.ordered (written_in sets all c w) less) in
+            let same : length c.atoms ≡ n = size in
+            omega (arith, found.1, found.2, same);
+      },
+    )
+    wide_of Threads count (sets, all, (fine_atoms, (before, set, after, parts, has, above, fine))) = (
+      not_more sets all,
+      atoms_within sets all fine_atoms,
+      record {
+        to = made set;
+        written = written_made set (all.least.least set (in_sets sets before after set parts)) (all.least.ascend set (in_sets sets before after set parts));
+        is = has;
+        above = above;
+        before = λ c n w less size. threads_within sets c n (written_at c w) (fine c.atoms (earlier sets before after set c.atoms parts all.least.ordered (written_in sets all c w) less)) size;
+      },
+    )
 
 -- ---- the step as the code has it
 
@@ -221,7 +237,10 @@ step_adds graph entries from edge number thread old new at slice atoms tied is t
 
 pub step_wide : (graph : Graph) (entries : List Entry) (from : Configuration) (edge : Edge) (number thread : ℕ) (at slice : List (ℕ × ℕ)) (atoms : List Atom) → AreTied entries → slice_get graph.edges number ≡ Some edge →
     IsStepTo graph from edge thread (Some at) → slice ≡ at → atoms ≡ from.atoms → (w : WideStep) → IsNamed number thread (IsWideOf (demands entries atoms thread edge.command) slice) w → IsWideAt graph entries from number thread w
-step_wide graph entries from edge number thread at slice atoms tied is to viewed same w named =
-    (named.0, named.1, wide_of graph entries from edge number thread tied is at to.0 to.1 w.what w.count
-    (subst (λ (ps : List (ℕ × ℕ)). IsWideOf (demands entries from.atoms thread edge.command) ps w.what w.count) viewed
-    (subst (λ (qs : List Atom). IsWideOf (demands entries qs thread edge.command) slice w.what w.count) same named.2)))
+step_wide graph entries from edge number thread at slice atoms tied is to viewed same w named = (
+  named.0,
+  named.1,
+  wide_of graph entries from edge number thread tied is at to.0 to.1 w.what w.count
+      (subst (λ (ps : List (ℕ × ℕ)). IsWideOf (demands entries from.atoms thread edge.command) ps w.what w.count) viewed
+      (subst (λ (qs : List Atom). IsWideOf (demands entries qs thread edge.command) slice w.what w.count) same named.2)),
+)

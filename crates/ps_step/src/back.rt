@@ -108,8 +108,7 @@ fn is_alone(graph: &Graph, at: &[(u32, u32)], thread: u32) -> bool
 pub(crate) fn are_alone(graph: &Graph, at: &[(u32, u32)]) -> bool
     ensures { result ≡ are_alone graph.now at.now }
 {
-    at.iter()
-        .all(|place| !is_of_once(graph, place.1) || is_alone(graph, at, place.0))
+    at.iter().all(|place| !is_of_once(graph, place.1) || is_alone(graph, at, place.0))
 }
 
 fn push_below(
