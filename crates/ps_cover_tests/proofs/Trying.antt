@@ -13,7 +13,7 @@ use Rattle.ps_list.proofs.Mapped.{from_mapped}
 use Rattle.ps_list.proofs.Members.{here}
 use Rattle.ps_config.specs.Configurations.{Configuration, Covers, threads_at}
 use Rattle.ps_config.specs.Forms.{AreThreads}
-use Rattle.ps_config.specs.Next.{IsNext}
+use Rattle.ps_config.specs.Next.{IsNextThread}
 use Rattle.ps_config.specs.Sent.{sent}
 use Rattle.ps_config.proofs.Covering.{image_occurs}
 use Rattle.ps_config.proofs.Few.{once_ascending}
@@ -60,7 +60,7 @@ absent_ends small large threads to v left are absent rest long covering =
     let w = from_mapped f threads v (subst (λ (xs : List ℕ). Contains xs v) (sym mapped) among) in
     absent (subst (λ (u : ℕ). Contains (threads_at large) u) w.2 (image_occurs small large f covering.embeds w.0 ((are.occurring w.0).0 w.1)))
 
-pub below_next : (small large : Configuration) (threads to : List ℕ) (left from image : ℕ) → AreThreads small threads → NoneBelow small large threads to left from → IsNext (threads_at large) from (Some image) → NoneBelow small large threads to left image
+pub below_next : (small large : Configuration) (threads to : List ℕ) (left from image : ℕ) → AreThreads small threads → NoneBelow small large threads to left from → IsNextThread (threads_at large) from (Some image) → NoneBelow small large threads to left image
 below_next small large threads to left from image are none next v h = elim (cases_lt v from) [
   | inl lower ↦ none v lower
   | inr higher ↦ absent_ends small large threads to v (left - 1) are (λ c. (let l : image ≤ v = next.2 v c higher in let f : ⊥ = omega (arith, l, h) in f))
@@ -76,7 +76,7 @@ moved : (small large : Configuration) (threads to rest : List ℕ) (v : ℕ) →
 moved small large threads to rest v = subst (λ (xs : List ℕ). IsCovering small large threads xs) (sym (append_assoc to (v ∷ []) rest))
 
 -- where no image has a covering there is none
-pub none_from : (small large : Configuration) (threads to : List ℕ) (left from : ℕ) → AreThreads small threads → left ≢ 0 → NoneBelow small large threads to left from → IsNext (threads_at large) from None → HasNone small large threads to left
+pub none_from : (small large : Configuration) (threads to : List ℕ) (left from : ℕ) → AreThreads small threads → left ≢ 0 → NoneBelow small large threads to left from → IsNextThread (threads_at large) from None → HasNone small large threads to left
 none_from small large threads to left from are some none next [] short covering = absurd (some (sym short))
 none_from small large threads to left from are some none next (v ∷ rest) long covering =
     let less : length rest ≡ left - 1 = omega (arith, long) in

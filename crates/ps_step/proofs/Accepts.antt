@@ -1,5 +1,5 @@
 -- The two tests of an accepting configuration.
-use Rattle.std.proofs.Common.{◌≡◌, ℕ, Bool, true, false, List, sym, ◌∙◌, subst}
+use Rattle.std.proofs.Common.{◌≡◌, ℕ, Bool, true, false, List, sym, subst}
 use Rattle.std.proofs.lemmas.Bool.{both_ways}
 use Rattle.ps_atom.specs.declared.atom.Atom.{Atom}
 use Rattle.ps_config.specs.Configurations.{Configuration}

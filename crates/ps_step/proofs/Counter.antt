@@ -1,27 +1,24 @@
 -- The worked example of a counter.
-use Rattle.std.proofs.Common.{◌≡◌, ◌≢◌, ◌<◌, ◌+◌, ℕ, zero, suc, Bool, true, false, ◌==◌, List, [], ◌∷◌, map, refl, sym, ap, ap₂, ◌∙◌, subst, inl, inr, ◌⊎◌, Contains, All, Option, Some, None, arith, if◌then◌else◌}
+use Rattle.std.proofs.Common.{◌≡◌, ◌≢◌, ◌<◌, ◌+◌, ℕ, zero, suc, ◌==◌, List, [], ◌∷◌, map, refl, sym, ap, ap₂, ◌∙◌, subst, inl, inr, ◌⊎◌, Contains, All, Option, Some, None, arith, if◌then◌else◌}
 use Rattle.std.specs.Prelude.{slice_get}
 use Rattle.std.proofs.lemmas.List.Elements.{All-contains, All-from_recursion}
 use Rattle.std.proofs.lemmas.Option.{same_Some}
 use Rattle.ps_atom.specs.Atoms.{renamed}
 use Rattle.ps_atom.specs.declared.atom.Atom.{Atom}
 use Rattle.ps_basis.specs.Examples.{bare, counter_entries}
-use Rattle.ps_basis.specs.Space.{IsPart}
 use Rattle.ps_config.specs.Configurations.{Configuration, IsAt, Covers}
 use Rattle.ps_config.specs.Forms.{start_configuration}
 use Rattle.ps_graph.specs.Examples.Connections.{edge, counter_edges}
 use Rattle.ps_graph.specs.declared.edge.Edge.{Edge}
 use Rattle.ps_graph.specs.declared.graph.Graph.{Graph}
-use Rattle.ps_list.proofs.Members.{nothing, cons_cases, here, there}
-use Rattle.ps_step.specs.Closed.{IsCovered, IsClosed}
-use Rattle.ps_step.specs.Examples.{IsCounterGraph, placed, asserting, entering}
-use Rattle.ps_step.specs.Steps.{IsDue, IsNowhere, IsMovedTo, HasOneInOnce, GoesBack, MeetsDemands, StandsBy, Stands, IsSmallest, IsAccepting}
+use Rattle.ps_list.proofs.Members.{nothing, cons_cases, here}
+use Rattle.ps_step.specs.Examples.{IsCounterGraph, placed}
+use Rattle.ps_step.specs.Steps.{IsDue, IsNowhere, HasOneInOnce, GoesBack, MeetsDemands, StandsBy, Stands, IsSmallest}
 use Rattle.ps_step.specs.inner.Back.{moved_at}
 use Rattle.ps_step.proofs.Moved.{moved_at_is, pair_is}
 use Rattle.ps_triple.specs.Entries.{GivesAtom, HasInitial}
 use Rattle.ps_triple.specs.declared.entry.Entry.{Entry}
 use Rattle.ps_triple.specs.declared.entry.Entry.TheVariants.{Triple as OfTriple, Initial as OfInitial}
-use Rattle.ps_triple.specs.declared.initial.Initial.{Initial}
 use Rattle.ps_triple.specs.declared.triple.Triple.{Triple}
 
 -- ---- its triples

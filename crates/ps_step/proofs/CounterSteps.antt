@@ -1,5 +1,5 @@
 -- Steps back of the counter, and its closed covering.
-use Rattle.std.proofs.Common.{◌≡◌, ◌≢◌, ◌+◌, ℕ, List, [], ◌∷◌, refl, sym, ap, ◌∙◌, subst, inl, inr, ◌⊎◌, Contains, Option, Some, None, arith}
+use Rattle.std.proofs.Common.{◌≡◌, ◌≢◌, ℕ, List, [], ◌∷◌, refl, sym, ap, ◌∙◌, subst, inl, inr, ◌⊎◌, Contains, Option, Some, None, arith}
 use Rattle.std.specs.Prelude.{slice_get}
 use Rattle.ps_atom.specs.declared.atom.Atom.{Atom}
 use Rattle.ps_basis.specs.Examples.{bare, counter_entries}
@@ -10,10 +10,10 @@ use Rattle.ps_graph.specs.Facts.{owner_of}
 use Rattle.ps_graph.specs.declared.edge.Edge.{Edge}
 use Rattle.ps_graph.specs.declared.graph.Graph.{Graph}
 use Rattle.ps_list.proofs.Members.{nothing, cons_cases, here, there}
-use Rattle.ps_step.specs.Closed.{IsCovered, IsClosed}
+use Rattle.ps_step.specs.Closed.{IsCovered}
 use Rattle.ps_step.specs.Examples.{IsCounterGraph, placed, asserting, entering, FromStart, FromAsserting, MoreThanSmallest, OneInOnce, WhichAccept, CounterIsClosed}
-use Rattle.ps_step.specs.Steps.{IsDue, IsNowhere, IsOfOnce, HasOneInOnce, GoesBack, StandsBy, Stands, IsSmallest, IsAccepting}
-use Rattle.ps_step.proofs.Counter.{only, met, demand_met, one_covers, not_start, edge_cases, is_edge, stands_by, stands, smallest, any_number, goes, not_initial, two_is_initial, finds, adds, passes, keeps, passes_too, has_finds, has_adds, has_passes, has_keeps, has_passes_too}
+use Rattle.ps_step.specs.Steps.{IsDue, IsNowhere, IsOfOnce, HasOneInOnce, GoesBack, StandsBy, Stands, IsSmallest}
+use Rattle.ps_step.proofs.Counter.{only, met, demand_met, one_covers, not_start, edge_cases, stands_by, stands, smallest, any_number, goes, not_initial, two_is_initial, finds, adds, passes, keeps, passes_too, has_finds, has_adds, has_passes, has_keeps, has_passes_too}
 use Rattle.ps_step.proofs.Moved.{goes_same}
 use Rattle.ps_triple.specs.Entries.{HasInitial}
 

@@ -1,6 +1,6 @@
 -- The list of demands says what the definition demands.
-use Rattle.std.proofs.Common.{◌≡◌, ℕ, Bool, true, false, ◌&&◌, ◌==◌, List, [], ◌∷◌, ◌++◌, map, refl, sym, ap, ap₂, ◌∙◌, subst, inl, inr, ◌⊎◌, Contains, All, Option, Some, None, if◌then◌else◌}
-use Rattle.std.specs.List.{flat_map, filter_map}
+use Rattle.std.proofs.Common.{◌≡◌, ℕ, Bool, true, false, ◌&&◌, ◌==◌, List, [], ◌∷◌, ◌++◌, map, refl, sym, ap, ap₂, ◌∙◌, subst, inl, inr, ◌⊎◌, Contains, Some, None, if◌then◌else◌}
+use Rattle.std.specs.List.{filter_map}
 use Rattle.std.proofs.lemmas.Bool.{false≢true, eqb-true, eq-eqb, and_parts, and_from}
 use Rattle.std.proofs.lemmas.List.Elements.{All-contains, Contains-append_left, Contains-append_right, Contains-append_cases}
 use Rattle.ps_atom.specs.Atoms.{renamed, IsInjectiveOn, threads_of}
@@ -8,7 +8,7 @@ use Rattle.ps_atom.specs.declared.atom.Atom.{Atom}
 use Rattle.ps_list.proofs.Members.{cons_cases, here, there}
 use Rattle.ps_config.specs.Configurations.{Configuration}
 use Rattle.ps_config.specs.Sent.{sent}
-use Rattle.ps_config.proofs.Lists.{mapped, from_mapped, flat_mapped, from_flat_mapped, same_map}
+use Rattle.ps_config.proofs.Lists.{flat_mapped, from_flat_mapped, same_map}
 use Rattle.ps_config.proofs.Occurring.{renamed_same}
 use Rattle.ps_config.proofs.Sent.{sent_image}
 use Rattle.ps_triple.specs.declared.triple.Triple.{Triple}

@@ -1,19 +1,19 @@
 -- Steps one after another, and what their successors cover.
-use Rattle.std.proofs.Common.{◌≡◌, ◌≢◌, ◌<◌, ℕ, Bool, true, false, ◌==◌, List, [], ◌∷◌, ◌++◌, refl, sym, ap, ap₂, ◌∙◌, subst, inl, inr, ◌⊎◌, Contains, All, arith, if◌then◌else◌}
+use Rattle.std.proofs.Common.{◌≡◌, ℕ, List, [], ◌∷◌, ◌++◌, ap, inl, inr, ◌⊎◌, Contains}
 use Rattle.std.specs.List.{AllByRecursion}
 use Rattle.std.specs.List.Sorted.{IsStrictlySortedBy}
-use Rattle.std.specs.Ordering.{nat_cmp, ordering_then}
+use Rattle.std.specs.Ordering.{ordering_then}
 use Rattle.std.specs.declared.cmp.Ordering.{Ordering}
-use Rattle.std.specs.declared.cmp.Ordering.TheVariants.{Less, Equal, Greater}
+use Rattle.std.specs.declared.cmp.Ordering.TheVariants.{Less}
 use Rattle.std.proofs.lemmas.List.Elements.{Contains-append_left, Contains-append_right, Contains-append_cases}
-use Rattle.ps_list.proofs.Members.{nothing, cons_cases, here, there}
-use Rattle.ps_config.specs.Configurations.{Configuration, IsAt, threads_at, Covers}
+use Rattle.ps_list.proofs.Members.{here, there}
+use Rattle.ps_config.specs.Configurations.{Configuration, threads_at}
 use Rattle.ps_config.proofs.Covering.{covers_more, covers_twice}
 use Rattle.ps_graph.specs.declared.graph.Graph.{Graph}
 use Rattle.ps_triple.specs.declared.entry.Entry.{Entry}
-use Rattle.ps_step.specs.Successors.{IsSame, IsTried, step_cmp, successor_cmp, AreSuccessors, CoverAll}
+use Rattle.ps_step.specs.Successors.{step_cmp, successor_cmp, AreSuccessors, CoverAll}
 use Rattle.ps_step.specs.inner.Parts.{AreSmallestOf}
-use Rattle.ps_step.specs.Steps.{AreTied, Stands, IsSmallest}
+use Rattle.ps_step.specs.Steps.{AreTied, IsSmallest}
 use Rattle.ps_step.specs.declared.expansion.Successor.{Successor}
 use Rattle.ps_step.proofs.Smallest.{covered_by_smallest}
 

@@ -1,30 +1,28 @@
 -- What the tests of a step tell, and its locations in order.
-use Rattle.std.proofs.Common.{◌≡◌, ◌≢◌, ◌<◌, ◌≤◌, ℕ, Bool, true, false, cond, not, ◌&&◌, ◌||◌, ◌==◌, ltb, List, [], ◌∷◌, ◌++◌, map, refl, sym, ap, ap₂, ◌∙◌, subst, inl, inr, ◌⊎◌, Contains, Option, Some, None, arith}
-use Rattle.std.specs.Prelude.{option_map}
-use Rattle.std.specs.List.{AllByRecursion, filter, list_all, list_any}
+use Rattle.std.proofs.Common.{◌≡◌, ◌≢◌, ◌<◌, ℕ, Bool, true, false, not, ◌&&◌, ◌||◌, ◌==◌, ltb, List, [], ◌∷◌, ◌++◌, map, refl, sym, ap, ap₂, ◌∙◌, subst, inl, inr, ◌⊎◌, Contains, Option, Some, None, arith}
+use Rattle.std.specs.List.{AllByRecursion, filter, list_any}
 use Rattle.std.specs.List.Sorted.{IsStrictlyIncreasing, IsStrictlySortedBy}
 use Rattle.std.specs.Ordering.{nat_cmp}
 use Rattle.std.specs.declared.cmp.Ordering.{Ordering}
 use Rattle.std.specs.declared.cmp.Ordering.TheVariants.{Less}
-use Rattle.std.specs.declared.vec.Vec.{Vec}
 use Rattle.std.specs.Cmp.{nat_cmp_is}
-use Rattle.std.proofs.lemmas.Bool.{and_from, and_parts, both_ways, cases_eq, cases_lt, eq-eqb, eqb-true, false≢true, lt-ltb, ltb-true, or_cases, or_left, or_right}
+use Rattle.std.proofs.lemmas.Bool.{and_from, and_parts, both_ways, cases_lt, eq-eqb, eqb-true, false≢true, lt-ltb, ltb-true, or_cases, or_left, or_right}
 use Rattle.std.proofs.lemmas.List.Kept.{IsStrictlySortedBy-filter}
 use Rattle.std.proofs.lemmas.List.Elements.{Contains-append_left, Contains-append_right, Contains-append_cases}
 use Rattle.std.proofs.lemmas.Map.Keys.{IsStrictlyIncreasing-from_sorted, sorted_from_strictly_increasing}
 use Rattle.ps_config.specs.Configurations.{Configuration, IsAt}
 use Rattle.ps_config.specs.Forms.{IsConfig}
-use Rattle.ps_config.proofs.Lists.{from_kept, kept, mapped, from_mapped}
+use Rattle.ps_config.proofs.Lists.{from_kept, kept}
 use Rattle.ps_cover.proofs.Testing.{all_from, all_to, any_from, any_to}
 use Rattle.ps_graph.specs.Facts.{owner_of}
 use Rattle.ps_graph.specs.declared.edge.Edge.{Edge}
 use Rattle.ps_graph.specs.declared.graph.Graph.{Graph}
-use Rattle.ps_list.proofs.Members.{nothing, cons_cases, here, there}
-use Rattle.ps_step.specs.Steps.{GoesBack, HasOneInOnce, IsDue, IsMovedTo, IsNowhere, IsOfOnce}
+use Rattle.ps_list.proofs.Members.{cons_cases, here, there}
+use Rattle.ps_step.specs.Steps.{HasOneInOnce, IsDue, IsMovedTo, IsNowhere}
 use Rattle.ps_step.specs.inner.Going.{IsStepTo, are_alone, is_only_thread, is_body, located, may_move, of_once}
 use Rattle.ps_step.proofs.Counter.{only}
 use Rattle.ps_step.proofs.Expanding.{sorted_append}
-use Rattle.ps_step.proofs.Moved.{goes_same, pair_is}
+use Rattle.ps_step.proofs.Moved.{pair_is}
 
 -- ---- the body that at most one thread runs
 

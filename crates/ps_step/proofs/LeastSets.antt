@@ -1,5 +1,5 @@
 -- The listed sets of places as sets of atoms.
-use Rattle.std.proofs.Common.{◌≡◌, ◌<◌, ◌≤◌, ◌+◌, ℕ, List, [], ◌∷◌, ◌++◌, length, take, get_or, map, refl, sym, ap, ◌∙◌, subst, Contains, All as Each, arith}
+use Rattle.std.proofs.Common.{◌≡◌, ◌<◌, ◌≤◌, ◌+◌, ℕ, List, [], ◌∷◌, ◌++◌, length, take, get_or, map, sym, ap, ◌∙◌, subst, Contains, All as Each, arith}
 use Rattle.std.specs.Cmp.Lexicographic.{slice_cmp}
 use Rattle.std.specs.List.{AllByRecursion}
 use Rattle.std.specs.List.Sorted.{IsStrictlySortedBy}
@@ -19,7 +19,7 @@ use Rattle.ps_step.specs.inner.Demands.{IsLeastHit}
 use Rattle.ps_step.specs.inner.Numbered.{at_place, named, IsNumbered}
 use Rattle.ps_step.proofs.Numbered.{hit_within, listed_least, least_listed, named_cmp, named_ascend}
 use Rattle.ps_step.specs.inner.Found.{AreLeast, AreAllLeast}
-use Rattle.ps_step.specs.inner.Pools.{HasEach, AreOfPool, lists_of}
+use Rattle.ps_step.specs.inner.Pools.{AreOfPool, lists_of}
 
 pub listed_within : (pool : List Atom) (demands : List (List Atom)) (sets hits : List (List ℕ)) → IsNumbered pool demands sets → Each (IsListedHit sets) hits → (hit : List ℕ) → Contains hits hit → AreOfPool pool hit
 listed_within pool demands sets hits is all hit c = hit_within pool demands sets hit is (All-contains (IsListedHit sets) hits hit all c).is_minimal

@@ -1,5 +1,5 @@
 -- Atoms numbered by their places in an ascending list.
-use Rattle.std.proofs.Common.{◌≡◌, ◌≢◌, ◌<◌, ◌≤◌, ◌+◌, ℕ, zero, suc, Bool, true, false, not, cond, ◌==◌, List, [], ◌∷◌, length, get_or, map, refl, sym, ap, ap₂, ◌∙◌, subst, inl, inr, ◌⊎◌, Contains, arith, if◌then◌else◌}
+use Rattle.std.proofs.Common.{◌≡◌, ◌≢◌, ◌<◌, ◌+◌, ℕ, Bool, true, false, List, [], ◌∷◌, length, get_or, refl, sym, ap, ap₂, ◌∙◌, subst, inl, inr, ◌⊎◌, Contains, arith}
 use Rattle.std.specs.Cmp.{IsTotalOrder}
 use Rattle.std.specs.Cmp.Lexicographic.{slice_cmp}
 use Rattle.std.specs.List.{filter, range_with_len, AllByRecursion}
@@ -7,20 +7,20 @@ use Rattle.std.specs.List.Sorted.{IsStrictlyIncreasing, IsStrictlySortedBy}
 use Rattle.std.specs.Ordering.{nat_cmp, ordering_then, is_eq, ordering_reverse}
 use Rattle.std.specs.declared.cmp.Ordering.{Ordering}
 use Rattle.std.specs.declared.cmp.Ordering.TheVariants.{Less, Equal, Greater}
-use Rattle.std.proofs.lemmas.Bool.{both_ways, false≢true, eqb-true, eqb-false, eq-eqb, cases_Bool, cases_eq}
+use Rattle.std.proofs.lemmas.Bool.{false≢true, cases_eq}
 use Rattle.std.proofs.lemmas.Cmp.{ranked, nat_cmp_total, nat_list_cmp_total, then_total, on_total, tied_itself}
 use Rattle.std.proofs.lemmas.List.Elements.{Contains-get_or, All-contains}
 use Rattle.std.proofs.lemmas.List.FromFn.{length-range_with_len, get_or-range_with_len}
 use Rattle.std.proofs.lemmas.List.Kept.{IsStrictlyIncreasing-filter}
-use Rattle.std.proofs.lemmas.Map.Keys.{Less-from_sorted, IsStrictlyIncreasing-from_sorted, sorted_from_strictly_increasing}
-use Rattle.std.proofs.lemmas.Map.Lookups.{exact_bytes, exact_unsigned}
+use Rattle.std.proofs.lemmas.Map.Keys.{Less-from_sorted}
+use Rattle.std.proofs.lemmas.Map.Lookups.{exact_bytes}
 use Rattle.ps_atom.specs.Atoms.{atom_cmp}
 use Rattle.ps_atom.specs.declared.atom.Atom.{Atom}
 use Rattle.ps_hit.specs.Hitting.{Meets, IsHit, IsMinimalHit, IsListedHit}
 use Rattle.ps_hit.proofs.Critical.{critical}
-use Rattle.ps_list.proofs.Members.{nothing, cons_cases, here, there}
+use Rattle.ps_list.proofs.Members.{here, there}
 use Rattle.ps_config.proofs.Lists.{mapped, from_mapped, kept, from_kept}
-use Rattle.ps_step.specs.inner.Demands.{MeetsSet, HitsAll, IsLeastHit}
+use Rattle.ps_step.specs.inner.Demands.{HitsAll, IsLeastHit}
 use Rattle.ps_step.specs.inner.Numbered.{at_place, named, IsNumbered}
 use Rattle.ps_step.proofs.Least.{has_or_not, least_of}
 

@@ -1,5 +1,5 @@
 -- The first set that is too great.
-use Rattle.std.proofs.Common.{◌≡◌, ◌<◌, ◌≤◌, ◌+◌, ℕ, List, [], ◌∷◌, ◌++◌, Some, None, length, take, drop, get_or, map, refl, sym, ap, ◌∙◌, subst, inl, inr, Contains, arith}
+use Rattle.std.proofs.Common.{◌≡◌, ◌<◌, ◌≤◌, ◌+◌, ℕ, List, [], ◌∷◌, ◌++◌, Some, None, length, take, drop, get_or, map, sym, ap, ◌∙◌, subst, inl, inr, Contains}
 use Rattle.std.specs.Prelude.{IfErr, OnOk}
 use Rattle.std.specs.List.Sorted.{IsStrictlyIncreasing, IsStrictlySortedBy}
 use Rattle.std.specs.declared.result.Result.{Result}
@@ -9,7 +9,7 @@ use Rattle.ps_atom.specs.Atoms.{atom_cmp}
 use Rattle.ps_config.specs.Forms.{IsConfig}
 use Rattle.ps_config.specs.declared.config.TheConstants.{MOST_ATOMS, MOST_THREADS}
 use Rattle.ps_config.specs.declared.wide.WideName.{WideName}
-use Rattle.ps_config.specs.declared.wide.WideName.TheVariants.{Sets, Atoms, Threads}
+use Rattle.ps_config.specs.declared.wide.WideName.TheVariants.{Atoms, Threads}
 use Rattle.ps_config.specs.declared.wide.WideStep.{WideStep}
 use Rattle.ps_step.specs.Wide.{StepEndsBy}
 use Rattle.ps_step.specs.declared.expand_end.ExpandEnd.{ExpandEnd}
@@ -20,7 +20,7 @@ use Rattle.std.proofs.lemmas.List.Elements.{Contains-push_cases}
 use Rattle.ps_atom.specs.declared.atom.Atom.{Atom}
 use Rattle.ps_list.proofs.Members.{nothing}
 use Rattle.ps_step.specs.inner.Pools.{lists_of}
-use Rattle.ps_step.specs.inner.Sets.{HasLength, HasThreadsWith, IsFirstOver, IsNamed, IsPastBy, IsWithin, successor_of}
+use Rattle.ps_step.specs.inner.Sets.{HasLength, HasThreadsWith, IsFirstOver, IsNamed, IsPastBy, IsWithin}
 
 -- each of the first sets has a size within the most
 abbrev pub AreFine : ℕ → (List Atom → ℕ → Type 0) → List (List Atom) → Type 0

@@ -1,9 +1,7 @@
 -- What stands from a configuration is covered by what stands from one that covers it.
-use Rattle.std.proofs.Common.{◌≡◌, ◌≢◌, ℕ, Bool, true, false, not, ◌&&◌, ◌==◌, List, [], ◌∷◌, ◌++◌, map, refl, sym, ap, ap₂, ◌∙◌, subst, inl, inr, ◌⊎◌, Contains, All, if◌then◌else◌}
-use Rattle.std.specs.Prelude.{◌↔◌}
-use Rattle.std.specs.List.{filter, flat_map}
-use Rattle.std.proofs.lemmas.Bool.{both_ways, false≢true, eqb-true, eqb-false, eq-eqb, and_parts, and_from, cases_eq}
-use Rattle.std.proofs.lemmas.List.Elements.{All-contains, Contains-append_right}
+use Rattle.std.proofs.Common.{◌≡◌, ◌≢◌, ℕ, Bool, true, false, ◌&&◌, ◌==◌, List, [], ◌∷◌, map, refl, sym, ap, ◌∙◌, subst, inl, inr, ◌⊎◌, Contains, if◌then◌else◌}
+use Rattle.std.specs.List.{filter}
+use Rattle.std.proofs.lemmas.Bool.{false≢true, eqb-true, eqb-false, eq-eqb, and_parts, and_from, cases_eq}
 use Rattle.ps_atom.specs.Atoms.{renamed, IsInjectiveOn}
 use Rattle.ps_atom.specs.declared.atom.Atom.{Atom}
 use Rattle.ps_list.proofs.Members.{nothing, cons_cases, here, there}
@@ -13,14 +11,13 @@ use Rattle.ps_config.proofs.Covering.{covers_more}
 use Rattle.ps_config.proofs.Occurring.{located_occurs, named_occurs, occurs_cases, renamed_same, renamed_twice, renamed_stays, of_renamed}
 use Rattle.ps_graph.specs.declared.edge.Edge.{Edge}
 use Rattle.ps_graph.specs.declared.graph.Graph.{Graph}
-use Rattle.ps_triple.specs.declared.triple.Triple.{Triple}
 use Rattle.ps_triple.specs.declared.entry.Entry.{Entry}
-use Rattle.ps_triple.specs.declared.entry.Entry.TheVariants.{Triple as OfTriple, Initial as OfInitial}
+use Rattle.ps_triple.specs.declared.entry.Entry.TheVariants.{Triple as OfTriple}
 use Rattle.ps_triple.specs.Entries.{GivesAtom, threads_in}
 use Rattle.ps_triple.specs.Tests.{IsTied}
 use Rattle.ps_step.specs.inner.Back.{moved_at}
 use Rattle.ps_config.specs.Forms.{start_configuration}
-use Rattle.ps_step.specs.Steps.{AreTied, IsDue, IsOfOnce, GoesBack, MeetsDemands, StandsBy, Stands}
+use Rattle.ps_step.specs.Steps.{AreTied, IsDue, StandsBy}
 use Rattle.ps_step.proofs.Moved.{moved_at_is}
 use Rattle.ps_step.proofs.Picked.{twice_all}
 use Rattle.ps_step.proofs.Demanding.{tied_threads, pre_threads}

@@ -1,8 +1,8 @@
 -- The renaming that two lists of threads determine.
-use Rattle.std.proofs.Common.{◌≡◌, ◌≢◌, ℕ, Bool, true, false, cond, not, ◌&&◌, ◌==◌, List, [], ◌∷◌, map, refl, sym, ap, ap₂, ◌∙◌, subst, inl, inr, ◌⊎◌, Contains, if◌then◌else◌}
-use Rattle.std.proofs.lemmas.Bool.{both_ways, false≢true, eqb-true, eqb-false, eq-eqb, and_parts, and_from, cases_eq}
+use Rattle.std.proofs.Common.{◌≡◌, ℕ, Bool, true, false, ◌==◌, List, [], ◌∷◌, map, refl, sym, ap, ap₂, ◌∙◌, subst, inl, inr, Contains}
+use Rattle.std.proofs.lemmas.Bool.{false≢true, eqb-true, eqb-false, eq-eqb, and_parts, and_from, cases_eq}
 use Rattle.ps_atom.specs.Atoms.{IsInjectiveOn}
-use Rattle.ps_list.proofs.Members.{nothing, cons_cases, here, there}
+use Rattle.ps_list.proofs.Members.{nothing, here, there}
 use Rattle.ps_config.specs.Sent.{sent}
 use Rattle.ps_config.proofs.Lists.{same_map}
 use Rattle.ps_config.proofs.Sent.{sent_first, sent_later, later_in}

@@ -1,6 +1,6 @@
 -- The smallest configurations of one step are the least hitting sets of its demands.
-use Rattle.std.proofs.Common.{◌≡◌, ◌≢◌, ℕ, List, [], ◌∷◌, map, refl, sym, ap, ◌∙◌, subst, inl, inr, ◌⊎◌, Contains}
-use Rattle.std.specs.Prelude.{slice_get, Option, Some}
+use Rattle.std.proofs.Common.{◌≡◌, ℕ, List, [], sym, ◌∙◌, subst, ◌⊎◌, Contains}
+use Rattle.std.specs.Prelude.{slice_get, Some}
 use Rattle.std.proofs.lemmas.Option.{same_Some}
 use Rattle.ps_atom.specs.declared.atom.Atom.{Atom}
 use Rattle.ps_hit.specs.Hitting.{IsListedHit}
@@ -9,15 +9,14 @@ use Rattle.ps_config.proofs.Covering.{covers_more, covers_twice}
 use Rattle.ps_graph.specs.declared.edge.Edge.{Edge}
 use Rattle.ps_graph.specs.declared.graph.Graph.{Graph}
 use Rattle.ps_triple.specs.declared.entry.Entry.{Entry}
-use Rattle.ps_step.specs.inner.Back.{moved_at, stepped_to}
+use Rattle.ps_step.specs.inner.Back.{stepped_to}
 use Rattle.ps_step.specs.Successors.{IsSame}
 use Rattle.ps_step.specs.inner.Demands.{demands, HitsAll, IsLeastHit}
-use Rattle.ps_step.specs.inner.Numbered.{IsNumbered, named}
-use Rattle.ps_basis.specs.Space.{IsPart}
+use Rattle.ps_step.specs.inner.Numbered.{IsNumbered}
 use Rattle.ps_step.specs.Steps.{AreTied, GoesBack, StandsBy, Stands, IsSmallest}
 use Rattle.ps_step.proofs.Demanding.{meets_hits, hits_meets}
 use Rattle.ps_step.proofs.Least.{least_of}
-use Rattle.ps_step.proofs.Numbered.{atoms_or_not, listed_least, hit_has_listed, least_listed}
+use Rattle.ps_step.proofs.Numbered.{atoms_or_not, listed_least, least_listed}
 use Rattle.ps_step.proofs.Moved.{goes_same, moved_at_is}
 use Rattle.ps_step.proofs.Pulled.{by_any}
 

@@ -1,5 +1,5 @@
 -- The least sets of a step are its smallest configurations.
-use Rattle.std.proofs.Common.{◌≡◌, ◌≢◌, ◌<◌, ◌≤◌, ℕ, List, [], ◌∷◌, ◌++◌, length, get_or, map, refl, sym, ap, ap₂, ◌∙◌, subst, inl, inr, Contains, Option, Some, None, arith}
+use Rattle.std.proofs.Common.{◌≡◌, ◌<◌, ◌≤◌, ℕ, List, [], ◌∷◌, ◌++◌, length, get_or, map, refl, sym, ◌∙◌, subst, inl, inr, Contains, Some, None, arith}
 use Rattle.std.specs.Prelude.{◌↔◌, slice_get}
 use Rattle.std.specs.Cmp.{IsTotalOrder}
 use Rattle.std.specs.Cmp.Lexicographic.{slice_cmp, lists_total}
@@ -14,7 +14,7 @@ use Rattle.std.proofs.lemmas.Option.{same_Some, slice_get_read}
 use Rattle.ps_atom.specs.Atoms.{atom_cmp}
 use Rattle.ps_atom.specs.declared.atom.Atom.{Atom}
 use Rattle.ps_config.specs.Configurations.{Configuration, IsAt}
-use Rattle.ps_config.specs.Forms.{AreThreads, HasThreadCount}
+use Rattle.ps_config.specs.Forms.{HasThreadCount}
 use Rattle.ps_config.specs.declared.config.TheConstants.{MOST_ATOMS, MOST_THREADS}
 use Rattle.ps_config.specs.declared.wide.WideName.{WideName}
 use Rattle.ps_config.specs.declared.wide.WideName.TheVariants.{Sets, Atoms, Threads}
@@ -24,21 +24,19 @@ use Rattle.ps_config.proofs.Lists.{from_mapped, mapped}
 use Rattle.ps_config.proofs.Once.{IsOnce, no_longer, once_sorted}
 use Rattle.ps_graph.specs.declared.edge.Edge.{Edge}
 use Rattle.ps_graph.specs.declared.graph.Graph.{Graph}
-use Rattle.ps_list.proofs.Members.{nothing, cons_cases, here, there}
-use Rattle.ps_step.specs.Steps.{AreTied, GoesBack, IsSmallest, StandsBy}
-use Rattle.ps_step.specs.Successors.{IsSame}
-use Rattle.ps_step.specs.Wide.{HasAtoms, HasMoreThan, IsFirstAbove, IsNarrow, IsWideBy, IsWrittenStep}
+use Rattle.ps_list.proofs.Members.{nothing, cons_cases, here}
+use Rattle.ps_step.specs.Steps.{AreTied, GoesBack, IsSmallest}
+use Rattle.ps_step.specs.Wide.{HasMoreThan, IsNarrow, IsWideBy, IsWrittenStep}
 use Rattle.ps_step.specs.declared.expand_end.TheConstants.{MOST_SETS}
 use Rattle.ps_step.specs.declared.expansion.Successor.{Successor}
 use Rattle.ps_step.specs.inner.Demands.{IsLeastHit, demands}
-use Rattle.ps_step.specs.inner.Found.{AreAllLeast, AreLeast}
 use Rattle.ps_step.specs.inner.Going.{IsStepTo, located}
-use Rattle.ps_step.specs.inner.Parts.{AddsStep, AreOfStep, IsStep, IsWideAt}
+use Rattle.ps_step.specs.inner.Parts.{AddsStep, IsStep, IsWideAt}
 use Rattle.ps_step.specs.inner.Sets.{AddsSets, AreAllOf, HasLength, HasThreadsWith, IsFirstOver, IsNamed, IsWideOf, IsWithin, successor_of}
 use Rattle.ps_step.proofs.Going.{located_up, thread_cmp}
 use Rattle.ps_step.proofs.Moved.{goes_same}
 use Rattle.ps_step.proofs.Numbered.{atoms_total}
-use Rattle.ps_step.proofs.Same.{IsAsymmetric, after_greater, map_sorted, same_sorted, total_asymmetric}
+use Rattle.ps_step.proofs.Same.{after_greater, map_sorted, same_sorted, total_asymmetric}
 use Rattle.ps_step.proofs.Smallest.{at_edge, least_smallest, smallest_least}
 use Rattle.ps_triple.specs.declared.entry.Entry.{Entry}
 

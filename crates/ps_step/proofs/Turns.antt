@@ -1,5 +1,5 @@
 -- Steps in their order: along one edge by the threads that occur and then by the fresh one, and edge by edge.
-use Rattle.std.proofs.Common.{◌≡◌, ◌≢◌, ◌<◌, ◌≤◌, ◌+◌, ℕ, Bool, true, false, ◌==◌, List, [], ◌∷◌, ◌++◌, length, refl, sym, ap, ap₂, ◌∙◌, subst, inl, inr, ◌⊎◌, Contains, Some, None, arith, if◌then◌else◌}
+use Rattle.std.proofs.Common.{◌≡◌, ◌≢◌, ◌<◌, ◌≤◌, ◌+◌, ℕ, Bool, true, false, ◌==◌, List, [], ◌∷◌, ◌++◌, length, take, refl, sym, ap, ap₂, ◌∙◌, subst, inl, inr, ◌⊎◌, Contains, Some, None, arith, if◌then◌else◌}
 use Rattle.std.specs.Prelude.{slice_get}
 use Rattle.std.specs.Cmp.Lexicographic.{slice_cmp}
 use Rattle.std.specs.List.{AllByRecursion}
@@ -7,10 +7,10 @@ use Rattle.std.specs.List.Sorted.{IsStrictlySortedBy}
 use Rattle.std.specs.Ordering.{nat_cmp, ordering_then}
 use Rattle.std.specs.declared.cmp.Ordering.{Ordering}
 use Rattle.std.specs.declared.cmp.Ordering.TheVariants.{Less, Equal, Greater}
-use Rattle.std.proofs.lemmas.Bool.{cases_eq, cases_lt, eq-eqb, eqb-true, false≢true}
+use Rattle.std.proofs.lemmas.Bool.{cases_lt, eq-eqb, eqb-true}
 use Rattle.std.proofs.lemmas.Cmp.{nat_cmp_total, ranked, tied_itself}
-use Rattle.std.proofs.lemmas.List.{append_assoc, append-nil}
-use Rattle.std.proofs.lemmas.Option.{slice_get_within}
+use Rattle.std.proofs.lemmas.List.{append_assoc, append-nil, take_more}
+use Rattle.std.proofs.lemmas.Option.{get_or_from_slice_get, slice_get_within}
 use Rattle.ps_atom.specs.Atoms.{atom_cmp}
 use Rattle.ps_config.specs.Configurations.{Configuration, threads_at}
 use Rattle.ps_config.specs.Forms.{IsFresh}
@@ -19,8 +19,8 @@ use Rattle.ps_config.specs.declared.wide.WideStep.{WideStep}
 use Rattle.ps_graph.specs.declared.graph.Graph.{Graph}
 use Rattle.ps_list.proofs.Members.{nothing, here, there}
 use Rattle.ps_step.specs.Steps.{IsSmallest}
-use Rattle.ps_step.specs.Successors.{AreSuccessors, IsTried, step_cmp, successor_cmp, turn}
-use Rattle.ps_step.specs.Wide.{AreNarrow, StepEndsBy, IsFirstWide, IsNarrow, IsWideBy, IsWrittenStep}
+use Rattle.ps_step.specs.Successors.{AreSuccessors, step_cmp, successor_cmp, turn}
+use Rattle.ps_step.specs.Wide.{AreNarrow, IsFirstWide, IsNarrow, IsWideBy}
 use Rattle.ps_step.specs.declared.expansion.Successor.{Successor}
 use Rattle.ps_step.specs.inner.Parts.{AddsStep, AddsSteps, AreOfStep, AreSmallestOf, IsFirstWideAt, IsStep, IsStepAlong, IsStepBefore, IsStepBelow, IsWideAt}
 use Rattle.ps_step.proofs.Expanding.{Both, parts_more, same_steps}
@@ -269,3 +269,9 @@ fresh_is_one c m n hm hn = elim (cases_lt m n) [
     | inr above ↦ omega (arith, high, above)
   ]
 ]
+
+-- one more entry copied
+pub entries_more : (xs : List Entry) (n : ℕ) (e copy : Entry) (list new : List Entry) → slice_get xs n ≡ Some e → copy ≡ e → new ≡ list ++ copy ∷ [] → list ≡ take n xs → new ≡ take (n + 1) xs
+entries_more xs n e copy list new is same added all =
+    let inside : n < length xs = slice_get_within xs n e is in
+    added ∙ (ap₂ (λ (front : List Entry) (x : Entry). front ++ x ∷ []) all (same ∙ sym (get_or_from_slice_get xs n e e is)) ∙ sym (take_more xs n e inside))

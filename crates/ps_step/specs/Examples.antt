@@ -1,7 +1,7 @@
 -- Worked examples: steps back of the counter under the entries that prove it safe. Its thread adds 1 to `x` along edge 0,
 -- from location 0 to 3, and then asserts that `x` is at least 1: along edge 1 to the end, location 2, where it is, and
 -- along edge 2 into the error where it isn't.
-use Rattle.std.specs.Prelude.{◌≡◌, ◌≢◌, ℕ, List, [], ◌∷◌, Contains, Option, Some, None}
+use Rattle.std.specs.Prelude.{◌≡◌, ◌≢◌, ℕ, List, [], ◌∷◌, Option, Some, None}
 use Rattle.ps_atom.specs.declared.atom.Atom.{Atom}
 use Rattle.ps_basis.specs.Examples.{bare, counter_entries}
 use Rattle.ps_config.specs.Configurations.{Configuration}

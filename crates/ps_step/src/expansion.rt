@@ -1,4 +1,6 @@
 //! Expansions.
+ghost use Rattle.std.specs.Prelude.{◌≡◌};
+
 use ps_config::Config;
 use ps_list::Sequence;
 use ps_triple::Entry;
@@ -18,6 +20,14 @@ pub struct Expansion {
     /// How many entries the front has.
     pub front: u32,
     pub successors: Sequence<Successor>,
-    /// The entries of the front.
-    pub under: Sequence<Entry>,
+    pub entries: Sequence<Entry>,
+}
+
+impl Expansion {
+    /// The entries of the front; the call needs no memory.
+    pub fn entries(&self) -> &[Entry]
+        ensures { result.now ≡ self.now.entries }
+    {
+        self.entries.as_slice()
+    }
 }

@@ -5,6 +5,7 @@ mod accepted;
 mod back;
 mod demands;
 mod expand_end;
+mod expanded;
 mod expansion;
 mod found;
 pub mod laws;
@@ -17,4 +18,5 @@ pub mod worked;
 
 pub use accepted::accepting;
 pub use expand_end::{ExpandEnd, MOST_SETS};
+pub use expanded::expand;
 pub use expansion::{Expansion, Successor};

@@ -1,8 +1,7 @@
 -- Tests of whether a step goes back, and what they tell.
-use Rattle.std.specs.Prelude.{◌≡◌, ℕ, Bool, false, not, ◌&&◌, ◌||◌, ◌==◌, List, [], map, Option, Some, None}
+use Rattle.std.specs.Prelude.{ℕ, Bool, false, not, ◌&&◌, ◌||◌, ◌==◌, List, [], map, Option, Some, None}
 use Rattle.std.specs.List.{list_all, list_any}
 use Rattle.std.specs.List.Sorted.{IsStrictlyIncreasing}
-use Rattle.std.specs.declared.vec.Vec.{Vec}
 use Rattle.ps_config.specs.Configurations.{Configuration}
 use Rattle.ps_graph.specs.Facts.{owner_of}
 use Rattle.ps_graph.specs.declared.edge.Edge.{Edge}

@@ -1,7 +1,7 @@
 -- The least sets of atoms of a step as successors, and the limits that they pass.
 use Rattle.std.specs.Prelude.{◌≡◌, ℕ, ◌<◌, ◌≤◌, ◌+◌, List, ◌∷◌, ◌++◌, length, map, Contains, Option, Some, None}
 use Rattle.ps_atom.specs.declared.atom.Atom.{Atom}
-use Rattle.ps_config.specs.Forms.{HasThreadCount, IsConfig}
+use Rattle.ps_config.specs.Forms.{HasThreadCount}
 use Rattle.ps_config.specs.declared.config.TheConstants.{MOST_ATOMS, MOST_THREADS}
 use Rattle.ps_config.specs.declared.wide.WideName.{WideName}
 use Rattle.ps_config.specs.declared.wide.WideName.TheVariants.{Sets, Atoms, Threads}

@@ -1,4 +1,4 @@
-use Rattle.std.proofs.Common.{◌≡◌, ℕ, List, get_or, refl, subst, Contains}
+use Rattle.std.proofs.Common.{ℕ, get_or, refl, Contains}
 use Rattle.std.proofs.lemmas.Bool.{both_ways, false≢true}
 use Rattle.std.proofs.lemmas.List.Elements.{Contains-get_or}
 use Rattle.ps_step.proofs.Seen.{one_more, all_seen}

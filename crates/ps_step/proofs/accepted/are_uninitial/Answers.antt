@@ -1,4 +1,4 @@
-use Rattle.std.proofs.Common.{◌≡◌, ℕ, refl, subst, Contains}
+use Rattle.std.proofs.Common.{refl, subst}
 use Rattle.std.proofs.lemmas.Bool.{both_ways, false≢true}
 use Rattle.ps_atom.specs.declared.atom.Atom.{Atom}
 use Rattle.ps_triple.specs.Entries.{HasInitial}

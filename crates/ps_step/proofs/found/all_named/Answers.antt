@@ -1,6 +1,5 @@
 use Rattle.std.proofs.Common.{ℕ, List, sym, subst, Contains}
 use Rattle.std.proofs.lemmas.List.Elements.{Contains-get_or}
-use Rattle.ps_step.specs.inner.Pools.{AreOfPool}
 use Rattle.ps_step.proofs.found.all_named.Goals as goal
 
 pub atoms_named-requires : goal.atoms_named-requires

@@ -1,8 +1,5 @@
-use Rattle.std.proofs.Common.{◌≡◌, ◌∙◌, ℕ, List, [], ◌∷◌, ◌++◌, sym, ap, get_or}
-use Rattle.std.proofs.lemmas.List.{map_more, get_or_default}
+use Rattle.std.proofs.Common.{get_or}
 use Rattle.std.proofs.lemmas.List.Elements.{Contains-get_or}
-use Rattle.ps_atom.specs.declared.atom.Atom.{Atom}
-use Rattle.ps_step.specs.inner.Numbered.{at_place}
 use Rattle.ps_step.proofs.LeastSets.{named_more}
 use Rattle.ps_step.proofs.found.atoms_named.Goals as goal
 

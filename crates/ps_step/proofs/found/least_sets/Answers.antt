@@ -1,11 +1,10 @@
-use Rattle.std.proofs.Common.{◌≡◌, ◌≤◌, ℕ, List, length, sym, subst, All as Each, Contains}
+use Rattle.std.proofs.Common.{◌≤◌, ℕ, List, length, subst, All as Each, Contains}
 use Rattle.ps_atom.specs.declared.atom.Atom.{Atom}
 use Rattle.ps_hit.specs.Answer.{IfAll, OnTooMany, IsLexicographic, HasMore}
 use Rattle.ps_hit.specs.Hitting.{numbers_of, IsListedHit}
 use Rattle.ps_hit.specs.declared.hits.Hits.{Hits}
 use Rattle.ps_step.specs.inner.Demands.{demands}
 use Rattle.ps_step.specs.inner.Numbered.{IsNumbered}
-use Rattle.ps_step.specs.inner.Pools.{lists_of, HasAll, AreOfPool}
 use Rattle.ps_step.proofs.LeastSets.{listed_within, moved_numbers, found_all, are_more}
 use Rattle.ps_step.proofs.found.least_sets.Goals as goal
 

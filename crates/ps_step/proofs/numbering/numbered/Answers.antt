@@ -1,6 +1,6 @@
-use Rattle.std.proofs.Common.{◌≡◌, ◌∙◌, sym, subst, ap, List, Contains}
+use Rattle.std.proofs.Common.{subst, List}
 use Rattle.ps_atom.specs.declared.atom.Atom.{Atom}
-use Rattle.ps_step.specs.inner.Pools.{ArePlaces, HasEach}
+use Rattle.ps_step.specs.inner.Pools.{ArePlaces}
 use Rattle.ps_step.proofs.Pooling.{numbered_more, each_of}
 use Rattle.ps_step.proofs.numbering.numbered.Goals as goal
 

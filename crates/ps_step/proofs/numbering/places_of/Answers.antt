@@ -1,5 +1,4 @@
-use Rattle.std.proofs.Common.{◌≡◌, ◌<◌, ◌∙◌, sym, length, ap}
-use Rattle.ps_step.specs.inner.Numbered.{at_place}
+use Rattle.std.proofs.Common.{◌≡◌, ◌∙◌}
 use Rattle.ps_step.proofs.Pooling.{places_more}
 use Rattle.ps_step.proofs.numbering.places_of.Goals as goal
 

@@ -1,8 +1,6 @@
 use Rattle.std.proofs.Common.{List, subst}
-use Rattle.std.proofs.lemmas.List.{take_all}
-use Rattle.std.specs.declared.vec.Vec.{Vec}
 use Rattle.ps_atom.specs.declared.atom.Atom.{Atom}
-use Rattle.ps_step.specs.inner.Pools.{HasAll, atoms_of, lists_of, Adds}
+use Rattle.ps_step.specs.inner.Pools.{atoms_of, Adds}
 use Rattle.ps_step.proofs.Pooling.{all_more, all_done}
 use Rattle.ps_step.proofs.numbering.pool_of.Goals as goal
 

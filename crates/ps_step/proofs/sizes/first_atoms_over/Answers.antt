@@ -1,4 +1,4 @@
-use Rattle.std.proofs.Common.{List, length, subst, sym, ap}
+use Rattle.std.proofs.Common.{List, length, sym, ap}
 use Rattle.ps_atom.specs.declared.atom.Atom.{Atom}
 use Rattle.ps_config.specs.declared.config.TheConstants.{MOST_ATOMS}
 use Rattle.ps_step.specs.inner.Sets.{HasLength}

@@ -1,8 +1,8 @@
-use Rattle.std.proofs.Common.{ℕ, List, subst}
+use Rattle.std.proofs.Common.{List, subst}
 use Rattle.ps_atom.specs.declared.atom.Atom.{Atom}
 use Rattle.ps_config.specs.declared.config.TheConstants.{MOST_THREADS}
 use Rattle.ps_step.specs.inner.Sets.{HasThreadsWith}
-use Rattle.ps_step.proofs.Over.{fine_all, fine_more, first_over}
+use Rattle.ps_step.proofs.Over.{fine_more, first_over}
 use Rattle.ps_step.proofs.sizes.first_threads_over.Goals as goal
 
 pub returns-then-count-gt-MOST_THREADS : goal.returns-then-count-gt-MOST_THREADS

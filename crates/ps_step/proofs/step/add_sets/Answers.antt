@@ -1,4 +1,4 @@
-use Rattle.std.proofs.Common.{◌≡◌, ℕ, List, ap}
+use Rattle.std.proofs.Common.{◌≡◌, ap}
 use Rattle.ps_config.specs.declared.wide.WideName.TheVariants.{Threads}
 use Rattle.ps_config.specs.declared.wide.WideStep.{WideStep}
 use Rattle.ps_step.specs.inner.Pools.{lists_of}

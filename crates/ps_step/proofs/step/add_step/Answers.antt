@@ -1,5 +1,5 @@
-use Rattle.std.proofs.Common.{◌≡◌, ℕ, List, Global, sym, subst, Option, Some, None}
-use Rattle.std.specs.Prelude.{option_map, slice_get}
+use Rattle.std.proofs.Common.{ℕ, Global, subst, Option}
+use Rattle.std.specs.Prelude.{option_map}
 use Rattle.std.specs.declared.vec.Vec.{Vec}
 use Rattle.ps_step.specs.inner.Demands.{demands}
 use Rattle.ps_step.specs.inner.Going.{IsStepTo}
