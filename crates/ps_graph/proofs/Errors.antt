@@ -50,7 +50,7 @@ abbrev at_one : Seat ℕ → Bool
 at_one u = u.at == 1
 
 module _ (commands : List Command) (edges : List Edge) where
-  failed_is : (t : Seat Thread) (a : ℕ) → ThreadIsAt commands edges t.at a → is_failed t ≡ (a == 1)
+  pub failed_is : (t : Seat Thread) (a : ℕ) → ThreadIsAt commands edges t.at a → is_failed t ≡ (a == 1)
   failed_is t a h = on t.at h
     where
       on : (x : Thread) → ThreadIsAt commands edges x a → elim x [ Runs _ ↦ false | Failed ↦ true ] ≡ (a == 1)
@@ -58,7 +58,7 @@ module _ (commands : List Command) (edges : List Edge) where
       on (Runs []) (ne, none) = sym (ne_eqb a 1 ne)
       on (Runs (s ∷ rest)) (b, ne, d, r) = sym (ne_eqb a 1 ne)
 
-  errors_are : (ts : List (Seat Thread)) (us : List (Seat ℕ)) → SeatsAreAt commands edges ts us → list_any is_failed ts ≡ list_any at_one us
+  pub errors_are : (ts : List (Seat Thread)) (us : List (Seat ℕ)) → SeatsAreAt commands edges ts us → list_any is_failed ts ≡ list_any at_one us
   errors_are [] [] s = refl
   errors_are [] (u ∷ us) s = absurd s
   errors_are (t ∷ ts) [] s = absurd s

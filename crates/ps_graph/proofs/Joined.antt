@@ -74,7 +74,7 @@ no_source (e ∷ edges) h = at (e.source == 1) refl (not_parts (e.source == 1) (
     at true s q rest = let no_such : true ≡ false = sym s ∙ q.0 in cc
     at false s q rest = rest q.1
 
-final_parts : (graph : Graph) → IsTrue (error_is_final graph.owner graph.edges) → leaving 1 graph.edges ≡ []
+pub final_parts : (graph : Graph) → IsTrue (error_is_final graph.owner graph.edges) → leaving 1 graph.edges ≡ []
 unfolding error_is_final
 final_parts graph h =
     no_source graph.edges (and_parts (is_same_body (owner_of graph.owner 1) None) (list_all (λ (e : Edge). not (e.source == 1)) graph.edges) h).1

@@ -1,5 +1,11 @@
 pub mod Begins
+pub mod Exiting
 pub mod Following
 pub mod Meeting
 pub mod Owning
+pub mod Picked
+pub mod Reaching
+pub mod Results
 pub mod Rowing
+pub mod Tried
+pub mod Walking

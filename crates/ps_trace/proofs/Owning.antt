@@ -1,6 +1,6 @@
 -- The forms of a graph's commands name globals, locals of thread 0 and their own havocs alone.
 use Rattle.std.proofs.Common.{◌≡◌, Bool, true, false, ◌&&◌, ◌||◌, ◌==◌, refl, sym, ◌∙◌, ap, ap₂, subst, ℕ, zero, suc, ◌<◌, ◌+◌, ℤ, pos, ◌*ℤ◌, ◌+ℤ◌, List, [], ◌∷◌, ◌++◌, length, get_or, if◌then◌else◌, nat_lt, ltb-true, arith}
-use Rattle.std.specs.Prelude.{map, slice_get, Option, Some, None, option_map, unwrap_or, IsTrue}
+use Rattle.std.specs.Prelude.{All, map, slice_get, Option, Some, None, option_map, unwrap_or, IsTrue}
 use Rattle.std.specs.List.{list_all}
 use Rattle.std.specs.Ordering.{int_eq}
 use Rattle.std.proofs.lemmas.Bool.Decides.{nat_tests}
@@ -237,9 +237,9 @@ length_forms : (commands : List Command) → length (forms_of commands) ≡ leng
 length_forms [] = refl
 length_forms (c ∷ commands) = ap suc (length_forms commands)
 
-pub has_form : (graph : Graph) (n : ℕ) (d : Edge) → n < length graph.edges → (get_or graph.edges n d).command < length graph.setting.symbols
+pub has_command : (graph : Graph) (n : ℕ) (d : Edge) → n < length graph.edges → (get_or graph.edges n d).command < length graph.setting.commands
 unfolding names_exist
-has_form graph n d w =
+has_command graph n d w =
     let named : Edge → Bool = λ (e : Edge). nat_lt e.source graph.locations && nat_lt e.target graph.locations && nat_lt e.command (length graph.setting.commands) in
     let a : Bool = nat_lt 1 graph.locations && list_all (λ (e : Edge). nat_lt e.source graph.locations && nat_lt e.target graph.locations && nat_lt e.command (length graph.setting.commands)) graph.edges in
     let b : Bool = list_all (λ (a : ℕ). nat_lt a graph.locations) graph.entries in
@@ -254,9 +254,32 @@ has_form graph n d w =
     let e : Edge = get_or graph.edges n d in
     let last : nat_lt (get_or graph.edges n d).command (length graph.setting.commands) ≡ true =
     (and_parts (nat_lt e.source graph.locations && nat_lt e.target graph.locations) (nat_lt e.command (length graph.setting.commands)) one).1 in
-    let below : (get_or graph.edges n d).command < length graph.setting.commands = ltb-true (get_or graph.edges n d).command (length graph.setting.commands) last in
+    ltb-true (get_or graph.edges n d).command (length graph.setting.commands) last
+
+pub has_form : (graph : Graph) (n : ℕ) (d : Edge) → n < length graph.edges → (get_or graph.edges n d).command < length graph.setting.symbols
+has_form graph n d w =
     let same : length graph.setting.symbols ≡ length graph.setting.commands = ap length graph.setting.formed ∙ length_forms graph.setting.commands in
-    subst (λ (m : ℕ). (get_or graph.edges n d).command < m) (sym same) below
+    subst (λ (m : ℕ). (get_or graph.edges n d).command < m) (sym same) (has_command graph n d w)
+
+-- the sources of edges are locations
+pub sources_exist : (graph : Graph) → All (λ (e : Edge). e.source < graph.locations) graph.edges
+unfolding names_exist
+sources_exist graph =
+    let named : Edge → Bool = λ (e : Edge). nat_lt e.source graph.locations && nat_lt e.target graph.locations && nat_lt e.command (length graph.setting.commands) in
+    let a : Bool = nat_lt 1 graph.locations && list_all (λ (e : Edge). nat_lt e.source graph.locations && nat_lt e.target graph.locations && nat_lt e.command (length graph.setting.commands)) graph.edges in
+    let b : Bool = list_all (λ (a : ℕ). nat_lt a graph.locations) graph.entries in
+    let c : Bool = is_below (length graph.entries) graph.once in
+    let o : Bool = list_all (is_below (length graph.entries)) graph.owner in
+    let p : Bool = length graph.owner == graph.locations in
+    let all : (a && b && c && o && p) ≡ true = graph.numbers in
+    let edges : list_all named graph.edges ≡ true =
+    (and_parts (nat_lt 1 graph.locations) (list_all named graph.edges)
+    (and_parts a b (and_parts (a && b) c (and_parts (a && b && c) o (and_parts (a && b && c && o) p all).0).0).0).0).1 in
+    λ k d w. (let e : Edge = get_or graph.edges k d in
+    let one : named (get_or graph.edges k d) ≡ true = all_at named graph.edges k d edges w in
+    ltb-true e.source graph.locations
+    (and_parts (nat_lt e.source graph.locations) (nat_lt e.target graph.locations)
+    (and_parts (nat_lt e.source graph.locations && nat_lt e.target graph.locations) (nat_lt e.command (length graph.setting.commands)) one).0).0)
 
 pub form_is : (graph : Graph) (n : ℕ) (e : Edge) (f : SymbolicForm) → slice_get graph.edges n ≡ Some e → slice_get graph.setting.symbols e.command ≡ Some f → f ≡ form_at graph n
 form_is graph n e f g h =

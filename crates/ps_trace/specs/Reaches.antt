@@ -10,9 +10,13 @@ use Rattle.ps_trace.specs.declared.witness.Witness.{Witness}
 abbrev pub witness_state : Witness → State
 witness_state w = record { globals = w.globals; locals = w.locals }
 
--- its steps, as pairs of a thread and its choices
+-- a step, as a pair of a thread and its choices
+abbrev pub step_pair : Step → ℕ × List ℤ
+step_pair s = (s.thread, s.choices)
+
+-- the steps of a witness, as such pairs
 abbrev pub steps_of : Witness → List (ℕ × List ℤ)
-steps_of w = map (λ (s : Step). let m : ℕ × List ℤ = (s.thread, s.choices) in m) w.steps
+steps_of w = map step_pair w.steps
 
 -- The execution from these values with these threads and choices exists, a thread becomes Failed at its last step, and
 -- none at an earlier one.

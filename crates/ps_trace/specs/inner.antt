@@ -1,3 +1,6 @@
+pub mod Leaving
 pub mod Own
 pub mod Paths
+pub mod Picking
 pub mod SoFars
+pub mod Trying

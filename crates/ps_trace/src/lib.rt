@@ -3,15 +3,24 @@
 
 mod error_trace;
 pub mod laws;
+mod leaving;
+mod picking;
+mod reached;
 mod renaming;
+mod replaying;
 mod rows;
+mod seat;
 mod so_far;
 mod step;
 mod trace;
+mod trying;
+mod walk;
 mod witness;
 pub mod worked;
 
 pub use error_trace::is_error_trace;
+pub use reached::{Reached, reach};
+pub use replaying::replay;
 pub use rows::trace_rows;
 pub use step::Step;
 pub use trace::{IndexedTrace, Letter};
