@@ -20,7 +20,7 @@ use Rattle.ps_graph.specs.declared.edge.Edge.{Edge}
 use Rattle.ps_graph.specs.declared.graph.Graph.{Graph}
 use Rattle.ps_tree.specs.declared.program.Program.{Program}
 use Rattle.ps_tree.specs.declared.stmt.Stmt.{Stmt}
-use Rattle.ps_trace.specs.Reaches.{Reaches, start_of, steps_of}
+use Rattle.ps_trace.specs.Reaches.{Reaches, witness_state, steps_of}
 use Rattle.ps_trace.specs.Replay.{along_first, at_error, entered, fails_at_last, moved_on, or_else, Replays, world_of}
 use Rattle.ps_trace.specs.declared.witness.Witness.{Witness}
 
@@ -152,25 +152,25 @@ pub reaches_exactly : (p : Program) (graph : Graph) → IsGraphOf p graph → (w
 reaches_exactly p graph is w = (forth, back)
   where
     s : State
-    s = start_of w
+    s = witness_state w
 
     entry : slice_index_or graph.entries 0 0 ≡ 0
     entry = ap (λ (es : List ℕ). slice_index_or es 0 0) is.entries
 
-    same : text_fails (steps_of w) (started (bodies_of p (start_of w)) (start_of w)) ≡ fails_at_last graph (steps_of w) (world_of graph w)
+    same : text_fails (steps_of w) (started (bodies_of p (witness_state w)) (witness_state w)) ≡ fails_at_last graph (steps_of w) (world_of graph w)
     same = same_fails graph (steps_are_edges graph.setting.commands graph.edges (final_parts graph graph.error_final)) (steps_of w)
-        (started (bodies_of p (start_of w)) (start_of w)) (world_of graph w)
+        (started (bodies_of p (witness_state w)) (witness_state w)) (world_of graph w)
         (record {
           globals = refl;
           seats = begins graph.setting.commands graph.edges p.body (slice_index_or graph.entries 0 0)
               (subst (λ (a : ℕ). RestBeginsAt graph.setting.commands graph.edges p.body a) (sym entry) is.begins) w.locals;
         })
 
-    forth : reaches p (start_of w) (steps_of w) ≡ true → Replays graph w
+    forth : reaches p (witness_state w) (steps_of w) ≡ true → Replays graph w
     forth h =
-        let q : (is_initial p (start_of w) ≡ true) × (text_fails (steps_of w) (started (bodies_of p (start_of w)) (start_of w)) ≡ true) =
-        and_parts (is_initial p (start_of w)) (text_fails (steps_of w) (started (bodies_of p (start_of w)) (start_of w))) h in
-        record { initial = (is.initial (start_of w)).1 q.0; fails = sym same ∙ q.1 }
+        let q : (is_initial p (witness_state w) ≡ true) × (text_fails (steps_of w) (started (bodies_of p (witness_state w)) (witness_state w)) ≡ true) =
+        and_parts (is_initial p (witness_state w)) (text_fails (steps_of w) (started (bodies_of p (witness_state w)) (witness_state w))) h in
+        record { initial = (is.initial (witness_state w)).1 q.0; fails = sym same ∙ q.1 }
 
-    back : Replays graph w → reaches p (start_of w) (steps_of w) ≡ true
-    back r = ap₂ (λ (a b : Bool). a && b) ((is.initial (start_of w)).0 r.initial) (same ∙ r.fails)
+    back : Replays graph w → reaches p (witness_state w) (steps_of w) ≡ true
+    back r = ap₂ (λ (a b : Bool). a && b) ((is.initial (witness_state w)).0 r.initial) (same ∙ r.fails)

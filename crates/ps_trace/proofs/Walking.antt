@@ -13,7 +13,7 @@ use Rattle.ps_command.specs.declared.state.State.{State}
 use Rattle.ps_graph.proofs.Strides.{seated, step_at_is, step_at_none}
 use Rattle.ps_graph.specs.Threads.{Seat, World}
 use Rattle.ps_graph.specs.declared.graph.Graph.{Graph}
-use Rattle.ps_trace.specs.Reaches.{start_of, step_pair, steps_of}
+use Rattle.ps_trace.specs.Reaches.{witness_state, step_pair, steps_of}
 use Rattle.ps_trace.specs.Replay.{along_first, at_error, entered, fails_at_last, MoveFits, moved_on, ReplayFits, Replays, StepsFit, TriesFit, world_of}
 use Rattle.ps_trace.specs.declared.seat.Seat.{Seat as Kept}
 use Rattle.ps_trace.specs.declared.step.Step.{Step}
@@ -196,13 +196,13 @@ pub steps_from : (ms : List Step) (i : ℕ) (d : Step) → i < length ms → map
 steps_from ms i d w = ap (map step_pair) (drop_more ms i d w)
 
 -- ---- the whole replay
-pub fits_not_initial : (graph : Graph) (w : Witness) (s : State) (answer : Bool) → s ≡ start_of w → StartFits graph.setting s → (IsInitial graph.setting s → answer ≡ true) → answer ≡ false → ReplayFits graph w
+pub fits_not_initial : (graph : Graph) (w : Witness) (s : State) (answer : Bool) → s ≡ witness_state w → StartFits graph.setting s → (IsInitial graph.setting s → answer ≡ true) → answer ≡ false → ReplayFits graph w
 fits_not_initial graph w s answer e f said wrong = record {
   start = subst (λ (x : State). StartFits graph.setting x) e f;
   steps = λ h. absurd (false_true (sym wrong ∙ said (subst (λ (x : State). IsInitial graph.setting x) (sym e) h)));
 }
 
-pub fits_whole : (graph : Graph) (w : Witness) (s : State) (steps : List Step) → s ≡ start_of w → steps ≡ w.steps → StartFits graph.setting s →
+pub fits_whole : (graph : Graph) (w : Witness) (s : State) (steps : List Step) → s ≡ witness_state w → steps ≡ w.steps → StartFits graph.setting s →
     StepsFit graph (map step_pair steps) (entered (slice_index_or graph.entries 0 0) s) → ReplayFits graph w
 fits_whole graph w s steps e same f g = record {
   start = subst (λ (x : State). StartFits graph.setting x) e f;
@@ -210,13 +210,13 @@ fits_whole graph w s steps e same f g = record {
       (subst (λ (ms : List Step). StepsFit graph (map step_pair ms) (entered (slice_index_or graph.entries 0 0) s)) same g);
 }
 
-pub past_whole : (graph : Graph) (w : Witness) (s : State) (steps : List Step) → s ≡ start_of w → steps ≡ w.steps → IsInitial graph.setting s →
+pub past_whole : (graph : Graph) (w : Witness) (s : State) (steps : List Step) → s ≡ witness_state w → steps ≡ w.steps → IsInitial graph.setting s →
     ¬ StepsFit graph (map step_pair steps) (entered (slice_index_or graph.entries 0 0) s) → ¬ ReplayFits graph w
 past_whole graph w s steps e same h past f =
     past (subst (λ (ms : List Step). StepsFit graph (map step_pair ms) (entered (slice_index_or graph.entries 0 0) s)) (sym same)
     (subst (λ (x : State). StepsFit graph (steps_of w) (entered (slice_index_or graph.entries 0 0) x)) (sym e) (f.steps (subst (λ (x : State). IsInitial graph.setting x) e h))))
 
-pub answer_whole : (graph : Graph) (w : Witness) (s : State) (steps : List Step) (answer : Bool) → s ≡ start_of w → steps ≡ w.steps → IsInitial graph.setting s →
+pub answer_whole : (graph : Graph) (w : Witness) (s : State) (steps : List Step) (answer : Bool) → s ≡ witness_state w → steps ≡ w.steps → IsInitial graph.setting s →
     answer ≡ fails_at_last graph (map step_pair steps) (entered (slice_index_or graph.entries 0 0) s) → (answer ≡ true → Replays graph w) × (Replays graph w → answer ≡ true)
 answer_whole graph w s steps answer e same h is = (λ t. record { initial = subst (λ (x : State). IsInitial graph.setting x) e h; fails = sym whole ∙ t }, λ r. whole ∙ r.fails)
   where

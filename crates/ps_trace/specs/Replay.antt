@@ -12,7 +12,7 @@ use Rattle.ps_graph.specs.Picks.{havocs_of}
 use Rattle.ps_graph.specs.Threads.{Seat, World, Stepping, moved}
 use Rattle.ps_graph.specs.declared.edge.Edge.{Edge}
 use Rattle.ps_graph.specs.declared.graph.Graph.{Graph}
-use Rattle.ps_trace.specs.Reaches.{start_of, steps_of}
+use Rattle.ps_trace.specs.Reaches.{witness_state, steps_of}
 use Rattle.ps_trace.specs.declared.witness.Witness.{Witness}
 
 -- the first of the two that is there
@@ -44,12 +44,12 @@ entered a s = record { globals = s.globals; seats = map (λ (ls : List ℤ). let
 
 -- the world that a witness starts from: each thread is at the entry of the first body
 abbrev pub world_of : Graph → Witness → World ℕ
-world_of graph w = entered (slice_index_or graph.entries 0 0) (start_of w)
+world_of graph w = entered (slice_index_or graph.entries 0 0) (witness_state w)
 
 -- The witness starts from an initial state, its steps exist, a thread comes to the error at its last step, and none at an
 -- earlier one.
 pub record Replays (graph : Graph) (w : Witness) : Type 0 where
-  pub initial : IsInitial graph.setting (start_of w)
+  pub initial : IsInitial graph.setting (witness_state w)
   pub fails : IsTrue (fails_at_last graph (steps_of w) (world_of graph w))
 
 -- a step along the edge, if the choices fit its picks, runs within 128 bits
@@ -76,5 +76,5 @@ StepsFit graph (m ∷ ms) w =
 
 -- every value that comes before the answer is known is within 128 bits: those of the initial rows, and those of the steps
 pub record ReplayFits (graph : Graph) (w : Witness) : Type 0 where
-  pub start : StartFits graph.setting (start_of w)
-  pub steps : IsInitial graph.setting (start_of w) → StepsFit graph (steps_of w) (world_of graph w)
+  pub start : StartFits graph.setting (witness_state w)
+  pub steps : IsInitial graph.setting (witness_state w) → StepsFit graph (steps_of w) (world_of graph w)

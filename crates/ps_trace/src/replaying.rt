@@ -2,7 +2,7 @@
 ghost use Rattle.std.specs.Prelude.{◌≡◌, ◌↔◌, ◌<◌, ◌^◌, IfOk, IsErrOf, IsTrue, OnOk, length, map, slice_index_or};
 ghost use Rattle.ps_command.specs.Initial.{IsInitial};
 ghost use Rattle.ps_command.specs.RunFits.{StartFits};
-ghost use Rattle.ps_trace.specs.Reaches.{start_of, step_pair};
+ghost use Rattle.ps_trace.specs.Reaches.{witness_state, step_pair};
 ghost use Rattle.ps_trace.specs.Replay.{entered, fails_at_last, ReplayFits, Replays, StepsFit};
 
 use crate::leaving::Leaving;
@@ -57,7 +57,7 @@ fn is_initial(graph: &Graph, state: &State) -> Result<bool, RunEnd>
 
 // A copy of the values that the witness starts from.
 fn start_of(alloc: Global, witness: &Witness) -> Result<State, AllocError>
-    ensures { IfOk result (λ state. state ≡ start_of witness.now) }
+    ensures { IfOk result (λ state. state ≡ witness_state witness.now) }
 {
     Ok(State {
         globals: witness.globals.copy(alloc)?,

@@ -3,8 +3,8 @@ use Rattle.std.proofs.Common.{◌≡◌, ℕ, ◌^◌, ◌<◌, List, [], ◌∷
 use Rattle.std.specs.Prelude.{decimal, codes}
 use Rattle.std.specs.List.{flat_map, AllByRecursion}
 use Rattle.std.proofs.lemmas.List.{append-nil}
-use Rattle.ps_lines.specs.Tokens.{Token, Field, Newline, line_bytes, text_bytes, line_tokens, text_tokens}
-use Rattle.ps_lines.specs.Reading.{At, leaf_at, natural32, times_at}
+use Rattle.ps_lines.specs.Tokens.{LinePart, Field, Newline, line_bytes, text_bytes, parts_of_line, parts_of_text}
+use Rattle.ps_lines.specs.Reading.{Position, leaf_at, natural32, times_at}
 use Rattle.ps_lines.proofs.Bytes.{IsPlain, IsClean, AreClean, IsClean-append, plain_word, spread_mapped}
 use Rattle.ps_lines.proofs.Decimals.{natural32_is_leaf}
 use Rattle.ps_lines.proofs.Exact.{Finds, Gets, found_bind, found_end, gets_bind, gets_end, Exact, Always, leaf_exact, line_exact, end_exact, ended-append}
@@ -16,8 +16,8 @@ use Rattle.ps_trace_text.specs.TraceSpelling.{letter_line, LetterFits, trace_lin
 
 -- ---- a letter
 
-abbrev letter_tokens : Letter → List Token
-letter_tokens l = line_tokens (letter_line l)
+abbrev letter_tokens : Letter → List LinePart
+letter_tokens l = parts_of_line (letter_line l)
 
 step_plain : IsPlain (codes "step")
 step_plain = plain_word (codes "step") refl
@@ -25,7 +25,7 @@ step_plain = plain_word (codes "step") refl
 number_exact : Exact (leaf_at natural32) (λ n. Field (decimal n) ∷ []) (λ n. n < 2 ^ 32) Always
 number_exact = leaf_exact natural32 decimal (λ n. n < 2 ^ 32) natural32_is_leaf
 
-letter_found : (at : At) → Finds (letter_at at) (λ y. (at.tokens ≡ letter_tokens y.0 ++ y.1.tokens) × LetterFits y.0)
+letter_found : (at : Position) → Finds (letter_at at) (λ y. (at.tokens ≡ letter_tokens y.0 ++ y.1.tokens) × LetterFits y.0)
 unfolding letter_at
 letter_found at =
     found_bind _ _ _ _ ((line_exact (codes "step") step_plain).found at) (λ w p.
@@ -33,11 +33,11 @@ letter_found at =
     found_bind _ _ _ _ (number_exact.found t.1) (λ d r.
     found_bind _ _ _ _ (end_exact.found d.1) (λ e s.
     found_end _ _ (
-      p.0 ∙ ap (λ (ts : List Token). Field (codes "step") ∷ ts) (q.0 ∙ ap (λ (ts : List Token). Field (decimal t.0) ∷ ts) (r.0 ∙ ap (λ (ts : List Token). Field (decimal d.0) ∷ ts) s.0)),
+      p.0 ∙ ap (λ (ts : List LinePart). Field (codes "step") ∷ ts) (q.0 ∙ ap (λ (ts : List LinePart). Field (decimal t.0) ∷ ts) (r.0 ∙ ap (λ (ts : List LinePart). Field (decimal d.0) ∷ ts) s.0)),
       record { thread = q.1; edge = r.1 },
     )))))
 
-letter_again : (at : At) (l : Letter) (rest : List Token) → LetterFits l → at.tokens ≡ letter_tokens l ++ rest → Unit {0} → Gets (letter_at at) (λ y. (y.0 ≡ l) × (y.1.tokens ≡ rest))
+letter_again : (at : Position) (l : Letter) (rest : List LinePart) → LetterFits l → at.tokens ≡ letter_tokens l ++ rest → Unit {0} → Gets (letter_at at) (λ y. (y.0 ≡ l) × (y.1.tokens ≡ rest))
 unfolding letter_at
 letter_again at l rest fit e h =
     gets_bind _ _ _ _ ((line_exact (codes "step") step_plain).again at tt (Field (decimal l.thread) ∷ Field (decimal l.edge) ∷ Newline ∷ rest) tt e (ended-append (Field (decimal l.thread) ∷ Field (decimal l.edge) ∷ []) rest)) (λ w p.
@@ -65,20 +65,20 @@ end_plain = plain_word (codes "end") refl
 trace_plain : IsPlain (codes "trace")
 trace_plain = plain_word (codes "trace") refl
 
-abbrev end_tokens : List Token
+abbrev end_tokens : List LinePart
 end_tokens = Field (codes "end") ∷ (Newline ∷ [])
 
-abbrev tail_tokens : List Letter → List Token
+abbrev tail_tokens : List Letter → List LinePart
 tail_tokens ls = flat_map letter_tokens ls ++ end_tokens
 
-trace_tokens : (trace : IndexedTrace) → text_tokens (trace_lines trace) ≡ header_tokens (codes "trace") (length trace.letters) ++ tail_tokens trace.letters
+trace_tokens : (trace : IndexedTrace) → parts_of_text (trace_lines trace) ≡ header_tokens (codes "trace") (length trace.letters) ++ tail_tokens trace.letters
 trace_tokens trace =
-    ap (λ (ts : List Token). header_tokens (codes "trace") (length trace.letters) ++ ts) (spread_mapped line_tokens letter_line trace.letters ((codes "end", []) ∷ []))
+    ap (λ (ts : List LinePart). header_tokens (codes "trace") (length trace.letters) ++ ts) (spread_mapped parts_of_line letter_line trace.letters ((codes "end", []) ∷ []))
 
 letters_exact : (n : ℕ) → Exact (times_at letter_at n) (flat_map letter_tokens) (λ ls. (length ls ≡ n) × AllByRecursion LetterFits ls) Always
 letters_exact n = times_exact letter_at letter_tokens LetterFits letter_exact n
 
-trace_found : (at : At) → Finds (trace_at at) (λ trace. (at.tokens ≡ text_tokens (trace_lines trace)) × TraceFits trace)
+trace_found : (at : Position) → Finds (trace_at at) (λ trace. (at.tokens ≡ parts_of_text (trace_lines trace)) × TraceFits trace)
 unfolding trace_at
 trace_found at =
     found_bind _ _ _ _ ((header_exact (codes "trace") 1048576 trace_plain (omega arith)).found at) (λ n p.
@@ -87,13 +87,13 @@ trace_found at =
     found_bind _ _ _ _ (done_found e.1) (λ d t.
     let trace : IndexedTrace = record { letters = ls.0 } in
     let all : at.tokens ≡ header_tokens (codes "trace") n.0 ++ tail_tokens ls.0 =
-    p.0 ∙ ap (λ (ts : List Token). header_tokens (codes "trace") n.0 ++ ts) (q.0 ∙ ap (λ (ts : List Token). flat_map letter_tokens ls.0 ++ ts) (s.0 ∙ ap (λ (ts : List Token). end_tokens ++ ts) t)) in
+    p.0 ∙ ap (λ (ts : List LinePart). header_tokens (codes "trace") n.0 ++ ts) (q.0 ∙ ap (λ (ts : List LinePart). flat_map letter_tokens ls.0 ++ ts) (s.0 ∙ ap (λ (ts : List LinePart). end_tokens ++ ts) t)) in
     found_end _ _ (
       all ∙ ap (λ k. header_tokens (codes "trace") k ++ tail_tokens ls.0) (sym q.1.0) ∙ sym (trace_tokens trace),
       record { few = omega (arith, q.1.0, p.1); letters = q.1.1 },
     )))))
 
-trace_again : (at : At) (trace : IndexedTrace) → TraceFits trace → at.tokens ≡ text_tokens (trace_lines trace) → Gets (trace_at at) (λ t. t ≡ trace)
+trace_again : (at : Position) (trace : IndexedTrace) → TraceFits trace → at.tokens ≡ parts_of_text (trace_lines trace) → Gets (trace_at at) (λ t. t ≡ trace)
 unfolding trace_at
 trace_again at trace fit e =
     gets_bind _ _ _ _ ((header_exact (codes "trace") 1048576 trace_plain (omega arith)).again at (length trace.letters) (tail_tokens trace.letters) fit.few (e ∙ trace_tokens trace) tt) (λ n p.

@@ -1,7 +1,7 @@
 -- Reading traces, with the first fault.
 use Rattle.std.specs.Prelude.{Result, Ok, codes}
 use Rattle.ps_lines.specs.declared.form_fault.FormFault.{FormFault}
-use Rattle.ps_lines.specs.Reading.{At, Read, ◌>>=◌, leaf_at, natural32, line_at, end_at, only_at, done_at, header_at, times_at}
+use Rattle.ps_lines.specs.Reading.{Position, Read, ◌>>=◌, leaf_at, natural32, line_at, end_at, only_at, done_at, header_at, times_at}
 use Rattle.ps_trace.specs.declared.trace.IndexedTrace.{IndexedTrace}
 use Rattle.ps_trace.specs.declared.trace.Letter.{Letter}
 
@@ -15,7 +15,7 @@ letter_at at = do
   Ok (record { thread = thread.0; edge = edge.0 }, e.1)
 
 -- The whole text: `trace K`, so many letters, `end`, and nothing after it.
-unfoldable pub trace_at : At → Result IndexedTrace FormFault
+unfoldable pub trace_at : Position → Result IndexedTrace FormFault
 trace_at at = do
   count ← header_at (codes "trace") 1048576 at
   letters ← times_at letter_at count.0 count.1

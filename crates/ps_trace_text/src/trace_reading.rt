@@ -1,7 +1,7 @@
 //! Reading traces, with the first fault.
 ghost use Rattle.std.specs.Prelude.{◌≡◌, ◌+◌, ◌<◌, ◌≤◌, ◌^◌, length, IfOk, Ok};
 ghost use Rattle.ps_lines.specs.Tokens.{text_bytes};
-ghost use Rattle.ps_lines.specs.Reading.{start, Tells};
+ghost use Rattle.ps_lines.specs.Reading.{text_start, Tells};
 ghost use Rattle.ps_trace.specs.declared.trace.IndexedTrace.{IndexedTrace};
 ghost use Rattle.ps_trace_text.specs.TraceReading.{letter_at, trace_at};
 ghost use Rattle.ps_trace_text.specs.TraceSpelling.{trace_lines, TraceFits};
@@ -36,7 +36,7 @@ impl Form for LetterLine {
 fn whole(alloc: Global, bytes: &[u8], first: u32) -> Result<IndexedTrace, FormEnd>
     requires from_one { 1 ≤ first }
     requires room { first + length bytes.now < 2 ^ 32 }
-    ensures { Tells (λ x. x) result (trace_at (start first bytes.now)) }
+    ensures { Tells (λ x. x) result (trace_at (text_start first bytes.now)) }
 {
     let mut reader = Reader::new(bytes, first);
     let count = reader.header(b"trace", MOST_LETTERS)?;
@@ -60,7 +60,7 @@ pub fn read_trace(alloc: Global, bytes: &[u8], first: u32) -> Result<IndexedTrac
     ensures only { (trace : IndexedTrace) → TraceFits trace
         → bytes.now ≡ text_bytes (trace_lines trace) → Tells (λ x. x) result (Ok trace) }
     // Which fault it is.
-    ensures exact { Tells (λ x. x) result (trace_at (start first bytes.now)) }
+    ensures exact { Tells (λ x. x) result (trace_at (text_start first bytes.now)) }
 {
     whole(alloc, bytes, first)
 }
