@@ -3,3 +3,4 @@ pub mod Demands
 pub mod Back
 pub mod Feasible
 pub mod Safe
+pub mod Counter
