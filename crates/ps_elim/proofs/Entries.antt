@@ -58,6 +58,11 @@ get_or-all_entries t n k h = elim (cases_lt k n) [
   | inr g ↦ get_or_past (entries_of t n) k 0 (omega (arith, g, length-entries_of t n)) ∙ sym (none_past t n h k g)
 ]
 
+-- two vectors of one length have as many places
+pub same_places : (p q : Term) (m n : ℕ) (u v : List ℕ) → entries_of p m ≡ u → entries_of q n ≡ v → length u ≡ length v → n ≡ m
+same_places p q m n u v e f h =
+    sym (length-entries_of q n) ∙ (ap (λ (ns : List ℕ). length ns) f ∙ (sym h ∙ (sym (ap (λ (ns : List ℕ). length ns) e) ∙ length-entries_of p m)))
+
 -- what holds at each place, and of what is 0, holds of each variable
 pub at_each : (P : Var → Type 0) (n : ℕ) → ((k : ℕ) → k < n → P (Global k)) → ((x : Var) → ¬ IsPlace x n → P x) → (x : Var) → P x
 at_each P n here elsewhere (Global k) = elim (cases_lt k n) [ inl l ↦ here k l | inr g ↦ elsewhere (Global k) (λ m. omega (arith, g, m)) ]

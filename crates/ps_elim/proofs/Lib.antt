@@ -4,6 +4,7 @@ pub mod Bits
 pub mod Choosing
 pub mod Counting
 pub mod Determined
+pub mod Differing
 pub mod Eliminating
 pub mod Entries
 mod Examples

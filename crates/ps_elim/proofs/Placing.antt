@@ -29,7 +29,7 @@ standing (p ∷ ps) zero d l c = coefficient-first p ps c
 standing (p ∷ ps) (suc i) d l c =
     coefficient-other (get_or ps i d).0 p ps (below_at p.0 ps i d (omega arith) (IsBelowAll-canonical p.0 ps c.1 c.2)) ∙ standing ps i d (omega arith) c.2
 
-not_none : (ps : List (Var × ℤ)) (i : ℕ) (d : Var × ℤ) → i < length ps → IsCanonical ps → (get_or ps i d).1 ≢ pos 0
+pub not_none : (ps : List (Var × ℤ)) (i : ℕ) (d : Var × ℤ) → i < length ps → IsCanonical ps → (get_or ps i d).1 ≢ pos 0
 not_none [] i d l c = absurd (omega arith)
 not_none (p ∷ ps) zero d l c = c.0
 not_none (p ∷ ps) (suc i) d l c = not_none ps i d (omega arith) c.2

@@ -1,5 +1,6 @@
 pub mod Entries
 pub mod Antichains
+pub mod Lexicographic
 pub mod Words
 pub mod Weighing
 pub mod Weights

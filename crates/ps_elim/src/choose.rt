@@ -1,12 +1,17 @@
 // The vector that an elimination answers.
+<<<<<<< HEAD
 ghost use Rattle.std.specs.Prelude.{◌≡◌, ◌≤ℤ◌, pos, All, IfSome, IfNone, option_copied};
 ghost use Rattle.ps_elim.specs.inner.Choosing.{IsLeastAmong, lesser_vector};
+=======
+ghost use Rattle.std.specs.Prelude.{◌≡◌, ◌≤ℤ◌, ℕ, pos, All, length, IfSome, IfNone, option_copied};
+ghost use Rattle.ps_elim.specs.inner.Choosing.{IsLeastAmong, lesser_vector};
+>>>>>>> 486c394548edfe85681fb5b4eb616c85d76886ff
 
-use crate::lexicographic::is_less;
 use crate::weighted::Weighted;
 
 // The lexicographically least of the vectors whose row has a positive constant.
 pub(crate) fn least_refutation(set: &[Weighted]) -> Option<&Weighted>
+    requires { (n : ℕ) × All (λ w. length w.vector ≡ n) set.now }
     ensures least { IfSome result (λ best. IsLeastAmong set.now best.now) }
     ensures none { IfNone result (All (λ w. w.row.term.constant ≤ℤ pos 0) set.now) }
 {
@@ -22,11 +27,16 @@ pub(crate) fn least_refutation(set: &[Weighted]) -> Option<&Weighted>
 
 // This one, or the best so far where it isn't less than that.
 fn lesser<'a>(best: Option<&'a Weighted>, weighted: &'a Weighted) -> &'a Weighted
+<<<<<<< HEAD
     ensures { result.now ≡ lesser_vector (option_copied best.entry) weighted.now }
+=======
+    requires { IfSome best (λ so_far. length so_far.now.vector ≡ length weighted.now.vector) }
+    ensures { result.now ≡ lesser_vector (option_copied best.entry) weighted.now }
+>>>>>>> 486c394548edfe85681fb5b4eb616c85d76886ff
 {
     match best {
         Some(so_far) => {
-            if is_less(&weighted.vector, &so_far.vector) {
+            if weighted.vector.is_less(&so_far.vector) {
                 weighted
             } else {
                 so_far

@@ -6,7 +6,6 @@ ghost use Rattle.ps_elim.specs.inner.Marking.{differs, marked, stays_at, stays_b
 ghost use Rattle.ps_elim.specs.inner.Weighing.{IsWeighted, vectors_of};
 ghost use Rattle.ps_term.specs.declared.row.Row.{Row};
 
-use crate::lexicographic::is_less;
 use crate::weighted::Weighted;
 use std::alloc::{AllocError, Global};
 
@@ -124,7 +123,7 @@ fn stays_by(other: &Weighted, weighted: &Weighted) -> bool
     if !weighted.support.inside(&other.support) {
         return false;
     }
-    !is_less(&other.vector, &weighted.vector)
+    !other.vector.is_less(&weighted.vector)
 }
 
 fn is_new_after(others: &[Weighted], weighted: &Weighted) -> bool
@@ -151,5 +150,5 @@ fn differs(other: &Weighted, weighted: &Weighted) -> bool
     if !other.support.is_same(&weighted.support) {
         return true;
     }
-    is_less(&other.vector, &weighted.vector) || is_less(&weighted.vector, &other.vector)
+    other.vector.is_less(&weighted.vector) || weighted.vector.is_less(&other.vector)
 }

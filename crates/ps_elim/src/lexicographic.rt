@@ -1,24 +1,33 @@
-// The lexicographic order of vectors.
+// The lexicographic order of vectors, by their entries that aren't 0.
 ghost use Rattle.std.specs.Prelude.{◌≡◌};
-ghost use Rattle.ps_elim.specs.Supports.{is_less};
+ghost use Rattle.ps_elim.specs.inner.Lexicographic.{comes_before, is_lesser, is_same_pair};
 
-use crate::vector::Vector;
+use ps_term::{Var, is_before, is_same};
 
-// Whether the vector comes before the other one.
-pub(crate) fn is_less(vector: &Vector, other: &Vector) -> bool
-    ensures { result ≡ is_less vector.now other.now }
+// Whether the vector of the pairs comes before that of the others: the first pairs that differ decide.
+pub(crate) fn comes_before(pairs: &[(Var, i128)], others: &[(Var, i128)]) -> bool
+    ensures { result ≡ comes_before pairs.now others.now }
 {
-    let places = vector.places();
-    let beside = other.places();
-    for at in 0..places {
-        if at >= beside {
+    for (at, pair) in pairs.iter().enumerate() {
+        if at >= others.len() {
             return false;
         }
-        let entry = vector.entry(at);
-        let other_entry = other.entry(at);
-        if entry != other_entry {
-            return entry < other_entry;
+        if !is_same_pair(pair, &others[at]) {
+            return is_lesser(pair, &others[at]);
         }
     }
-    places < beside
+    pairs.len() < others.len()
+}
+
+// Whether the first pair stands later, so that there is a 0 at the place of the second, or has a lesser entry.
+fn is_lesser(pair: &(Var, i128), other: &(Var, i128)) -> bool
+    ensures { result ≡ is_lesser pair.now other.now }
+{
+    is_before(other.0, pair.0) || (is_same(pair.0, other.0) && pair.1 < other.1)
+}
+
+fn is_same_pair(pair: &(Var, i128), other: &(Var, i128)) -> bool
+    ensures { result ≡ is_same_pair pair.now other.now }
+{
+    is_same(pair.0, other.0) && pair.1 == other.1
 }

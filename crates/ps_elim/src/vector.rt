@@ -4,8 +4,10 @@ ghost use Rattle.std.specs.Int.{◌∣◌};
 ghost use Rattle.std.specs.List.{AllZip};
 ghost use Rattle.ps_elim.specs.Combining.{WeightedFits, weighted_entries};
 ghost use Rattle.ps_elim.specs.Divisors.{divisor_of_all};
+ghost use Rattle.ps_elim.specs.Supports.{is_less};
 ghost use Rattle.ps_elim.specs.inner.Words.{AreWordsOf};
 
+use crate::lexicographic::comes_before;
 use crate::pair::Weights;
 use crate::reduce::{divided_term, divisor_of};
 use crate::sum::weighted_sum;
@@ -108,6 +110,17 @@ impl Vector {
             entries: divided_term(alloc, &self.entries, divisor)?,
             places: self.places,
         })
+    }
+
+    // Whether the vector comes before the other one in lexicographic order, in time of the entries that aren't 0.
+    pub(crate) fn is_less(&self, other: &Vector) -> bool
+        requires { length self.now ≡ length other.now }
+        ensures { result ≡ is_less self.now other.now }
+    {
+        comes_before(
+            self.entries.pairs.as_slice(),
+            other.entries.pairs.as_slice(),
+        )
     }
 
     // A bit for each place, set where the entry isn't 0, in words of 64.

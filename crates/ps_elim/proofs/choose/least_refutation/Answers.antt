@@ -1,8 +1,9 @@
-use Rattle.std.proofs.Common.{◌≡◌, ◌++◌, ◌∷◌, ◌+◌, [], ◌∙◌, ◌≤ℤ◌, ◌<◌, ℕ, pos, List, Bor, Option, Some, None, All, IfNone, FitsSigned, ap, get_or, length, take, rules, subst, sym, arith}
+use Rattle.std.proofs.Common.{◌≡◌, ◌++◌, ◌∷◌, ◌+◌, [], ◌∙◌, ◌≤ℤ◌, ◌<◌, ℕ, pos, List, Bor, Option, Some, None, All, IfNone, IfSome, FitsSigned, ap, get_or, length, take, rules, subst, sym, arith}
 use Rattle.std.specs.Int.{w128}
 use Rattle.std.specs.Option.{option_copied}
 use Rattle.std.proofs.lemmas.Int.{ints}
 use Rattle.std.proofs.lemmas.List.{take_all, take_more}
+use Rattle.std.proofs.lemmas.List.Elements.{All-contains, All-take}
 use Rattle.ps_elim.specs.inner.Choosing.{IsLeastAmong, IsPositive}
 use Rattle.ps_elim.specs.declared.weighted.Weighted.{Weighted}
 use Rattle.ps_elim.proofs.Choosing.{IsBest, IsBest-more, IsBest-skip}
@@ -14,6 +15,17 @@ one_more ws i w l is = take_more ws i w l ∙ ap (λ (u : Weighted). take i ws +
 none_of : (ws : List Weighted) (best : Option (Bor Weighted)) → IsBest ws (option_copied best) → IfNone best (All (λ w. w.row.term.constant ≤ℤ pos 0) ws)
 none_of ws None h = h
 none_of ws (Some b) h = tt
+
+-- the best so far is as long as the next one
+as_long : (ws : List Weighted) (i n : ℕ) (w : Weighted) (best : Option (Bor Weighted)) → All (λ u. length u.vector ≡ n) ws → i < length ws → w ≡ get_or ws i w → IsBest (take i ws) (option_copied best) → IfSome best (λ b. length b.now.vector ≡ length w.vector)
+as_long ws i n w None all l is h = tt
+as_long ws i n w (Some b) all l is h =
+    let first : length b.now.vector ≡ n = All-contains (λ u. length u.vector ≡ n) (take i ws) b.now (All-take (λ u. length u.vector ≡ n) i ws all) h.is_in in
+    first ∙ sym (subst (λ (u : Weighted). length u.vector ≡ n) (sym is) (all i w l))
+
+pub lesser-requires : goal.lesser-requires
+lesser-requires c =
+    as_long c.args.set.now c.loop-weighted.weighted-index c.requires.0 c.weighted-item.result c.loop-weighted.best c.requires.1 c.loop-weighted-test.true c.weighted-item.is c.loop-weighted.invariant
 
 pub loop-weighted-preserved-then-weighted-le0 : goal.loop-weighted-preserved-then-weighted-le0
 loop-weighted-preserved-then-weighted-le0 c =

@@ -1,8 +1,13 @@
 use Rattle.std.proofs.Common.{◌≡◌, ◌+◌, ◌^◌, ◌<◌, ◌≤◌, ◌≤ℤ◌, pos, All, ℕ, List, [], ◌∷◌, drop, get_or, length, sym, ap, ◌∙◌, subst, subst₂, arith}
 use Rattle.std.proofs.lemmas.List.{append-nil, drop_all, drop_more, length-map, length_push}
+use Rattle.std.proofs.lemmas.List.Elements.{All-weaker}
 use Rattle.ps_elim.specs.Elimination.{AreStagesOf, Ends, IsLeastRefutation}
 use Rattle.ps_elim.specs.Stages.{AreStages, first_set, variables}
+<<<<<<< HEAD
 use Rattle.ps_elim.specs.inner.Weighing.{IsNextSet, vectors_of}
+=======
+use Rattle.ps_elim.specs.inner.Weighing.{IsNextSet, IsWeighted, vectors_of}
+>>>>>>> 486c394548edfe85681fb5b4eb616c85d76886ff
 use Rattle.ps_elim.specs.inner.Choosing.{IsLeastAmong}
 use Rattle.ps_elim.specs.declared.next.Next.{Next}
 use Rattle.ps_elim.specs.declared.next.Next.TheVariants.{Set, Past128}
@@ -27,6 +32,14 @@ turn rows set stages xs i e l h =
 end : (rows : List Row) (set : List Weighted) (stages : List Stage) (xs : List Var) (i : ℕ) → xs ≡ variables rows → length xs ≤ i → Eliminating rows set stages (drop i (variables rows)) → Eliminating rows set stages []
 end rows set stages xs i e l h =
     subst (λ (ys : List Var). Eliminating rows set stages ys) (drop_all i xs l) (subst (λ (ys : List Var). Eliminating rows set stages (drop i ys)) (sym e) h)
+
+-- all vectors have an entry for each row
+as_long : (rows : List Row) (ws us : List Weighted) → us ≡ ws → All (IsWeighted rows) ws → (n : ℕ) × All (λ w. length w.vector ≡ n) us
+as_long rows ws us e h = (length rows, subst (λ (vs : List Weighted). All (λ w. length w.vector ≡ length rows) vs) (sym e) (All-weaker (IsWeighted rows) (λ w. length w.vector ≡ length rows) (λ w is. is.long) ws h))
+
+pub least_refutation-requires : goal.least_refutation-requires
+least_refutation-requires c =
+    as_long c.args.rows.now c.loop-number.set.items c.as_slice-2.result.now c.as_slice-2.ensures.value c.loop-number.invariant.state.weighted
 
 pub loop-number-init : goal.loop-number-init
 loop-number-init c =

@@ -18,6 +18,9 @@ returns-then-not-inside-2 g c =
     let around = inside_by_supports v.vector u.vector v.support u.support c.inside-2.result c.requires.1.support c.requires.0.support c.inside-2.ensures in
     by_strict (is_inside u.vector v.vector) (is_inside v.vector u.vector) (is_less u.vector v.vector) (sym inside ∙ c.if-not-inside.false) (sym around ∙ c.if-not-inside-2.true)
 
+pub is_less-requires : goal.is_less-requires
+is_less-requires g c = c.requires.0.long ∙ sym c.requires.1.long
+
 pub returns : goal.returns
 returns g c =
     let u = c.args.other.now in

@@ -1,17 +1,11 @@
-use Rattle.std.proofs.Common.{◌≡◌, ℕ, List, length, sym, ap, ap₂, ◌∙◌, subst, subst₂}
+use Rattle.std.proofs.Common.{ℕ, List, sym, ap, ap₂, ◌∙◌, subst, subst₂}
 use Rattle.std.proofs.lemmas.Result.{err_from_is_err_and}
 use Rattle.ps_elim.specs.Combining.{weighted_entries}
 use Rattle.ps_elim.specs.inner.Entries.{AreEntries, entries_of}
-use Rattle.ps_elim.proofs.Entries.{EntriesFit, IsWeightedSum, entries_fit, length-entries_of, sum_entries, sum_is, sum_small, terms_fit}
+use Rattle.ps_elim.proofs.Entries.{EntriesFit, IsWeightedSum, entries_fit, same_places, sum_entries, sum_is, sum_small, terms_fit}
 use Rattle.ps_elim.proofs.Pairing.{same_error}
-use Rattle.ps_term.specs.declared.term.Term.{Term}
 use Rattle.ps_term.specs.declared.term.TermEnd.TheVariants.{Past128}
 use Rattle.ps_elim.proofs.vector.Vector.weighted_sum.Goals as goal
-
--- the two have as many places
-same_places : (p q : Term) (m n : ℕ) (u v : List ℕ) → entries_of p m ≡ u → entries_of q n ≡ v → length u ≡ length v → n ≡ m
-same_places p q m n u v e f h =
-    sym (length-entries_of q n) ∙ (ap (λ (ns : List ℕ). length ns) f ∙ (sym h ∙ (sym (ap (λ (ns : List ℕ). length ns) e) ∙ length-entries_of p m)))
 
 pub returns-in_err-weighted_sum-clause-past : goal.returns-in_err-weighted_sum-clause-past
 returns-in_err-weighted_sum-clause-past c =
