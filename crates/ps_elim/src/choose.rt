@@ -1,11 +1,6 @@
 // The vector that an elimination answers.
-<<<<<<< HEAD
-ghost use Rattle.std.specs.Prelude.{◌≡◌, ◌≤ℤ◌, pos, All, IfSome, IfNone, option_copied};
-ghost use Rattle.ps_elim.specs.inner.Choosing.{IsLeastAmong, lesser_vector};
-=======
 ghost use Rattle.std.specs.Prelude.{◌≡◌, ◌≤ℤ◌, ℕ, pos, All, length, IfSome, IfNone, option_copied};
 ghost use Rattle.ps_elim.specs.inner.Choosing.{IsLeastAmong, lesser_vector};
->>>>>>> 486c394548edfe85681fb5b4eb616c85d76886ff
 
 use crate::weighted::Weighted;
 
@@ -27,12 +22,8 @@ pub(crate) fn least_refutation(set: &[Weighted]) -> Option<&Weighted>
 
 // This one, or the best so far where it isn't less than that.
 fn lesser<'a>(best: Option<&'a Weighted>, weighted: &'a Weighted) -> &'a Weighted
-<<<<<<< HEAD
-    ensures { result.now ≡ lesser_vector (option_copied best.entry) weighted.now }
-=======
     requires { IfSome best (λ so_far. length so_far.now.vector ≡ length weighted.now.vector) }
     ensures { result.now ≡ lesser_vector (option_copied best.entry) weighted.now }
->>>>>>> 486c394548edfe85681fb5b4eb616c85d76886ff
 {
     match best {
         Some(so_far) => {

@@ -3,11 +3,7 @@ use Rattle.std.proofs.lemmas.List.{append-nil, drop_all, drop_more, length-map, 
 use Rattle.std.proofs.lemmas.List.Elements.{All-weaker}
 use Rattle.ps_elim.specs.Elimination.{AreStagesOf, Ends, IsLeastRefutation}
 use Rattle.ps_elim.specs.Stages.{AreStages, first_set, variables}
-<<<<<<< HEAD
-use Rattle.ps_elim.specs.inner.Weighing.{IsNextSet, vectors_of}
-=======
 use Rattle.ps_elim.specs.inner.Weighing.{IsNextSet, IsWeighted, vectors_of}
->>>>>>> 486c394548edfe85681fb5b4eb616c85d76886ff
 use Rattle.ps_elim.specs.inner.Choosing.{IsLeastAmong}
 use Rattle.ps_elim.specs.declared.next.Next.{Next}
 use Rattle.ps_elim.specs.declared.next.Next.TheVariants.{Set, Past128}
