@@ -35,7 +35,8 @@ use Rattle.ps_triple.specs.Tests.{IsAtomOf}
 use Rattle.ps_triple.specs.Validity.{worth, HoldsOf, IsTrueIn, IsValidTriple, IsTrueAtFirst}
 use Rattle.ps_triple.specs.declared.initial.Initial.{Initial}
 use Rattle.ps_triple.specs.declared.triple.Triple.{Triple}
-use Rattle.ps_triple.proofs.Membership.{all_of, any_default, mapped}
+use Rattle.ps_list.proofs.Mapped.{mapped}
+use Rattle.ps_triple.proofs.Membership.{all_of, any_default}
 use Rattle.ps_triple.proofs.Sound.{holds_after, holds_at_first}
 
 past : {X : Type 0} (xs : List X) (k : ℕ) (d : X) → length xs ≤ k → get_or xs k d ≡ d

@@ -1,18 +1,10 @@
--- Membership of mapped lists, and members of places that are there.
-use Rattle.std.proofs.Common.{◌≡◌, ◌<◌, ℕ, zero, suc, List, [], ◌∷◌, map, length, get_or, inl, inr, refl, subst, Contains, All, arith}
+-- What holds of each member, and members of places that are there.
+use Rattle.std.proofs.Common.{◌≡◌, ◌<◌, ℕ, zero, suc, List, [], ◌∷◌, length, get_or, refl, Contains, All, arith}
 use Rattle.std.proofs.lemmas.List.Elements.{All-weaker, All-contains_itself}
-use Rattle.ps_list.proofs.Members.{nothing, cons_cases, here, there}
 
 -- what holds of each member holds of all
 pub all_of : {X : Type 0} (P : X → Type 0) (xs : List X) → ((x : X) → Contains xs x → P x) → All P xs
 all_of P xs f = All-weaker (Contains xs) P f xs (All-contains_itself xs)
-
-pub mapped : {X Y : Type 0} (f : X → Y) (xs : List X) (x : X) → Contains xs x → Contains (map f xs) (f x)
-mapped f [] x h = absurd (nothing x h)
-mapped f (y ∷ xs) x h = elim (cons_cases y xs x h) [
-  | inl e ↦ subst (λ z. Contains (f y ∷ map f xs) (f z)) e (here (f y) (map f xs))
-  | inr r ↦ there (f y) (map f xs) (f x) (mapped f xs x r)
-]
 
 -- a place that is there has its member whatever else stands past the end
 pub any_default : {X : Type 0} (xs : List X) (k : ℕ) (c d : X) → k < length xs → get_or xs k c ≡ get_or xs k d

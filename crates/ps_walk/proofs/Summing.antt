@@ -1,15 +1,14 @@
 -- Terms at values: what is done, with what is left, is all; and a variable taken out.
 use Rattle.std.proofs.Common.{◌≡◌, ◌↔◌, ℕ, ◌<◌, ◌+◌, ℤ, pos, ◌+ℤ◌, ◌*ℤ◌, Bool, true, false, not, cond, if◌then◌else◌, List, [], ◌∷◌, length, get_or, drop, Option, Some, None, SomeIff, FitsSigned, refl, sym, ap, ◌∙◌, subst, arith}
 use Rattle.std.specs.Int.{w128}
-use Rattle.std.proofs.lemmas.Bool.Decides.{nat_tests}
 use Rattle.std.proofs.lemmas.Int.{ints}
 use Rattle.std.proofs.lemmas.List.{drop_more}
 use Rattle.ps_term.specs.declared.var.Var.{Var}
-use Rattle.ps_term.specs.declared.var.Var.TheVariants.{Global, Local, Havoc}
 use Rattle.ps_term.specs.Pairs.{coefficient, pairs_value}
 use Rattle.ps_term.specs.Sums.{ScaledFits}
 use Rattle.ps_term.specs.Var.{var_eq}
 use Rattle.ps_term.proofs.Ring.{distribute_right, mul-zero, zero-mul}
+use Rattle.ps_term.proofs.Variables.{var_eq_sym}
 use Rattle.ps_walk.specs.inner.Findings.{others, values_beside}
 use Rattle.ps_term.specs.Evaluation.{EvaluationFitsFrom}
 use Rattle.ps_walk.specs.Values.{with_number, without}
@@ -36,17 +35,6 @@ pub Summed-past : (v : Var → ℤ) (ps qs : List (Var × ℤ)) (c s k : ℤ) (i
 Summed-past v ps qs c s k i d w h e past f =
     let here : EvaluationFitsFrom v s (get_or qs i d ∷ drop (i + 1) qs) c = subst (λ (rs : List (Var × ℤ)). EvaluationFitsFrom v s rs c) (drop_more qs i d h) (w.fit f) in
     past (subst (λ (z : ℤ). ScaledFits s (get_or qs i d).1 z) (sym e) here.0)
-
-pub var_eq_sym : (a b : Var) → var_eq a b ≡ var_eq b a
-var_eq_sym (Global m) (Global n) = grind (arith, nat_tests)
-var_eq_sym (Local s m) (Local t n) = grind (arith, nat_tests)
-var_eq_sym (Havoc m) (Havoc n) = grind (arith, nat_tests)
-var_eq_sym (Global _) (Local _ _) = refl
-var_eq_sym (Global _) (Havoc _) = refl
-var_eq_sym (Local _ _) (Global _) = refl
-var_eq_sym (Local _ _) (Havoc _) = refl
-var_eq_sym (Havoc _) (Global _) = refl
-var_eq_sym (Havoc _) (Local _ _) = refl
 
 -- a variable's part of a sum, and the rest
 pub split_value : (v : Var → ℤ) (x : Var) (n : ℤ) (ps : List (Var × ℤ)) → pairs_value (with_number x n v) ps ≡ ((coefficient x ps *ℤ n) +ℤ pairs_value v (without x ps))
