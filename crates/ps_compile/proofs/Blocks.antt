@@ -1,5 +1,5 @@
 -- The layout of statements with blocks, with their blocks as lists.
-use Rattle.std.proofs.Common.{◌≡◌, true, false, refl, sym, ◌∙◌, ap, ap₂, subst, ℕ, zero, suc, ◌+◌, ◌<◌, List, [], ◌∷◌, ◌++◌, map, length, replicate, Option, Some, arith, length-append, append_assoc, Result, drop, get_or, drop-cons}
+use Rattle.std.proofs.Common.{◌≡◌, true, false, refl, sym, ◌∙◌, ap, ap₂, subst, ℕ, suc, ◌+◌, ◌<◌, List, [], ◌∷◌, ◌++◌, map, length, replicate, Option, Some, arith, length-append, append_assoc, Result, drop, get_or, drop-cons}
 use Rattle.std.proofs.lemmas.List.{length-replicate, replicate-append-replicate}
 use Rattle.ps_compile.specs.Checks.{NoneIsExceeded, alternatives_checks, paths_checks, edges_checks, inner_checks, checks}
 use Rattle.ps_graph.specs.Follows.{going_to}

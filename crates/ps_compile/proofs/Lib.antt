@@ -14,6 +14,7 @@ pub mod Meets
 pub mod Members
 pub mod Numbering
 pub mod OneWay
+pub mod Parts
 pub mod Planning
 pub mod Products
 pub mod Readable

@@ -1,5 +1,5 @@
 -- The plan of a whole body, and what its edges keep.
-use Rattle.std.proofs.Common.{◌≡◌, Bool, true, false, refl, sym, ◌∙◌, ap, ap₂, subst, ℕ, zero, suc, ◌+◌, ◌<◌, ◌^◌, List, [], ◌∷◌, ◌++◌, map, length, replicate, arith, if◌then◌else◌, Option, Some, None}
+use Rattle.std.proofs.Common.{◌≡◌, Bool, true, false, sym, ◌∙◌, ap, ap₂, subst, ℕ, suc, ◌+◌, ◌<◌, ◌^◌, List, [], ◌∷◌, ◌++◌, map, length, replicate, arith, if◌then◌else◌, Option, Some, None}
 use Rattle.std.specs.List.{AllByRecursion}
 use Rattle.ps_command.specs.Form.{FormFits}
 use Rattle.std.proofs.lemmas.List.{length-replicate, map-append, replicate-append-replicate}

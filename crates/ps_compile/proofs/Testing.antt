@@ -1,5 +1,5 @@
 -- Tests one after another, and sites one after another.
-use Rattle.std.proofs.Common.{◌≡◌, refl, sym, ◌∙◌, ap, ap₂, subst, ℕ, zero, suc, ◌+◌, List, [], ◌∷◌, ◌++◌, map, length, replicate, inl, inr, arith, Option, Some, Result, Ok, Err, length-append, append_assoc, append-nil}
+use Rattle.std.proofs.Common.{◌≡◌, refl, sym, ◌∙◌, ap, ap₂, subst, ℕ, ◌+◌, List, [], ◌∷◌, ◌++◌, map, length, replicate, inl, inr, arith, Option, Some, Result, Ok, Err, length-append, append_assoc, append-nil}
 use Rattle.std.proofs.lemmas.List.{length-map, map-append, replicate-append-replicate}
 use Rattle.ps_command.specs.declared.op.Op.{Op}
 use Rattle.ps_compile.specs.Checks.{Check, NoneIsExceeded, IsFirstExceeded, alternatives_checks, paths_checks, edges_checks, commands_of, site_checks, inner_checks, checks}

@@ -1,4 +1,5 @@
 -- What only clauses within the crate speak of.
+pub mod Compilable
 pub mod Counts
 pub mod Drafts
 pub mod Inside
@@ -10,3 +11,4 @@ pub mod Numbered
 pub mod Plans
 pub mod Routes
 pub mod Settings
+pub mod Weights

@@ -1,6 +1,7 @@
 // The edges of statements, before their commands have numbers.
 ghost use Rattle.std.specs.Prelude.{◌≡◌, ◌++◌, true, false, IfOk, OnOk, map};
 ghost use Rattle.ps_compile.specs.Layout.{planned_from};
+ghost use Rattle.ps_compile.specs.inner.Compilable.{StmtIsCompilable, TestIsCompilable};
 ghost use Rattle.ps_compile.specs.inner.Drafts.{draft_from, draft_of};
 ghost use Rattle.ps_graph.specs.Follows.{going_to};
 ghost use Rattle.ps_graph.specs.Paths.{paths, ways};
@@ -18,6 +19,7 @@ pub(crate) fn drafts_of(
     a: usize,
     b: usize,
 ) -> Result<Vec<Draft>, AllocError>
+    requires { StmtIsCompilable kind.now }
     ensures { IfOk result
         (λ due. due.items ≡ map draft_of (planned_from a (going_to b (paths kind.now)))) }
 {
@@ -35,6 +37,7 @@ pub(crate) fn drafts_of_test(
     b: usize,
     c: usize,
 ) -> Result<Vec<Draft>, AllocError>
+    requires { TestIsCompilable test.now }
     ensures { IfOk result (λ due. due.items ≡ map draft_of
         (planned_from a (going_to b (ways true test.now) ++ going_to c (ways false test.now)))) }
 {

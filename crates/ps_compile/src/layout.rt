@@ -3,6 +3,7 @@ ghost use Rattle.std.specs.Prelude.{◌≡◌, ◌∷◌, [], ◌++◌, ◌+◌,
 ghost use Rattle.ps_compile.specs.Checks.{checks};
 ghost use Rattle.ps_compile.specs.Layout.{inner, inner_of, opened_of, own_site, sites, sites_of, block_start};
 ghost use Rattle.ps_compile.specs.Ends.{IsCompileEnd};
+ghost use Rattle.ps_compile.specs.inner.Compilable.{BlockIsCompilable, StmtIsCompilable, TestIsCompilable};
 ghost use Rattle.ps_compile.specs.inner.Drafts.{Lays, OpensIf, OpensWhile, if_site, while_site};
 ghost use Rattle.ps_graph.specs.Follows.{going_to};
 ghost use Rattle.ps_graph.specs.Paths.{paths};
@@ -25,6 +26,7 @@ pub(crate) fn lay_block(
     z: usize,
     plan: &mut Plan,
 ) -> Result<(), CompileEnd>
+    requires { BlockIsCompilable block.now }
     ensures { Lays result 0 plan.old plan.new
         (sites_of block.now a z (length plan.old.owners.items)) (inner_of block.now) }
 {
@@ -52,6 +54,7 @@ fn lay_stmt(
     b: usize,
     plan: &mut Plan,
 ) -> Result<(), CompileEnd>
+    requires { StmtIsCompilable stmt.now.kind }
     ensures { Lays result 0 plan.old plan.new
         (sites stmt.now.place stmt.now.kind a b (length plan.old.owners.items)) (inner stmt.now.kind) }
 {
@@ -98,6 +101,7 @@ fn lay_simple(
     b: usize,
     plan: &mut Plan,
 ) -> Result<(), CompileEnd>
+    requires { StmtIsCompilable kind.now }
     ensures { Lays result 0 plan.old plan.new
         (own_site place kind.now a (length plan.old.owners.items) (going_to b (paths kind.now)) ∷ [])
         0 }
@@ -128,6 +132,7 @@ fn open_if(
     b: usize,
     plan: &mut Plan,
 ) -> Result<(usize, usize), CompileEnd>
+    requires { TestIsCompilable test.now }
     ensures { MatchResult result
         (OpensIf 0 plan.old plan.new place kind.now test.now held.now failed.now a b)
         (IsCompileEnd (checks (length plan.old.drafts.items)
@@ -166,6 +171,7 @@ fn open_while(
     b: usize,
     plan: &mut Plan,
 ) -> Result<usize, CompileEnd>
+    requires { TestIsCompilable test.now }
     ensures { MatchResult result
         (OpensWhile 0 plan.old plan.new place kind.now test.now block.now a b)
         (IsCompileEnd (checks (length plan.old.drafts.items)

@@ -1,5 +1,6 @@
 // The paths of statements that are run in one go, as routes.
 ghost use Rattle.std.specs.Prelude.{◌≡◌, ◌++◌, ◌∷◌, [], true, false, map, IfOk, OnOk};
+ghost use Rattle.ps_compile.specs.inner.Compilable.{BlockIsCompilable, CondIsCompilable, StmtIsCompilable, SumIsCompilable, TestIsCompilable};
 ghost use Rattle.ps_compile.specs.inner.Counts.{paths_of};
 ghost use Rattle.ps_compile.specs.inner.Drafts.{route_of};
 ghost use Rattle.ps_compile.specs.inner.Routes.{after_all, after_one, assigned_route, cond_paths, guarded_route};
@@ -17,6 +18,7 @@ use std::alloc::{AllocError, Global};
 // The paths of a statement, in order. It is called only where they are at most 64.
 #[cycle(routes)]
 pub(crate) fn stmt_routes(alloc: Global, kind: &StmtKind) -> Result<Vec<Route>, AllocError>
+    requires { StmtIsCompilable kind.now }
     ensures { IfOk result (λ routes. routes.items ≡ map route_of (paths kind.now)) }
 {
     match kind {
@@ -43,6 +45,7 @@ pub(crate) fn stmt_routes(alloc: Global, kind: &StmtKind) -> Result<Vec<Route>, 
 // The paths of a block, from its last statement to its first.
 #[cycle(routes)]
 fn block_routes(alloc: Global, block: &[Stmt]) -> Result<Vec<Route>, AllocError>
+    requires { BlockIsCompilable block.now }
     ensures { IfOk result (λ routes. routes.items ≡ map route_of (paths_of block.now)) }
 {
     let mut all = one(alloc, Route::empty(alloc))?;
@@ -55,6 +58,7 @@ fn block_routes(alloc: Global, block: &[Stmt]) -> Result<Vec<Route>, AllocError>
 
 // The ways in which a test holds, or fails.
 pub(crate) fn ways_routes(alloc: Global, test: &Test, holds: bool) -> Result<Vec<Route>, AllocError>
+    requires { TestIsCompilable test.now }
     ensures { IfOk result (λ routes. routes.items ≡ map route_of (ways holds test.now)) }
 {
     match test {
@@ -65,6 +69,7 @@ pub(crate) fn ways_routes(alloc: Global, test: &Test, holds: bool) -> Result<Vec
 
 // Those of an assertion: first those on which it holds.
 fn assert_routes(alloc: Global, cond: &Cond) -> Result<Vec<Route>, AllocError>
+    requires { CondIsCompilable cond.now }
     ensures { IfOk result (λ routes. routes.items ≡
         map route_of (cond_paths true false cond.now ++ cond_paths false true cond.now)) }
 {
@@ -81,19 +86,13 @@ fn cond_routes(
     holds: bool,
     fails: bool,
 ) -> Result<Vec<Route>, AllocError>
+    requires { CondIsCompilable cond.now }
     ensures { IfOk result (λ routes. routes.items ≡ map route_of (cond_paths holds fails cond.now)) }
 {
     match alternatives_of(alloc, holds, cond) {
         Ok(alternatives) => guarded_routes(alloc, alternatives, fails),
-        Err(end) => Err(memory_end(end)),
-    }
-}
-
-// Want of memory. A term leaves 128 bits only in what can't be compiled, as the calls that make terms say: never here.
-fn memory_end(end: TermEnd) -> AllocError {
-    match end {
-        TermEnd::Memory(end) => end,
-        TermEnd::Past128 => AllocError,
+        Err(TermEnd::Memory(end)) => Err(end),
+        Err(TermEnd::Past128) => unreachable!(),
     }
 }
 
@@ -133,11 +132,13 @@ fn guarded(alloc: Global, rows: Sequence<Row>, fails: bool) -> Result<Route, All
 
 // The route of an assignment.
 fn assign_route(alloc: Global, variable: Var, sum: &Sum) -> Result<Route, AllocError>
+    requires { SumIsCompilable sum.now }
     ensures { IfOk result (λ route. route ≡ route_of (Assigns variable sum.now ∷ [])) }
 {
     match sum_term(alloc, sum) {
         Ok(term) => assigned(alloc, variable, term),
-        Err(end) => Err(memory_end(end)),
+        Err(TermEnd::Memory(end)) => Err(end),
+        Err(TermEnd::Past128) => unreachable!(),
     }
 }
 
