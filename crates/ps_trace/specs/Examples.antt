@@ -12,7 +12,7 @@ use Rattle.ps_term.specs.declared.term.Term.{Term}
 use Rattle.ps_term.specs.declared.var.Var.{Var}
 use Rattle.ps_term.specs.declared.var.Var.TheVariants.{Global, Local, Havoc}
 use Rattle.ps_trace.specs.Replay.{along_first}
-use Rattle.ps_trace.specs.Rows.{SoFar, after_letter, letter_rows, nothing_yet, rows_of_threads, threads_of}
+use Rattle.ps_trace.specs.Rows.{SoFar, after_letter, letter_rows, nothing_yet, rows_of_each, threads_in_trace}
 use Rattle.ps_trace.specs.Traces.{IsErrorTraceOf, IsFeasibleTraceOf}
 use Rattle.ps_trace.specs.declared.step.Step.{Step}
 use Rattle.ps_trace.specs.declared.trace.IndexedTrace.{IndexedTrace}
@@ -106,8 +106,8 @@ LettersAsk =
 abbrev pub ThreadsStart : Type 0
 ThreadsStart =
     let letters : List (ℕ × ℕ) = (3, 0) ∷ (1, 5) ∷ (3, 2) ∷ [] in
-    (threads_of letters ≡ 1 ∷ 3 ∷ [])
-    × (rows_of_threads (row ((Local 0 0, pos 1) ∷ []) (pos 0) ∷ []) (1 ∷ 3 ∷ [])
+    (threads_in_trace letters ≡ 1 ∷ 3 ∷ [])
+    × (rows_of_each (row ((Local 0 0, pos 1) ∷ []) (pos 0) ∷ []) (1 ∷ 3 ∷ [])
     ≡ row ((Local 1 0, pos 1) ∷ []) (pos 0) ∷ row ((Local 3 0, pos 1) ∷ []) (pos 0) ∷ [])
 
 -- ---- replays

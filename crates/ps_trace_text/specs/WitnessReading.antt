@@ -4,7 +4,7 @@ use Rattle.ps_lines.specs.declared.form_fault.FormFault.{FormFault}
 use Rattle.ps_lines.specs.declared.form_name.FormName.{FormName}
 use Rattle.ps_lines.specs.declared.form_name.FormName.TheVariants as name
 use Rattle.ps_lines.specs.declared.until.Until.TheVariants.{LineEnd}
-use Rattle.ps_lines.specs.Reading.{At, Read, ◌>>=◌, leaf_at, natural32, integer, word_at, line_at, end_at, only_at, done_at, header_at, list_at, while_at}
+use Rattle.ps_lines.specs.Reading.{Position, Read, ◌>>=◌, leaf_at, natural32, integer, word_at, line_at, end_at, only_at, done_at, header_at, list_at, while_at}
 use Rattle.ps_lines.specs.Until.{goes}
 use Rattle.ps_trace.specs.declared.step.Step.{Step}
 use Rattle.ps_trace.specs.declared.witness.Witness.{Witness}
@@ -67,7 +67,7 @@ step_at at = do
   Ok (record { thread = thread.0; choices = choices.0 }, choices.1)
 
 -- The whole text, and nothing after it.
-unfoldable pub witness_at : At → Result Witness FormFault
+unfoldable pub witness_at : Position → Result Witness FormFault
 witness_at at = do
   v ← version_at at
   count ← header_at (codes "threads") 4096 v.1

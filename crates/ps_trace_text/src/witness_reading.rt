@@ -1,7 +1,7 @@
 //! Reading witnesses, with the first fault.
 ghost use Rattle.std.specs.Prelude.{◌≡◌, ◌+◌, ◌<◌, ◌≤◌, ◌^◌, length, IfOk, None, Ok};
 ghost use Rattle.ps_lines.specs.Tokens.{text_bytes};
-ghost use Rattle.ps_lines.specs.Reading.{start, Gives, Reads, Tells};
+ghost use Rattle.ps_lines.specs.Reading.{text_start, Gives, Reads, Tells};
 ghost use Rattle.ps_trace.specs.declared.witness.Witness.{Witness};
 ghost use Rattle.ps_trace_text.specs.WitnessReading.{all_locals_at, globals_at, locals_at, step_at, values_at, version_at, witness_at};
 ghost use Rattle.ps_trace_text.specs.WitnessSpelling.{witness_lines, WitnessFits};
@@ -100,7 +100,7 @@ impl Form for StepLine {
 fn whole(alloc: Global, bytes: &[u8], first: u32) -> Result<Witness, FormEnd>
     requires from_one { 1 ≤ first }
     requires room { first + length bytes.now < 2 ^ 32 }
-    ensures { Tells (λ x. x) result (witness_at (start first bytes.now)) }
+    ensures { Tells (λ x. x) result (witness_at (text_start first bytes.now)) }
 {
     let mut reader = Reader::new(bytes, first);
     take_version(&mut reader)?;
@@ -131,7 +131,7 @@ pub fn read_witness(alloc: Global, bytes: &[u8], first: u32) -> Result<Witness, 
     ensures only { (witness : Witness) → WitnessFits witness
         → bytes.now ≡ text_bytes (witness_lines witness) → Tells (λ x. x) result (Ok witness) }
     // Which fault it is.
-    ensures exact { Tells (λ x. x) result (witness_at (start first bytes.now)) }
+    ensures exact { Tells (λ x. x) result (witness_at (text_start first bytes.now)) }
 {
     whole(alloc, bytes, first)
 }
