@@ -4,6 +4,7 @@ pub mod Caps
 pub mod Counted
 pub mod Counting
 pub mod Declaring
+pub mod Determined
 pub mod Examples
 pub mod Facts
 pub mod Graphs

@@ -1,5 +1,5 @@
 //! What is true of the graph of a program: each function does no work, and its clause is the fact.
-ghost use Rattle.std.specs.Prelude.{List, ℕ};
+ghost use Rattle.std.specs.Prelude.{◌≡◌, List, ℕ};
 ghost use Rattle.ps_command.specs.declared.command.Command.{Command};
 ghost use Rattle.ps_compile.specs.Compiled.{IsCompiled, IsLaidOut, NoneIsNotEqual};
 ghost use Rattle.ps_compile.specs.Conditions.{IsCompilable};
@@ -44,4 +44,14 @@ pub fn programs_are_compilable()
     ensures read { (bytes : List ℕ) (program : Program)
         → IsProgram bytes program → IsCompilable program }
     ensures trees { (program : Program) → IsTreeOfText program → IsCompilable program }
+{}
+
+/// The edges and commands of a program's graph are determined; what else stands in it is told by equations
+/// of the definition.
+pub fn one_graph_is_compiled()
+    ensures edges { (program : Program) (graph other : Graph)
+        → IsCompiled program graph → IsCompiled program other → graph.edges ≡ other.edges }
+    ensures commands { (program : Program) (graph other : Graph)
+        → IsCompiled program graph → IsCompiled program other
+        → graph.setting.commands ≡ other.setting.commands }
 {}
