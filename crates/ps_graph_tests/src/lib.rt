@@ -6,4 +6,6 @@ mod graphs;
 #[cfg(test)]
 mod replays;
 #[cfg(test)]
+mod texts;
+#[cfg(test)]
 mod traces;
