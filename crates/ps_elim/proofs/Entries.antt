@@ -16,7 +16,8 @@ use Rattle.ps_elim.specs.inner.Weights.{TermsFit}
 use Rattle.ps_elim.proofs.Gcds.{divisor_of_all-common, divisor_of_all-greatest}
 use Rattle.ps_elim.proofs.Rows.{below_first, divides_pairs, zero_fits}
 use Rattle.ps_elim.proofs.Sums.{length-weighted_entries, product_zero}
-use Rattle.ps_term.specs.Factors.{DividesAll, IsCommonFactor}
+use Rattle.ps_term.specs.Factors.{DividesAll}
+use Rattle.ps_term.specs.inner.Common.{IsCommonFactor}
 use Rattle.ps_term.specs.Pairs.{IsCanonical, coefficient}
 use Rattle.ps_term.specs.Term.{variable_term}
 use Rattle.ps_term.specs.Var.{var_eq}

@@ -5,7 +5,7 @@ ghost use Rattle.ps_elim.specs.Divisors.{reduced};
 ghost use Rattle.ps_elim.specs.Places.{support_of};
 ghost use Rattle.ps_elim.specs.Vectors.{IsSum};
 ghost use Rattle.ps_elim.specs.inner.Weighing.{IsWeighted};
-ghost use Rattle.ps_term.specs.Factors.{IsCommonFactor};
+ghost use Rattle.ps_term.specs.inner.Common.{IsCommonFactor};
 ghost use Rattle.ps_term.specs.Pairs.{coefficient};
 ghost use Rattle.ps_term.specs.declared.row.Row.{Row};
 ghost use Rattle.ps_term.specs.declared.var.Var.{Var};

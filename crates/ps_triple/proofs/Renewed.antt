@@ -1,15 +1,15 @@
 -- What renamed rows are worth, and how their pairs are made from the last to the first.
-use Rattle.std.proofs.Common.{◌≡◌, ◌≢◌, ◌<◌, ℕ, zero, suc, ℤ, pos, ◌+ℤ◌, ◌*ℤ◌, Bool, true, false, List, [], ◌∷◌, length, get_or, drop, if◌then◌else◌, refl, ap, ◌∙◌, All, AllPairs, arith}
+use Rattle.std.proofs.Common.{◌≡◌, ◌≢◌, ◌<◌, ℕ, zero, suc, ℤ, pos, ◌+ℤ◌, ◌*ℤ◌, Bool, true, false, Ordering, List, [], ◌∷◌, length, get_or, drop, if◌then◌else◌, refl, ap, ◌∙◌, All, AllPairs, arith}
 use Rattle.std.specs.BTreeMap.{insert_entry}
 use Rattle.std.specs.List.{AllByRecursion}
-use Rattle.std.specs.Ordering.{int_eq}
+use Rattle.std.specs.Ordering.{int_eq, match_ordering}
 use Rattle.std.proofs.lemmas.Bool.{true≢false}
 use Rattle.std.proofs.lemmas.Int.{ints}
 use Rattle.std.proofs.lemmas.List.Elements.{recursion_from_All}
-use Rattle.ps_term.proofs.Adding.{put_is}
+use Rattle.ps_term.proofs.Comparing.{by_order, cmp_is}
 use Rattle.ps_term.proofs.ExactTerms.{pair_value, pair_canonical}
 use Rattle.ps_term.proofs.Variables.{var_eq-true}
-use Rattle.ps_term.specs.inner.Accumulated.{put, var_cmp}
+use Rattle.ps_term.specs.contracts.var.VarOrd.TheImpl as var_ord
 use Rattle.ps_term.specs.Exact.{kept_before, with_pair}
 use Rattle.ps_term.specs.Pairs.{IsCanonical, pairs_value}
 use Rattle.ps_term.specs.Term.{value}
@@ -33,6 +33,23 @@ pairs_canonical new (p ∷ ps) = pair_canonical (new p.0) p.1 (pairs_by new ps) 
 pub row_worth : (new : Var → Var) (v : Var → ℤ) (r : Row) → value v (row_by new r).term ≡ value (λ x. v (new x)) r.term
 row_worth new v r = ap (λ (z : ℤ). z +ℤ r.term.constant) (pairs_worth new v r.term.pairs)
 
+-- ---- the map
+
+-- the order of variables, as maps have it
+abbrev pub var_cmp : Var → Var → Ordering
+var_cmp = (var_ord.ghosts).cmp
+
+-- the list with this number for the variable, as a map enters it
+abbrev entered : Var → ℤ → List (Var × ℤ) → List (Var × ℤ)
+entered x n [] = (x, n) ∷ []
+entered x n (p ∷ ps) = if var_eq x p.0 then (p.0, n) ∷ ps else (if var_lt x p.0 then (x, n) ∷ p ∷ ps else p ∷ entered x n ps)
+
+entered_is : (x : Var) (n : ℤ) (ps : List (Var × ℤ)) → insert_entry var_cmp ps x n ≡ entered x n ps
+entered_is x n [] = refl
+entered_is x n (p ∷ ps) =
+    ap (λ (o : Ordering). match_ordering o ((x, n) ∷ p ∷ ps) ((p.0, n) ∷ ps) (p ∷ insert_entry var_cmp ps x n)) (cmp_is x p.0)
+    ∙ by_order (var_eq x p.0) (var_lt x p.0) ((x, n) ∷ p ∷ ps) ((p.0, n) ∷ ps) (p ∷ insert_entry var_cmp ps x n) (p ∷ entered x n ps) (ap (λ (qs : List (Var × ℤ)). p ∷ qs) (entered_is x n ps))
+
 -- ---- a pair of a variable that doesn't stand among the others
 abbrev pub IsFresh : Var → List (Var × ℤ) → Type 0
 IsFresh x ps = AllByRecursion (λ (q : Var × ℤ). var_eq x q.0 ≡ false) ps
@@ -54,12 +71,12 @@ kept x n ps h = at (int_eq n (pos 0)) refl
         is_zero m e = grind (arith, ints)
     at false e = refl
 
-with_fresh : (x : Var) (n : ℤ) (ps : List (Var × ℤ)) → IsFresh x ps → n ≢ pos 0 → put x n ps ≡ with_pair x n ps
+with_fresh : (x : Var) (n : ℤ) (ps : List (Var × ℤ)) → IsFresh x ps → n ≢ pos 0 → entered x n ps ≡ with_pair x n ps
 with_fresh x n [] f h = kept x n [] h
 with_fresh x n (p ∷ ps) f h = by_tests (var_eq x p.0) f.0 (var_lt x p.0) (with_fresh x n ps f.1 h)
   where
-    by_tests : (t : Bool) → t ≡ false → (u : Bool) → put x n ps ≡ with_pair x n ps →
-        (if t then (p.0, n) ∷ ps else (if u then (x, n) ∷ p ∷ ps else p ∷ put x n ps))
+    by_tests : (t : Bool) → t ≡ false → (u : Bool) → entered x n ps ≡ with_pair x n ps →
+        (if t then (p.0, n) ∷ ps else (if u then (x, n) ∷ p ∷ ps else p ∷ entered x n ps))
         ≡ (if t then kept_before x (n +ℤ p.1) ps else if u then kept_before x n (p ∷ ps) else p ∷ with_pair x n ps)
     by_tests true e u r = absurd (true≢false e)
     by_tests false e true r = kept x n (p ∷ ps) h
@@ -90,7 +107,7 @@ abbrev pub AreApart : (Var → Var) → List (Var × ℤ) → Type 0
 AreApart new ps = IsChain (λ (p q : Var × ℤ). new p.0 ≢ new q.0) ps
 
 one_more : (new : Var → Var) (ps : List (Var × ℤ)) (i : ℕ) (d : Var × ℤ) → AreApart new ps → IsCanonical ps → i < length ps →
-    put (new (get_or ps i d).0) (get_or ps i d).1 (pairs_by new (drop (suc i) ps)) ≡ pairs_by new (drop i ps)
+    entered (new (get_or ps i d).0) (get_or ps i d).1 (pairs_by new (drop (suc i) ps)) ≡ pairs_by new (drop i ps)
 one_more new [] i d a c l = let none : ⊥ = omega (arith, l) in absurd none
 one_more new (p ∷ ps) zero d a c l = with_fresh (new p.0) p.1 (pairs_by new ps) (fresh_in new (new p.0) ps a.0) c.0
 one_more new (p ∷ ps) (suc i) d a c l = one_more new ps i d a.1 c.2 (omega (arith, l))
@@ -98,8 +115,8 @@ one_more new (p ∷ ps) (suc i) d a c l = one_more new ps i d a.1 c.2 (omega (ar
 pub taken_more : (new : Var → Var) (ps entries : List (Var × ℤ)) (i after : ℕ) (d : Var × ℤ) → AreApart new ps → IsCanonical ps → i < length ps → after ≡ suc i →
     entries ≡ pairs_by new (drop after ps) → insert_entry var_cmp entries (new (get_or ps i d).0) (get_or ps i d).1 ≡ pairs_by new (drop i ps)
 taken_more new ps entries i after d a c l e is =
-    put_is (new (get_or ps i d).0) (get_or ps i d).1 entries
-    ∙ (ap (λ (qs : List (Var × ℤ)). put (new (get_or ps i d).0) (get_or ps i d).1 qs) (is ∙ ap (λ (n : ℕ). pairs_by new (drop n ps)) e)
+    entered_is (new (get_or ps i d).0) (get_or ps i d).1 entries
+    ∙ (ap (λ (qs : List (Var × ℤ)). entered (new (get_or ps i d).0) (get_or ps i d).1 qs) (is ∙ ap (λ (n : ℕ). pairs_by new (drop n ps)) e)
     ∙ one_more new ps i d a c l)
 
 -- with threads for slots

@@ -2,11 +2,10 @@ use Rattle.std.proofs.Common.{◌+◌, ◌-◌, ◌∙◌, ℕ, ℤ, pos, FitsSi
 use Rattle.std.specs.BTreeMap.{insert_entry}
 use Rattle.std.specs.Int.{w128}
 use Rattle.std.proofs.lemmas.Int.{to_z-of_z}
-use Rattle.ps_term.specs.inner.Accumulated.{var_cmp}
 use Rattle.ps_term.specs.declared.var.Var.{Var}
 use Rattle.ps_term.specs.declared.var.Var.TheVariants.{Global}
 use Rattle.ps_atom.specs.Atoms.{at_threads}
-use Rattle.ps_triple.proofs.Renewed.{slots_apart, taken_more}
+use Rattle.ps_triple.proofs.Renewed.{slots_apart, taken_more, var_cmp}
 use Rattle.ps_triple.proofs.placing.placed_pairs.Goals as goal
 
 pub loop-taken-preserved : goal.loop-taken-preserved

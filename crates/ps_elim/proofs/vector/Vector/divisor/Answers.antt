@@ -1,7 +1,7 @@
 use Rattle.std.proofs.Common.{List, ℤ, ap, ◌∙◌, subst}
 use Rattle.ps_elim.specs.Divisors.{divisor_of_all}
 use Rattle.ps_elim.proofs.Entries.{divisor_is}
-use Rattle.ps_term.specs.Factors.{IsCommonFactor}
+use Rattle.ps_term.specs.inner.Common.{IsCommonFactor}
 use Rattle.ps_term.specs.Pairs.{IsCanonical}
 use Rattle.ps_term.specs.declared.var.Var.{Var}
 use Rattle.ps_elim.proofs.vector.Vector.divisor.Goals as goal
