@@ -23,11 +23,13 @@ pub fn graph(alloc: Global, text: &[u8]) -> Result<Vec<u8>, AllocError> {
 /// How many locations, edges and commands the graph has, or the line with the limit that is exceeded first.
 pub fn size(alloc: Global, text: &[u8]) -> Result<Vec<u8>, AllocError> {
     match compiled(alloc, text) {
-        Ok(graph) => Ok(format!(in alloc; "{} locations, {} edges, {} commands",
+        Ok(graph) => Ok(format!(in alloc;
+            "{} locations, {} edges, {} commands",
             graph.locations,
             graph.edges.as_slice().len(),
             graph.setting.commands.as_slice().len(),
-        )?.into_bytes()),
+        )?
+        .into_bytes()),
         Err(end) => refused(alloc, end),
     }
 }
