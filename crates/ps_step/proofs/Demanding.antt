@@ -57,11 +57,11 @@ abbrev tail_of : List ℕ → List ℕ
 tail_of [] = []
 tail_of (x ∷ xs) = xs
 
-chosen : {X : Type 0} (b : Bool) (x : X) → b ≡ true → (if b then Some x else None) ≡ Some x
+pub chosen : {X : Type 0} (b : Bool) (x : X) → b ≡ true → (if b then Some x else None) ≡ Some x
 chosen true x h = refl
 chosen false x h = absurd (false≢true h)
 
-of_chosen : {X : Type 0} (b : Bool) (x y : X) → (if b then Some x else None) ≡ Some y → (b ≡ true) × (x ≡ y)
+pub of_chosen : {X : Type 0} (b : Bool) (x y : X) → (if b then Some x else None) ≡ Some y → (b ≡ true) × (x ≡ y)
 of_chosen true x y h = (refl, (let e : x ≡ y = cc in e))
 of_chosen false x y h = absurd (let f : ⊥ = cc in f)
 

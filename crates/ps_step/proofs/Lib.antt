@@ -20,3 +20,5 @@ pub mod Over
 pub mod Same
 pub mod StepSets
 pub mod Turns
+pub mod Moving
+pub mod Meeting

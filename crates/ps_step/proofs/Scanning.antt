@@ -21,7 +21,7 @@ not_chosen false b x n = refl
 not_chosen true b x n = absurd (n refl)
 
 -- another entry demands nothing
-other_demands_none : (entries : List Entry) (n thread command : ℕ) (q : Atom) (e : Entry) → slice_get entries n ≡ Some e → (¬ IsFor entries q.predicate command n) → demand thread command q e ≡ None
+pub other_demands_none : (entries : List Entry) (n thread command : ℕ) (q : Atom) (e : Entry) → slice_get entries n ≡ Some e → (¬ IsFor entries q.predicate command n) → demand thread command q e ≡ None
 other_demands_none entries n thread command q (OfInitial i) at not_for = refl
 other_demands_none entries n thread command q (OfTriple t) at not_for =
     not_chosen ((t.command == command) && (t.post.predicate == q.predicate)) (is_renaming (0 ∷ t.post.threads) (thread ∷ q.threads)) _ (λ h.

@@ -63,7 +63,7 @@ pub(crate) fn may_move(at: &[(u32, u32)], thread: u32, target: u32) -> bool
     is_at(at, thread, target) || !is_located(at, thread)
 }
 
-fn is_at(at: &[(u32, u32)], thread: u32, location: u32) -> bool
+pub(crate) fn is_at(at: &[(u32, u32)], thread: u32, location: u32) -> bool
     ensures { result ≡ list_any (λ p. p.0 == thread && p.1 == location) at.now }
 {
     at.iter()

@@ -13,6 +13,7 @@ mod numbering;
 mod ranked;
 mod renaming;
 mod sizes;
+mod standing;
 mod step;
 pub mod worked;
 
@@ -20,3 +21,4 @@ pub use accepted::accepting;
 pub use expand_end::{ExpandEnd, MOST_SETS};
 pub use expanded::expand;
 pub use expansion::{Expansion, Successor};
+pub use standing::stands;

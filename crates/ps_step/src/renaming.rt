@@ -39,7 +39,7 @@ fn is_one_to_one(numbers: &[u32], images: &[u32]) -> bool
 }
 
 /// The same with thread 0 and its image in front.
-fn renames(thread: u32, numbers: &[u32], images: &[u32]) -> bool
+pub(crate) fn renames(thread: u32, numbers: &[u32], images: &[u32]) -> bool
     ensures { result ≡ is_renaming (0 ∷ numbers.now) (thread ∷ images.now) }
 {
     if numbers.len() != images.len() {
@@ -49,7 +49,7 @@ fn renames(thread: u32, numbers: &[u32], images: &[u32]) -> bool
 }
 
 /// Where a thread goes: 0 to the mover, another to the image at its place.
-fn image_of(thread: u32, numbers: &[u32], images: &[u32], number: u32) -> u32
+pub(crate) fn image_of(thread: u32, numbers: &[u32], images: &[u32], number: u32) -> u32
     requires { length numbers.now ≡ length images.now }
     ensures { result ≡ sent (0 ∷ numbers.now) (thread ∷ images.now) number }
 {

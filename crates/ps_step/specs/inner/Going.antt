@@ -1,5 +1,5 @@
 -- Tests of whether a step goes back, and what they tell.
-use Rattle.std.specs.Prelude.{ℕ, Bool, false, not, ◌&&◌, ◌||◌, ◌==◌, List, [], map, Option, Some, None}
+use Rattle.std.specs.Prelude.{ℕ, Bool, false, not, ◌&&◌, ◌||◌, ◌==◌, List, [], map, if◌then◌else◌, Option, Some, None}
 use Rattle.std.specs.List.{list_all, list_any}
 use Rattle.std.specs.List.Sorted.{IsStrictlyIncreasing}
 use Rattle.ps_config.specs.Configurations.{Configuration}
@@ -30,6 +30,21 @@ are_alone graph at = list_all (λ (p : ℕ × ℕ). not (of_once graph.once (own
 abbrev pub may_move : List (ℕ × ℕ) → ℕ → ℕ → Bool
 may_move at thread target =
     list_any (λ (p : ℕ × ℕ). p.0 == thread && p.1 == target) at || not (list_any (λ (p : ℕ × ℕ). p.0 == thread) at)
+
+-- the thread is at the location
+abbrev pub is_at : List (ℕ × ℕ) → ℕ → ℕ → Bool
+is_at at thread location = list_any (λ (p : ℕ × ℕ). p.0 == thread && p.1 == location) at
+
+-- the others are still where they were
+abbrev pub stay : List (ℕ × ℕ) → ℕ → List (ℕ × ℕ) → Bool
+stay from thread to = list_all (λ (p : ℕ × ℕ). p.0 == thread || is_at to p.0 p.1) from
+
+-- the thread is at the source alone, and each other one where it was
+abbrev pub came_from : List (ℕ × ℕ) → ℕ → ℕ → List (ℕ × ℕ) → Bool
+came_from from thread source to = list_all (λ (p : ℕ × ℕ). if p.0 == thread then p.1 == source else is_at from p.0 p.1) to
+
+abbrev pub is_moved : List (ℕ × ℕ) → ℕ → ℕ → List (ℕ × ℕ) → Bool
+is_moved from thread source to = is_at to thread source && stay from thread to && came_from from thread source to
 
 -- located threads without atoms
 abbrev pub located : List (ℕ × ℕ) → Configuration
