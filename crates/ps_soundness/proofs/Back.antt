@@ -13,7 +13,7 @@ use Rattle.ps_atom.specs.declared.atom.Atom.{Atom}
 use Rattle.ps_basis.proofs.Rules.{rules_are_demands}
 use Rattle.ps_basis.specs.Demands.{IsGiven}
 use Rattle.ps_basis.specs.Space.{IsProved}
-use Rattle.ps_config.proofs.Lists.{mapped, from_mapped}
+use Rattle.ps_list.proofs.Mapped.{mapped, from_mapped}
 use Rattle.ps_config.proofs.Occurring.{located_occurs, named_occurs, occurs_cases, of_renamed, renamed_same, renamed_twice}
 use Rattle.ps_config.specs.Configurations.{Configuration, Covers, Embeds, IsAt, threads_at}
 use Rattle.ps_config.specs.Forms.{start_configuration}

@@ -3,7 +3,7 @@ use Rattle.std.proofs.Common.{◌≡◌, refl, sym, ap, ◌∙◌, subst, ℕ, L
 use Rattle.std.specs.List.{filter_map, flat_map}
 use Rattle.ps_atom.specs.Atoms.{renamed, IsInjectiveOn}
 use Rattle.ps_atom.specs.declared.atom.Atom.{Atom}
-use Rattle.ps_config.proofs.Lists.{from_flat_mapped, from_mapped}
+use Rattle.ps_list.proofs.Mapped.{from_flat_mapped, from_mapped}
 use Rattle.ps_config.proofs.Occurring.{of_renamed, renamed_twice}
 use Rattle.ps_list.proofs.Members.{here, there}
 use Rattle.ps_step.proofs.Demanding.{demanded_given, pre_threads}

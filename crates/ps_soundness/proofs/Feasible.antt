@@ -9,7 +9,7 @@ use Rattle.ps_command.specs.Run.{havocs_in, run_by}
 use Rattle.ps_command.specs.declared.command.Command.{Command}
 use Rattle.ps_command.specs.declared.op.Op.{Op}
 use Rattle.ps_command.specs.declared.state.State.{State}
-use Rattle.ps_config.proofs.Lists.{from_mapped}
+use Rattle.ps_list.proofs.Mapped.{from_mapped}
 use Rattle.ps_graph.proofs.Letters.{Located, located_of_paths, moved_to}
 use Rattle.ps_graph.specs.ErrorTrace.{HavocsFit, IsErrorTrace, IsFeasible, RunsFrom, after_letters, edge_ops}
 use Rattle.ps_graph.specs.declared.edge.Edge.{Edge}

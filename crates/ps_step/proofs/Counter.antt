@@ -5,7 +5,7 @@ use Rattle.std.proofs.lemmas.List.Elements.{All-contains, All-from_recursion}
 use Rattle.std.proofs.lemmas.Option.{same_Some}
 use Rattle.ps_atom.specs.Atoms.{renamed}
 use Rattle.ps_atom.specs.declared.atom.Atom.{Atom}
-use Rattle.ps_basis.specs.Examples.{bare, counter_entries}
+use Rattle.ps_triple.specs.Examples.{bare, counter_entries}
 use Rattle.ps_config.specs.Configurations.{Configuration, IsAt, Covers}
 use Rattle.ps_config.specs.Forms.{start_configuration}
 use Rattle.ps_graph.specs.Examples.Connections.{edge, counter_edges}

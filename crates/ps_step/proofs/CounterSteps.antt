@@ -2,7 +2,7 @@
 use Rattle.std.proofs.Common.{◌≡◌, ◌≢◌, ℕ, List, [], ◌∷◌, refl, sym, ap, ◌∙◌, subst, inl, inr, ◌⊎◌, Contains, Option, Some, None, arith}
 use Rattle.std.specs.Prelude.{slice_get}
 use Rattle.ps_atom.specs.declared.atom.Atom.{Atom}
-use Rattle.ps_basis.specs.Examples.{bare, counter_entries}
+use Rattle.ps_triple.specs.Examples.{bare, counter_entries}
 use Rattle.ps_config.specs.Configurations.{Configuration, IsAt, Covers}
 use Rattle.ps_config.specs.Forms.{start_configuration}
 use Rattle.ps_graph.specs.Examples.Connections.{edge, counter_edges}

@@ -8,7 +8,7 @@ use Rattle.ps_atom.specs.declared.atom.Atom.{Atom}
 use Rattle.ps_list.proofs.Members.{cons_cases, here, there}
 use Rattle.ps_config.specs.Configurations.{Configuration}
 use Rattle.ps_config.specs.Sent.{sent}
-use Rattle.ps_config.proofs.Lists.{flat_mapped, from_flat_mapped, same_map}
+use Rattle.ps_list.proofs.Mapped.{flat_mapped, from_flat_mapped, same_map}
 use Rattle.ps_config.proofs.Occurring.{renamed_same}
 use Rattle.ps_config.proofs.Sent.{sent_image}
 use Rattle.ps_triple.specs.declared.triple.Triple.{Triple}

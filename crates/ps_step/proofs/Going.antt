@@ -12,7 +12,7 @@ use Rattle.std.proofs.lemmas.List.Elements.{Contains-append_left, Contains-appen
 use Rattle.std.proofs.lemmas.Map.Keys.{IsStrictlyIncreasing-from_sorted, sorted_from_strictly_increasing}
 use Rattle.ps_config.specs.Configurations.{Configuration, IsAt}
 use Rattle.ps_config.specs.Forms.{IsConfig}
-use Rattle.ps_config.proofs.Lists.{from_kept, kept}
+use Rattle.ps_list.proofs.Mapped.{from_kept, kept}
 use Rattle.ps_cover.proofs.Testing.{all_from, all_to, any_from, any_to}
 use Rattle.ps_graph.specs.Facts.{owner_of}
 use Rattle.ps_graph.specs.declared.edge.Edge.{Edge}

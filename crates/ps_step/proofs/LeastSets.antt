@@ -14,7 +14,7 @@ use Rattle.ps_atom.specs.declared.atom.Atom.{Atom}
 use Rattle.ps_hit.specs.Answer.{HasMore}
 use Rattle.ps_hit.specs.Hitting.{IsListedHit}
 use Rattle.ps_list.proofs.Members.{here, there}
-use Rattle.ps_config.proofs.Lists.{mapped, from_mapped}
+use Rattle.ps_list.proofs.Mapped.{mapped, from_mapped}
 use Rattle.ps_step.specs.inner.Demands.{IsLeastHit}
 use Rattle.ps_step.specs.inner.Numbered.{at_place, named, IsNumbered}
 use Rattle.ps_step.proofs.Numbered.{hit_within, listed_least, least_listed, named_cmp, named_ascend}

@@ -1,8 +1,8 @@
 -- Whether atoms have one of each demand.
-use Rattle.std.proofs.Common.{◌≡◌, ◌≢◌, ◌<◌, ◌≤◌, ◌+◌, ℕ, Bool, true, false, ◌&&◌, ◌==◌, List, [], ◌∷◌, ◌++◌, length, take, get_or, map, refl, sym, ap, ap₂, subst, ◌∙◌, inl, inr, ◌⊎◌, Contains, Option, Some, None, arith, if◌then◌else◌}
+use Rattle.std.proofs.Common.{◌≡◌, ◌<◌, ◌≤◌, ◌+◌, ℕ, Bool, true, false, ◌&&◌, ◌==◌, List, [], ◌∷◌, ◌++◌, length, take, get_or, map, refl, sym, ap, ap₂, subst, ◌∙◌, inl, inr, Option, Some, None, arith}
 use Rattle.std.specs.Prelude.{slice_get}
-use Rattle.std.specs.List.{filter_map, flat_map}
-use Rattle.std.proofs.lemmas.Bool.{and_from, and_parts, both_ways, cases_eq, cases_lt, eq-eqb, eqb-true, false≢true}
+use Rattle.std.specs.List.{filter_map}
+use Rattle.std.proofs.lemmas.Bool.{and_from, and_parts, both_ways, cases_lt, eq-eqb, eqb-true, false≢true}
 use Rattle.std.proofs.lemmas.List.{map_more, take_all, take_more}
 use Rattle.std.proofs.lemmas.Option.{get_or_from_slice_get, same_Some, slice_get-get_or, slice_get_within}
 use Rattle.ps_atom.specs.Atoms.{renamed}
@@ -10,18 +10,16 @@ use Rattle.ps_atom.specs.declared.atom.Atom.{Atom}
 use Rattle.ps_basis.specs.Shown.{IsFor, IsNextFor}
 use Rattle.ps_config.specs.Configurations.{Configuration}
 use Rattle.ps_config.specs.Sent.{sent}
-use Rattle.ps_config.proofs.Lists.{flat_mapped, from_flat_mapped, from_mapped, mapped}
 use Rattle.ps_graph.specs.declared.edge.Edge.{Edge}
 use Rattle.ps_graph.specs.declared.graph.Graph.{Graph}
 use Rattle.ps_step.specs.Steps.{AreTied, GoesBack, Stands}
 use Rattle.ps_step.specs.inner.Demands.{HitsAll, MeetsSet, demand, demands, is_renaming}
 use Rattle.ps_step.proofs.Demanding.{chosen, hits_meets, meets_hits, of_chosen}
 use Rattle.ps_step.proofs.Picked.{from_picked, picked}
-use Rattle.ps_step.proofs.Scanning.{next_within, other_demands_none}
-use Rattle.ps_step.proofs.Seen.{all_seen, one_more, read_in}
+use Rattle.ps_step.proofs.Scanning.{other_demands_none}
 use Rattle.ps_step.proofs.Smallest.{at_edge}
 use Rattle.ps_triple.specs.declared.entry.Entry.{Entry}
-use Rattle.ps_triple.specs.declared.entry.Entry.TheVariants.{Triple as OfTriple, Initial as OfInitial}
+use Rattle.ps_triple.specs.declared.entry.Entry.TheVariants.{Triple as OfTriple}
 use Rattle.ps_triple.specs.declared.triple.Triple.{Triple}
 
 -- ---- images, place by place

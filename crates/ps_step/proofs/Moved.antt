@@ -5,7 +5,7 @@ use Rattle.std.proofs.lemmas.Bool.{both_ways, eqb-true, eq-eqb}
 use Rattle.ps_atom.specs.declared.atom.Atom.{Atom}
 use Rattle.ps_list.proofs.Members.{cons_cases, here, there}
 use Rattle.ps_config.specs.Configurations.{Configuration, IsAt}
-use Rattle.ps_config.proofs.Lists.{kept, from_kept}
+use Rattle.ps_list.proofs.Mapped.{kept, from_kept}
 use Rattle.ps_graph.specs.declared.edge.Edge.{Edge}
 use Rattle.ps_graph.specs.declared.graph.Graph.{Graph}
 use Rattle.ps_step.specs.Steps.{IsMovedTo, GoesBack}

@@ -19,7 +19,7 @@ use Rattle.ps_atom.specs.declared.atom.Atom.{Atom}
 use Rattle.ps_hit.specs.Hitting.{Meets, IsHit, IsMinimalHit, IsListedHit}
 use Rattle.ps_hit.proofs.Critical.{critical}
 use Rattle.ps_list.proofs.Members.{here, there}
-use Rattle.ps_config.proofs.Lists.{mapped, from_mapped, kept, from_kept}
+use Rattle.ps_list.proofs.Mapped.{mapped, from_mapped, kept, from_kept}
 use Rattle.ps_step.specs.inner.Demands.{HitsAll, IsLeastHit}
 use Rattle.ps_step.specs.inner.Numbered.{at_place, named, IsNumbered}
 use Rattle.ps_step.proofs.Least.{has_or_not, least_of}

@@ -3,7 +3,7 @@ use Rattle.std.proofs.Common.{◌≡◌, ℕ, List, [], ◌∷◌, map, refl, ap
 use Rattle.std.specs.List.{filter_map, cons_option}
 use Rattle.ps_atom.specs.Atoms.{renamed}
 use Rattle.ps_atom.specs.declared.atom.Atom.{Atom}
-use Rattle.ps_config.proofs.Lists.{same_map, map_map}
+use Rattle.ps_list.proofs.Mapped.{same_map, map_map}
 use Rattle.ps_config.proofs.Occurring.{renamed_twice}
 use Rattle.ps_list.proofs.Members.{nothing, cons_cases, here, there}
 

@@ -16,7 +16,7 @@ use Rattle.std.proofs.lemmas.List.Elements.{Contains-get_or, Contains-push_cases
 use Rattle.ps_atom.specs.Atoms.{atom_cmp}
 use Rattle.ps_atom.specs.declared.atom.Atom.{Atom}
 use Rattle.ps_list.proofs.Members.{nothing, cons_cases, here, there}
-use Rattle.ps_config.proofs.Lists.{mapped}
+use Rattle.ps_list.proofs.Mapped.{mapped}
 use Rattle.ps_config.specs.Sent.{sent}
 use Rattle.ps_config.proofs.Sent.{sent_later}
 use Rattle.ps_step.specs.inner.Demands.{agrees, is_renaming}

@@ -6,7 +6,8 @@ use Rattle.ps_atom.specs.Atoms.{renamed, IsInjectiveOn}
 use Rattle.ps_atom.specs.declared.atom.Atom.{Atom}
 use Rattle.ps_list.proofs.Members.{nothing, cons_cases, here, there}
 use Rattle.ps_config.specs.Configurations.{Configuration, IsAt, threads_at, Embeds, Covers}
-use Rattle.ps_config.proofs.Lists.{is_in, mapped, from_mapped, kept, from_kept}
+use Rattle.ps_list.proofs.Mapped.{mapped, from_mapped, kept, from_kept}
+use Rattle.ps_list.proofs.Numbers.{is_in}
 use Rattle.ps_config.proofs.Covering.{covers_more}
 use Rattle.ps_config.proofs.Occurring.{located_occurs, named_occurs, occurs_cases, renamed_same, renamed_twice, renamed_stays, of_renamed}
 use Rattle.ps_graph.specs.declared.edge.Edge.{Edge}

@@ -4,7 +4,7 @@ use Rattle.std.proofs.lemmas.Bool.{false≢true, eqb-true, eqb-false, eq-eqb, an
 use Rattle.ps_atom.specs.Atoms.{IsInjectiveOn}
 use Rattle.ps_list.proofs.Members.{nothing, here, there}
 use Rattle.ps_config.specs.Sent.{sent}
-use Rattle.ps_config.proofs.Lists.{same_map}
+use Rattle.ps_list.proofs.Mapped.{same_map}
 use Rattle.ps_config.proofs.Sent.{sent_first, sent_later, later_in}
 use Rattle.ps_step.specs.inner.Demands.{alike, agrees, is_renaming}
 

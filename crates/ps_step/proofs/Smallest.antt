@@ -1,23 +1,19 @@
 -- The smallest configurations of one step are the least hitting sets of its demands.
-use Rattle.std.proofs.Common.{◌≡◌, ℕ, List, [], sym, ◌∙◌, subst, ◌⊎◌, Contains}
+use Rattle.std.proofs.Common.{◌≡◌, ℕ, List, sym, ◌∙◌, subst, ◌⊎◌, Contains}
 use Rattle.std.specs.Prelude.{slice_get, Some}
 use Rattle.std.proofs.lemmas.Option.{same_Some}
 use Rattle.ps_atom.specs.declared.atom.Atom.{Atom}
-use Rattle.ps_hit.specs.Hitting.{IsListedHit}
 use Rattle.ps_config.specs.Configurations.{Configuration, IsAt, threads_at, Covers}
 use Rattle.ps_config.proofs.Covering.{covers_more, covers_twice}
 use Rattle.ps_graph.specs.declared.edge.Edge.{Edge}
 use Rattle.ps_graph.specs.declared.graph.Graph.{Graph}
 use Rattle.ps_triple.specs.declared.entry.Entry.{Entry}
-use Rattle.ps_step.specs.inner.Back.{stepped_to}
-use Rattle.ps_step.specs.Successors.{IsSame}
 use Rattle.ps_step.specs.inner.Demands.{demands, HitsAll, IsLeastHit}
-use Rattle.ps_step.specs.inner.Numbered.{IsNumbered}
 use Rattle.ps_step.specs.Steps.{AreTied, GoesBack, StandsBy, Stands, IsSmallest}
 use Rattle.ps_step.proofs.Demanding.{meets_hits, hits_meets}
 use Rattle.ps_step.proofs.Least.{least_of}
-use Rattle.ps_step.proofs.Numbered.{atoms_or_not, listed_least, least_listed}
-use Rattle.ps_step.proofs.Moved.{goes_same, moved_at_is}
+use Rattle.ps_step.proofs.Numbered.{atoms_or_not}
+use Rattle.ps_step.proofs.Moved.{goes_same}
 use Rattle.ps_step.proofs.Pulled.{by_any}
 
 -- ---- the step alone
@@ -73,28 +69,3 @@ covered_by_smallest graph entries from to number thread fresh tied free s =
     let w = by_any graph entries from to s.edge thread fresh tied free s.stands in
     let v = has_smallest graph entries from w.1 number w.0 tied (record { edge = s.edge; is_edge = s.is_edge; stands = w.3 }) in
     (w.0, v.0, w.2, v.1, covers_twice v.0 w.1 to v.2 w.4)
-
--- ---- the smallest ones of one step, from the listed sets of places
-
-pub listed_smallest : (graph : Graph) (entries : List Entry) (from : Configuration) (edge : Edge) (number thread : ℕ) (pool : List Atom) (sets : List (List ℕ)) (hit : List ℕ) → AreTied entries
-    → slice_get graph.edges number ≡ Some edge → GoesBack graph from edge thread (stepped_to from edge thread pool [])
-    → IsNumbered pool (demands entries from.atoms thread edge.command) sets → IsListedHit sets hit → IsSmallest graph entries from number thread (stepped_to from edge thread pool hit)
-listed_smallest graph entries from edge number thread pool sets hit tied is goes numbered listed =
-    least_smallest graph entries from (stepped_to from edge thread pool hit) edge number thread tied is
-    (goes_same graph from (stepped_to from edge thread pool []) (stepped_to from edge thread pool hit) edge thread (λ t l h. h) (λ t l h. h) goes)
-    (listed_least pool (demands entries from.atoms thread edge.command) sets hit numbered listed)
-
-pub smallest_listed : (graph : Graph) (entries : List Entry) (from to : Configuration) (edge : Edge) (number thread : ℕ) (pool : List Atom) (sets : List (List ℕ)) → AreTied entries
-    → slice_get graph.edges number ≡ Some edge → IsNumbered pool (demands entries from.atoms thread edge.command) sets → IsSmallest graph entries from number thread to
-    → GoesBack graph from edge thread (stepped_to from edge thread pool []) × ((hit : List ℕ) × IsListedHit sets hit × IsSame (stepped_to from edge thread pool hit) to)
-smallest_listed graph entries from to edge number thread pool sets tied is numbered s =
-    let same : s.stands.edge ≡ edge = same_Some s.stands.edge edge (sym s.stands.is_edge ∙ is) in
-    let goes : GoesBack graph from edge thread to = subst (λ (e : Edge). GoesBack graph from e thread to) same s.stands.stands.goes in
-    let least : IsLeastHit (demands entries from.atoms thread edge.command) to.atoms =
-    subst (λ (e : Edge). IsLeastHit (demands entries from.atoms thread e.command) to.atoms) same (smallest_least graph entries from to number thread tied s) in
-    let w = least_listed pool (demands entries from.atoms thread edge.command) sets to.atoms numbered least in
-    let to_made : (t l : ℕ) → IsAt to t l → IsAt (stepped_to from edge thread pool []) t l = λ t l h. (moved_at_is from thread edge.source [] t l).1 ((goes.is t l).0 h) in
-    let of_made : (t l : ℕ) → IsAt (stepped_to from edge thread pool []) t l → IsAt to t l = λ t l h. (goes.is t l).1 ((moved_at_is from thread edge.source [] t l).0 h) in (
-      goes_same graph from to (stepped_to from edge thread pool []) edge thread to_made of_made goes,
-      (w.0, w.1, record { at = λ t l. (of_made t l, to_made t l); atoms = λ q. (w.2 q, w.3 q) }),
-    )

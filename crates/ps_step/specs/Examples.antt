@@ -3,7 +3,7 @@
 -- along edge 2 into the error where it isn't.
 use Rattle.std.specs.Prelude.{◌≡◌, ◌≢◌, ℕ, List, [], ◌∷◌, Option, Some, None}
 use Rattle.ps_atom.specs.declared.atom.Atom.{Atom}
-use Rattle.ps_basis.specs.Examples.{bare, counter_entries}
+use Rattle.ps_triple.specs.Examples.{bare, counter_entries}
 use Rattle.ps_config.specs.Configurations.{Configuration}
 use Rattle.ps_config.specs.Forms.{start_configuration}
 use Rattle.ps_graph.specs.Examples.Connections.{counter_edges}

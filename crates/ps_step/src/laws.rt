@@ -9,8 +9,8 @@ ghost use Rattle.ps_triple.specs.declared.entry.Entry.{Entry};
 /// Each configuration that stands, by any thread, is covered by a smallest one by a thread that occurs,
 /// or by any one that doesn't.
 pub fn the_smallest_are_enough()
-    ensures { (graph : Graph) (entries : List Entry) (from to : Configuration) (number thread fresh : ℕ)
-        → AreTied entries → (¬ Contains (threads_at from) fresh)
+    ensures { (graph : Graph) (entries : List Entry) (from to : Configuration)
+        (number thread fresh : ℕ) → AreTied entries → (¬ Contains (threads_at from) fresh)
         → Stands graph entries from number thread to
         → (k : ℕ) × (less : Configuration) × IsTried from fresh k
         × IsSmallest graph entries from number k less × Covers less to }

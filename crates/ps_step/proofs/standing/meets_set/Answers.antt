@@ -1,9 +1,9 @@
-use Rattle.std.proofs.Common.{◌≡◌, ◌∷◌, sym, subst, Contains}
+use Rattle.std.proofs.Common.{◌∷◌, sym, subst, Contains}
 use Rattle.std.proofs.lemmas.Bool.{both_ways, false≢true}
 use Rattle.ps_atom.specs.Atoms.{renamed}
 use Rattle.ps_atom.specs.declared.atom.Atom.{Atom}
 use Rattle.ps_config.specs.Sent.{sent}
-use Rattle.ps_config.proofs.Lists.{from_mapped}
+use Rattle.ps_list.proofs.Mapped.{from_mapped}
 use Rattle.ps_step.proofs.Seen.{all_seen, one_more}
 use Rattle.ps_step.proofs.standing.meets_set.Goals as goal
 
