@@ -68,7 +68,7 @@ counter_is_accepted graph is = record {
 pub less_is_not : LessIsNotAccepted
 less_is_not graph is = (
   λ a. (counter_is_closed graph is.edges).1 a.closed,
-  λ a. a.closed.never entering (there_second) ((which_accept graph is.edges).3.0),
+  λ a. a.closed.never entering (there_second) ((which_accept graph is.edges).3),
 )
   where
     there_second : Contains (asserting ∷ entering ∷ []) entering
