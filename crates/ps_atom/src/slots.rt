@@ -14,7 +14,8 @@ pub(crate) fn placed(
 ) -> Result<Vec<(Var, i128)>, AllocError>
     requires { length shares.now < 2 ^ 32 }
     ensures { IfOk result
-        (λ list. list.items ≡ put_in_slots (map (λ share. share.pairs.items) shares.now) pairs.now) }
+        (λ list. list.items ≡ put_in_slots
+        (map (λ share. share.pairs.items) shares.now) pairs.now) }
 {
     let mut list = Vec::with_capacity(alloc, pairs.len())?;
     push_globals(&mut list, pairs)?;

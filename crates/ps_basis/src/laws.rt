@@ -20,7 +20,8 @@ pub fn rules_are_demands()
 /// Where all entries hold, a proved trace runs from no initial state with at least the threads that occur, with no
 /// havoc values.
 pub fn proved_traces_do_not_run()
-    ensures { (setting : Setting) (predicates : List Predicate) (entries : List Entry) (trace : List (ℕ × ℕ))
+    ensures { (setting : Setting) (predicates : List Predicate) (entries : List Entry)
+        (trace : List (ℕ × ℕ))
         → slice_get predicates 0 ≡ Some false_predicate
         → ((entry : Entry) → Contains entries entry → EntryHolds setting predicates entry)
         → IsProved entries trace → ¬ Runs setting trace }

@@ -17,5 +17,6 @@ pub fn one_letter_is_not_proved()
 
 /// The empty trace has no triple.
 pub fn no_letter_has_no_triple()
-    ensures { (entries : List Entry) (before after : List Atom) → ¬ InSpace entries [] before after }
+    ensures { (entries : List Entry) (before after : List Atom)
+        → ¬ InSpace entries [] before after }
 {}

@@ -25,7 +25,8 @@ pub(crate) fn value_of(globals: &[i128], locals: &[i128], variable: Var) -> i128
 // The term's value, or `None` where a product or a sum lies outside `i128`.
 pub(crate) fn evaluate(globals: &[i128], locals: &[i128], term: &Term) -> Option<i128>
     requires { IsTrue (is_declared_term (length globals.now) (length locals.now) term.now) }
-    ensures { SomeIff result (EvaluationFits (value_at (values_from globals.now locals.now)) term.now)
+    ensures { SomeIff result (EvaluationFits
+        (value_at (values_from globals.now locals.now)) term.now)
         (value (value_at (values_from globals.now locals.now)) term.now) }
 {
     let mut sum: i128 = 0;
@@ -37,7 +38,8 @@ pub(crate) fn evaluate(globals: &[i128], locals: &[i128], term: &Term) -> Option
 
 // Whether all rows hold, or `None` where a product or a sum lies outside `i128` before a row fails.
 pub(crate) fn all_hold(globals: &[i128], locals: &[i128], rows: &[Row]) -> Option<bool>
-    requires { IsTrue (list_all (is_declared_row (length globals.now) (length locals.now)) rows.now) }
+    requires { IsTrue (list_all (is_declared_row (length globals.now)
+        (length locals.now)) rows.now) }
     ensures { SomeIff result (TestsFit (value_at (values_from globals.now locals.now)) rows.now)
         (list_all (holds (value_at (values_from globals.now locals.now))) rows.now) }
 {

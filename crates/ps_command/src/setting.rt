@@ -26,7 +26,8 @@ pub struct Setting {
     pub ghost once_declared: { IsTrue (list_all (is_declared_row globals 0) init_once) },
     pub ghost each_declared: { IsTrue (list_all (is_declared_row globals locals) init_each) },
     pub ghost each_local: { IsTrue (list_all names_local init_each) },
-    pub ghost commands_declared: { IsTrue (list_all (is_declared_command globals locals) commands) },
+    pub ghost commands_declared: { IsTrue
+        (list_all (is_declared_command globals locals) commands) },
     pub ghost formed: { symbols ≡ forms_of commands },
 }
 

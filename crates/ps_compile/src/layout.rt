@@ -56,7 +56,8 @@ fn lay_stmt(
 ) -> Result<(), CompileEnd>
     requires { StmtIsCompilable stmt.now.kind }
     ensures { Lays result 0 plan.old plan.new
-        (sites stmt.now.place stmt.now.kind a b (length plan.old.owners.items)) (inner stmt.now.kind) }
+        (sites stmt.now.place stmt.now.kind a b (length plan.old.owners.items))
+        (inner stmt.now.kind) }
 {
     let place = stmt.place;
     match &stmt.kind {
@@ -103,7 +104,8 @@ fn lay_simple(
 ) -> Result<(), CompileEnd>
     requires { StmtIsCompilable kind.now }
     ensures { Lays result 0 plan.old plan.new
-        (own_site place kind.now a (length plan.old.owners.items) (going_to b (paths kind.now)) ∷ [])
+        (own_site place kind.now a (length plan.old.owners.items) (going_to b (paths kind.now))
+        ∷ [])
         0 }
 {
     match begin(place, kind) {
@@ -136,7 +138,8 @@ fn open_if(
     ensures { MatchResult result
         (OpensIf 0 plan.old plan.new place kind.now test.now held.now failed.now a b)
         (IsCompileEnd (checks (length plan.old.drafts.items)
-        (if_site place kind.now test.now held.now failed.now a b (length plan.old.owners.items) ∷ []))) }
+        (if_site place kind.now test.now held.now failed.now a b (length plan.old.owners.items)
+        ∷ []))) }
 {
     match begin(place, kind) {
         Ok(()) => {}

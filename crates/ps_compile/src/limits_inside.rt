@@ -52,8 +52,10 @@ fn test_alternatives(place: Place, kind: &StmtKind) -> Result<(), CompileEnd>
 // A condition and its negation.
 fn test_both(place: Place, cond: &Cond) -> Result<(), CompileEnd>
     ensures { Tested result
-        (count_check place limit.Alternatives (length (alternatives true cond.now)) most.MOST_ALTERNATIVES
-        ∷ count_check place limit.Alternatives (length (alternatives false cond.now)) most.MOST_ALTERNATIVES
+        (count_check place limit.Alternatives
+        (length (alternatives true cond.now)) most.MOST_ALTERNATIVES
+        ∷ count_check place limit.Alternatives
+        (length (alternatives false cond.now)) most.MOST_ALTERNATIVES
         ∷ []) }
 {
     match test_one(place, cond, true) {
@@ -68,7 +70,8 @@ fn test_both(place: Place, cond: &Cond) -> Result<(), CompileEnd>
 
 fn test_one(place: Place, cond: &Cond, holds: bool) -> Result<(), CompileEnd>
     ensures { Tested result
-        (count_check place limit.Alternatives (length (alternatives holds cond.now)) most.MOST_ALTERNATIVES
+        (count_check place limit.Alternatives
+        (length (alternatives holds cond.now)) most.MOST_ALTERNATIVES
         ∷ []) }
 {
     if count_alternatives(cond, holds) > MOST_ALTERNATIVES {

@@ -17,7 +17,8 @@ pub(crate) struct Plan {
 pub(crate) fn start(block: &[Stmt], end: usize, plan: &mut Plan) -> Result<usize, AllocError>
     ensures at { IfOk result (λ n. n ≡ block_start block.now end (length plan.old.owners.items)) }
     ensures owners { OnOk result
-        (plan.new.owners.items ≡ plan.old.owners.items ++ replicate (opened_of block.now) (Some 0)) }
+        (plan.new.owners.items ≡ plan.old.owners.items
+        ++ replicate (opened_of block.now) (Some 0)) }
     ensures drafts { OnOk result (plan.new.drafts.items ≡ plan.old.drafts.items) }
 {
     if block.is_empty() {

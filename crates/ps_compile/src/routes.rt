@@ -87,7 +87,8 @@ fn cond_routes(
     fails: bool,
 ) -> Result<Vec<Route>, AllocError>
     requires { CondIsCompilable cond.now }
-    ensures { IfOk result (λ routes. routes.items ≡ map route_of (cond_paths holds fails cond.now)) }
+    ensures { IfOk result (λ routes. routes.items ≡ map route_of
+        (cond_paths holds fails cond.now)) }
 {
     match alternatives_of(alloc, holds, cond) {
         Ok(alternatives) => guarded_routes(alloc, alternatives, fails),

@@ -75,7 +75,8 @@ pub fn thread_count(at: &[(u32, u32)], atoms: &[Atom]) -> usize
 }
 
 fn occurs(at: &[(u32, u32)], atoms: &[Atom], thread: u32) -> bool
-    ensures { IsTrue result ↔ Contains (threads_at (record { at = at.now; atoms = atoms.now })) thread }
+    ensures { IsTrue result ↔ Contains
+        (threads_at (record { at = at.now; atoms = atoms.now })) thread }
 {
     match next_thread(at, atoms, u64::from(thread)) {
         Some(next) => next == thread,

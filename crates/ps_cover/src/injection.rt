@@ -44,7 +44,8 @@ pub fn covers(small: &Config, large: &Config) -> Option<Injection>
 /// images. In each turn all images of all threads that have none yet are looked at, each in a pass over
 /// the larger one's atoms for each atom of the thread.
 pub fn covers_lists(small: &Config, at: &[(u32, u32)], atoms: &[Atom]) -> Option<Injection>
-    ensures some { IfSome result (λ i. IsFirstInjection small.now (record { at = at.now; atoms = atoms.now }) (images i)) }
+    ensures some { IfSome result (λ i. IsFirstInjection small.now
+        (record { at = at.now; atoms = atoms.now }) (images i)) }
     ensures none { IfNone result (¬ Covers small.now (record { at = at.now; atoms = atoms.now })) }
     ensures rest { IfSome result (λ i. AreZeroFrom i.count i.to) }
 {

@@ -9,7 +9,8 @@ use ps_config::Config;
 
 /// What has a first injection into a configuration is covered by it.
 pub fn an_injection_covers()
-    ensures { (small large : Configuration) (to : List ℕ) → IsFirstInjection small large to → Covers small large }
+    ensures { (small large : Configuration) (to : List ℕ) → IsFirstInjection small large to
+        → Covers small large }
 {}
 
 /// The first injection is the only one, so the answer is determined.

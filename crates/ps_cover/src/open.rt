@@ -42,7 +42,8 @@ pub(crate) fn is_open(
     requires occur { AllOccur small.now partial.now.threads }
     requires waiting { AllOccur small.now waiting.now }
     requires long { length partial.now.threads ≡ length partial.now.to }
-    ensures { OnFalse result (NoWay small.now (large_of at.now atoms.now) partial.now.threads partial.now.to) }
+    ensures { OnFalse result (NoWay small.now
+        (large_of at.now atoms.now) partial.now.threads partial.now.to) }
 {
     match narrowest(small, at, atoms, partial, waiting) {
         Some(thread) => goes_somewhere(small, at, atoms, partial, waiting, thread),
@@ -65,7 +66,8 @@ fn goes_somewhere(
     requires long { length partial.now.threads ≡ length partial.now.to }
     requires few { length partial.now.threads < MOST_THREADS }
     requires thread { Waits small.now partial.now.threads thread }
-    ensures { OnFalse result (NoWay small.now (large_of at.now atoms.now) partial.now.threads partial.now.to) }
+    ensures { OnFalse result (NoWay small.now
+        (large_of at.now atoms.now) partial.now.threads partial.now.to) }
 {
     let mut closed = Few::none();
     let mut from: u64 = 0;
@@ -97,7 +99,8 @@ fn try_image(
     requires long { length partial.now.threads ≡ length partial.now.to }
     requires few { length partial.now.threads < MOST_THREADS }
     requires thread { Waits small.now partial.now.threads thread }
-    requires closed { HaveFailed small.now (large_of at.now atoms.now) partial.now thread closed.now }
+    requires closed { HaveFailed small.now
+        (large_of at.now atoms.now) partial.now thread closed.now }
     ensures { IsProbe small.now (large_of at.now atoms.now) partial.now thread image result }
 {
     if !fits(small, at, atoms, partial, thread, image) {

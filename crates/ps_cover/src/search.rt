@@ -71,7 +71,8 @@ fn attempt(
     requires few { length partial.now.threads + length left.now ≤ MOST_THREADS }
     requires fits { Fits small.now (large_of at.now atoms.now) partial.now.threads partial.now.to }
     requires some { 0 < length left.now }
-    requires failed { HaveFailed small.now (large_of at.now atoms.now) partial.now (slice_index left.now 0)
+    requires failed { HaveFailed small.now (large_of at.now atoms.now) partial.now
+        (slice_index left.now 0)
         failed.now }
     ensures { IsTrial small.now (large_of at.now atoms.now) partial.now left.now image result }
 {

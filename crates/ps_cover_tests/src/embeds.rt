@@ -18,7 +18,8 @@ pub fn embeds(
     to: &[u32],
 ) -> bool
     requires { length to.now ≡ length threads.now }
-    ensures { result ≡ takes_into small.now (record { at = at.now; atoms = atoms.now }) threads.now to.now }
+    ensures { result ≡ takes_into small.now
+        (record { at = at.now; atoms = atoms.now }) threads.now to.now }
 {
     all_apart(threads, to)
         && keep_places(small.at(), at, threads, to)

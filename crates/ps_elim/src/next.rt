@@ -85,7 +85,8 @@ fn with_pairs(
     requires made { All (IsWeighted rows) made.items }
     ensures weighted { IfOk result (λ all. All (IsWeighted rows) all.items) }
     ensures vectors { IfOk result (λ all. vectors_of all.items ≡ vectors_of made.items
-        ++ all_combined rows variable (vectors_of (pointed_to positives.now)) (vectors_of (pointed_to negatives.now))) }
+        ++ all_combined rows variable (vectors_of (pointed_to positives.now))
+        (vectors_of (pointed_to negatives.now))) }
     ensures fits { OnOk result
         (AllPairsFit rows variable (vectors_of (pointed_to positives.now))
         (vectors_of (pointed_to negatives.now))) }
@@ -114,9 +115,11 @@ fn with_pairs_of(
     requires made { All (IsWeighted rows) made.items }
     ensures weighted { IfOk result (λ all. All (IsWeighted rows) all.items) }
     ensures vectors { IfOk result (λ all. vectors_of all.items ≡ vectors_of made.items
-        ++ map (combined rows variable positive.now.vector) (vectors_of (pointed_to negatives.now))) }
+        ++ map (combined rows variable positive.now.vector)
+        (vectors_of (pointed_to negatives.now))) }
     ensures fits { OnOk result
-        (All (CombinationFits rows variable positive.now.vector) (vectors_of (pointed_to negatives.now))) }
+        (All (CombinationFits rows variable positive.now.vector)
+        (vectors_of (pointed_to negatives.now))) }
     ensures past { IsErrOf result TermEnd.Past128
         → ¬ All (CombinationFits rows variable positive.now.vector)
         (vectors_of (pointed_to negatives.now)) }

@@ -38,7 +38,8 @@ impl<'a> Parser<'a> {
 
     #[tactic(auto, unfolding(crate::specs::Blocks::havoc_at, crate::specs::Blocks::ended_at, crate::specs::Reading::after_word, ps_lines::specs::Steps::and_then))]
     fn havoc<'b>(&self, cursor: &mut Cursor<'b>) -> Result<StmtKind, ReadRefusal>
-        ensures { ReadsTo (λ x. x) result cursor.new (havoc_at (names_in self.now.scope) cursor.old) }
+        ensures { ReadsTo (λ x. x) result cursor.new
+            (havoc_at (names_in self.now.scope) cursor.old) }
     {
         cursor.word(TokenKind::Havoc)?;
         let variable = self.variable(cursor)?;

@@ -45,7 +45,8 @@ fn program_of(alloc: Global, bytes: &[u8], list: &[Token]) -> Result<Program, Re
     requires room { length bytes.now + 1 < 2 ^ 32 }
     requires within { AreWithin bytes.now list.now }
     requires few { length list.now < 2 ^ 32 }
-    ensures { ReadsWhole (λ x. x) result (program_in (words_of bytes.now list.now) (end_of bytes.now)) }
+    ensures { ReadsWhole (λ x. x) result
+        (program_in (words_of bytes.now list.now) (end_of bytes.now)) }
 {
     let mut cursor = Cursor::new(bytes, list, end_place(bytes));
     program(alloc, list.len() as u32, &mut cursor)

@@ -136,7 +136,8 @@ impl<'a> Parser<'a> {
     ) -> Result<Vec<(i128, Option<Var>)>, ReadRefusal>
         ensures { ReadsTo (λ v. v.items) result cursor.new
             (with_front terms.items
-            (words_while adds (further_product_at (names_in self.now.scope)) self.now.most cursor.old)) }
+            (words_while adds (further_product_at
+            (names_in self.now.scope)) self.now.most cursor.old)) }
     {
         for _ in 0..self.most {
             if !adds(cursor) {

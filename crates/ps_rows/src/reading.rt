@@ -74,7 +74,8 @@ pub fn read_rows(alloc: Global, bytes: &[u8], first: u32) -> Result<Claim, FormE
     ensures found { IfOk result
         (λ claim. ClaimHasSpelling claim × (bytes.now ≡ text_bytes (claim_lines claim))) }
     // What is spelled so is read, unless memory runs out.
-    ensures only { (claim : Claim) → ClaimHasSpelling claim → bytes.now ≡ text_bytes (claim_lines claim)
+    ensures only { (claim : Claim) → ClaimHasSpelling claim
+        → bytes.now ≡ text_bytes (claim_lines claim)
         → Tells (λ x. x) result (Ok claim) }
     // Which fault it is.
     ensures exact { Tells (λ x. x) result (claim_at (text_start first bytes.now)) }

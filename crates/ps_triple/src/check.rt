@@ -31,7 +31,8 @@ pub fn check_entry(
 ) -> Result<(), EntryEnd>
     requires { AreShort setting.now entry.now }
     ensures holds { OnOk result (EntryHolds setting.now predicates.now entry.now) }
-    ensures fault { IfErr result (EntryEndsBy (IsFirstEntryFault setting.now predicates.now entry.now)) }
+    ensures fault { IfErr result (EntryEndsBy
+        (IsFirstEntryFault setting.now predicates.now entry.now)) }
 {
     let list = predicates.list();
     if let Some(fault) = first_fault(setting, list, entry) {
@@ -60,7 +61,8 @@ pub fn check_entry(
 // The first fault that is seen without the rows.
 fn first_fault(setting: &Setting, predicates: &[Predicate], entry: &Entry) -> Option<EntryFault>
     ensures { MatchOption result
-        (NamesThings setting.now predicates.now entry.now × HasDistinctThreads entry.now × HasNoFreeThread entry.now)
+        (NamesThings setting.now predicates.now entry.now × HasDistinctThreads entry.now
+        × HasNoFreeThread entry.now)
         (IsFirstEntryFault setting.now predicates.now entry.now) }
 {
     if !names_things(setting, predicates, entry) {

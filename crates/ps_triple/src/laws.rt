@@ -23,13 +23,15 @@ pub fn held_triples_are_valid()
 /// fewer threads than the predicate has slots.
 pub fn held_initials_are_true()
     ensures { (setting : Setting) (predicates : List Predicate) (i : Initial)
-        → EntryHolds setting predicates (OfInitial i) → IsTrueAtFirst setting predicates i.predicate }
+        → EntryHolds setting predicates (OfInitial i)
+        → IsTrueAtFirst setting predicates i.predicate }
 {}
 
 /// Alike entries have the same rows, and differ in their multipliers at most.
 pub fn alike_entries_differ_in_multipliers()
     ensures rows { (setting : Setting) (predicates : List Predicate) (one other : Entry)
-        → AreAlike one other → entry_rows setting predicates one ≡ entry_rows setting predicates other }
+        → AreAlike one other → entry_rows setting predicates one
+        ≡ entry_rows setting predicates other }
     ensures only { (one other : Entry)
         → AreAlike one other → lambda_of one ≡ lambda_of other → one ≡ other }
     ensures itself { (one other : Entry) → one ≡ other → AreAlike one other }
@@ -37,8 +39,11 @@ pub fn alike_entries_differ_in_multipliers()
 
 /// An entry that holds has no first fault, and no entry has two.
 pub fn first_faults_are_one()
-    ensures none { (setting : Setting) (predicates : List Predicate) (entry : Entry) (fault : EntryFault)
+    ensures none { (setting : Setting) (predicates : List Predicate) (entry : Entry)
+        (fault : EntryFault)
         → EntryHolds setting predicates entry → ¬ IsFirstEntryFault setting predicates entry fault }
-    ensures one { (setting : Setting) (predicates : List Predicate) (entry : Entry) (one other : EntryFault)
-        → IsFirstEntryFault setting predicates entry one → IsFirstEntryFault setting predicates entry other → one ≡ other }
+    ensures one { (setting : Setting) (predicates : List Predicate) (entry : Entry)
+        (one other : EntryFault)
+        → IsFirstEntryFault setting predicates entry one
+        → IsFirstEntryFault setting predicates entry other → one ≡ other }
 {}

@@ -49,9 +49,11 @@ pub(crate) fn make_rows<'a>(
 ) -> Result<EntryRows<'a>, TermEnd>
     requires names { NamesThings setting.now predicates.now entry.now }
     requires distinct { HasDistinctThreads entry.now }
-    ensures rows { IfOk result (λ rows. all_rows rows ≡ entry_rows setting.now predicates.now entry.now) }
+    ensures rows { IfOk result (λ rows. all_rows rows
+        ≡ entry_rows setting.now predicates.now entry.now) }
     ensures fits { OnOk result (MakingFits setting.now predicates.now entry.now) }
-    ensures past { IsErrOf result TermEnd.Past128 → ¬ MakingFits setting.now predicates.now entry.now }
+    ensures past { IsErrOf result TermEnd.Past128
+        → ¬ MakingFits setting.now predicates.now entry.now }
 {
     match entry {
         Entry::Triple(triple) => {
@@ -74,11 +76,15 @@ fn triple_rows<'a>(
     requires after { IsAtomOf setting.now predicates.now triple.now.post }
     requires once { All HasThreadsOnce triple.now.pre }
     requires once_after { HasThreadsOnce triple.now.post }
-    ensures rows { IfOk result (λ rows. all_rows rows ≡ triple_rows setting.now predicates.now triple.now) }
+    ensures rows { IfOk result (λ rows. all_rows rows
+        ≡ triple_rows setting.now predicates.now triple.now) }
     ensures fits { OnOk result (NegationFits (atom_row predicates.now triple.now.post)
-        × SubstitutionFits form.now.after (negated (atom_row predicates.now triple.now.post)).term) }
-    ensures past { IsErrOf result TermEnd.Past128 → ¬ (NegationFits (atom_row predicates.now triple.now.post)
-        × SubstitutionFits form.now.after (negated (atom_row predicates.now triple.now.post)).term) }
+        × SubstitutionFits form.now.after
+        (negated (atom_row predicates.now triple.now.post)).term) }
+    ensures past { IsErrOf result TermEnd.Past128
+        → ¬ (NegationFits (atom_row predicates.now triple.now.post)
+        × SubstitutionFits form.now.after
+        (negated (atom_row predicates.now triple.now.post)).term) }
 {
     let before = rows_before(alloc, setting, predicates, triple.pre.as_slice())?;
     let last = last_row(alloc, setting, predicates, form, &triple.post)?;
@@ -98,8 +104,10 @@ fn initial_rows<'a>(
     initial: &Initial,
 ) -> Result<EntryRows<'a>, TermEnd>
     requires { IsThere setting.now predicates.now initial.now.predicate }
-    ensures rows { IfOk result (λ rows. all_rows rows ≡ initial_rows setting.now predicates.now initial.now) }
-    ensures fits { OnOk result (NegationFits (predicate_of predicates.now initial.now.predicate).row) }
+    ensures rows { IfOk result (λ rows. all_rows rows
+        ≡ initial_rows setting.now predicates.now initial.now) }
+    ensures fits { OnOk result (NegationFits
+        (predicate_of predicates.now initial.now.predicate).row) }
     ensures past { IsErrOf result TermEnd.Past128
         → ¬ NegationFits (predicate_of predicates.now initial.now.predicate).row }
 {
@@ -145,10 +153,12 @@ fn last_row(
 ) -> Result<Row, TermEnd>
     requires atom { IsAtomOf setting.now predicates.now after.now }
     requires once { HasThreadsOnce after.now }
-    ensures row { IfOk result (λ row. row ≡ row_after form.now (negated (atom_row predicates.now after.now))) }
+    ensures row { IfOk result (λ row. row ≡ row_after form.now
+        (negated (atom_row predicates.now after.now))) }
     ensures fits { OnOk result (NegationFits (atom_row predicates.now after.now)
         × SubstitutionFits form.now.after (negated (atom_row predicates.now after.now)).term) }
-    ensures past { IsErrOf result TermEnd.Past128 → ¬ (NegationFits (atom_row predicates.now after.now)
+    ensures past { IsErrOf result TermEnd.Past128
+        → ¬ (NegationFits (atom_row predicates.now after.now)
         × SubstitutionFits form.now.after (negated (atom_row predicates.now after.now)).term) }
 {
     let row = placed_row(alloc, setting, predicates, after)?;
@@ -191,7 +201,8 @@ fn push_rows_of_threads(
     setting: &Setting,
     threads: u32,
 ) -> Result<(), TermEnd>
-    ensures rows { OnOk result (rows.new.items ≡ rows.old.items ++ rows_of_threads setting.now.init_each threads) }
+    ensures rows { OnOk result (rows.new.items ≡ rows.old.items
+        ++ rows_of_threads setting.now.init_each threads) }
     ensures fits { ¬ IsErrOf result TermEnd.Past128 }
 {
     for thread in 0..threads {
@@ -208,7 +219,8 @@ fn push_rows_of(
     thread: u32,
 ) -> Result<(), TermEnd>
     ensures rows { OnOk result
-        (rows.new.items ≡ rows.old.items ++ map (row_by (at_threads (thread ∷ []))) setting.now.init_each) }
+        (rows.new.items ≡ rows.old.items
+        ++ map (row_by (at_threads (thread ∷ []))) setting.now.init_each) }
     ensures fits { ¬ IsErrOf result TermEnd.Past128 }
 {
     let threads = [thread];

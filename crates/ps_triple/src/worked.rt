@@ -40,16 +40,22 @@ pub fn entries_of_the_counter_hold()
 
 /// One of these with other multipliers, or with a command that isn't there, has a first fault, so it doesn't hold.
 pub fn other_multipliers_do_not()
-    ensures few { IsFirstEntryFault counter_setting counter_predicates (leads 1 2 0 (1 ∷ 1 ∷ [])) (Length 2 3) }
-    ensures sum { IsFirstEntryFault counter_setting counter_predicates (leads 1 2 0 (1 ∷ 0 ∷ 0 ∷ [])) Sum }
+    ensures few { IsFirstEntryFault counter_setting counter_predicates (leads 1 2 0 (1 ∷ 1 ∷ []))
+        (Length 2 3) }
+    ensures sum { IsFirstEntryFault counter_setting counter_predicates
+        (leads 1 2 0 (1 ∷ 0 ∷ 0 ∷ [])) Sum }
     ensures past { IsFirstEntryFault counter_setting counter_predicates
         (leads 1 2 0 ((2 ^ 128 - 1) ∷ 1 ∷ 0 ∷ [])) Past128 }
-    ensures number { IsFirstEntryFault counter_setting counter_predicates (leads 1 7 0 (1 ∷ 1 ∷ [])) BadNumber }
+    ensures number { IsFirstEntryFault counter_setting counter_predicates
+        (leads 1 7 0 (1 ∷ 1 ∷ [])) BadNumber }
 {}
 
 /// A thread before the command that is neither 0 nor a thread after it is free.
 pub fn other_threads_are_faults()
-    ensures free { IsFirstEntryFault local_setting local_predicates (keeps (2 ∷ []) (1 ∷ []) []) FreeThread }
-    ensures mover { ¬ IsFirstEntryFault local_setting local_predicates (keeps (0 ∷ []) (1 ∷ []) []) FreeThread }
-    ensures slots { IsFirstEntryFault local_setting local_predicates (keeps (1 ∷ 1 ∷ []) (1 ∷ []) []) BadNumber }
+    ensures free { IsFirstEntryFault local_setting local_predicates
+        (keeps (2 ∷ []) (1 ∷ []) []) FreeThread }
+    ensures mover { ¬ IsFirstEntryFault local_setting local_predicates
+        (keeps (0 ∷ []) (1 ∷ []) []) FreeThread }
+    ensures slots { IsFirstEntryFault local_setting local_predicates
+        (keeps (1 ∷ 1 ∷ []) (1 ∷ []) []) BadNumber }
 {}

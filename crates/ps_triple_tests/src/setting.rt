@@ -121,7 +121,8 @@ pub struct Parts {
 }
 
 fn are_parts(parts: &Parts) -> bool
-    ensures once { IsTrue result → IsTrue (list_all (is_declared_row parts.now.globals 0) parts.now.once.items) }
+    ensures once { IsTrue result → IsTrue
+        (list_all (is_declared_row parts.now.globals 0) parts.now.once.items) }
     ensures each { IsTrue result
         → IsTrue (list_all (is_declared_row parts.now.globals parts.now.locals) parts.now.each.items) }
     ensures local { IsTrue result → IsTrue (list_all names_local parts.now.each.items) }

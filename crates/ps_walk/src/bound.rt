@@ -21,9 +21,11 @@ pub(crate) enum RowBound {
 // The row's bound, or `None` where the sum of the rest of the row, or the bound, lies outside `i128`.
 pub(crate) fn bound_of(found: &BTreeMap<Var, i128>, variable: Var, row: &Row) -> Option<RowBound>
     ensures fits { OnSome result
-        (coefficient variable row.now.term.pairs ≢ pos 0 → BoundFits (found_values found.now) variable row.now) }
+        (coefficient variable row.now.term.pairs ≢ pos 0
+        → BoundFits (found_values found.now) variable row.now) }
     ensures past { IfNone result
-        (¬ (coefficient variable row.now.term.pairs ≢ pos 0 → BoundFits (found_values found.now) variable row.now)) }
+        (¬ (coefficient variable row.now.term.pairs ≢ pos 0
+        → BoundFits (found_values found.now) variable row.now)) }
     ensures bound { IfSome result (IsRowBound (found_values found.now) variable row.now) }
 {
     let coefficient = row.term.pairs.coefficient(variable);

@@ -15,8 +15,10 @@ pub(crate) fn value_at(
     left_out: Option<Var>,
 ) -> Option<i128>
     ensures { SomeIff result
-        (EvaluationFitsFrom (found_values found.now) (pos 0) (others left_out row.now.term.pairs) row.now.term.constant)
-        (value (found_values found.now) (record { pairs = others left_out row.now.term.pairs; constant = row.now.term.constant })) }
+        (EvaluationFitsFrom (found_values found.now) (pos 0)
+        (others left_out row.now.term.pairs) row.now.term.constant)
+        (value (found_values found.now)
+        (record { pairs = others left_out row.now.term.pairs; constant = row.now.term.constant })) }
 {
     let mut sum: i128 = 0;
     for pair in row.term.pairs.as_slice() {
