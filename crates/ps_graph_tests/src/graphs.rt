@@ -1,4 +1,6 @@
 //! Copies of edges and graphs.
+ghost use Rattle.std.specs.Prelude.{◌≡◌, [], IfOk};
+
 use ps_command::Setting;
 use ps_graph::{Edge, Graph, Pick};
 use ps_list::Sequence;
@@ -39,7 +41,9 @@ fn setting(alloc: Global) -> Setting {
     }
 }
 
-fn empty_graph(alloc: Global) -> Result<Graph, AllocError> {
+pub(crate) fn empty_graph(alloc: Global) -> Result<Graph, AllocError>
+    ensures { IfOk result (λ graph. graph.edges ≡ []) }
+{
     Ok(Graph {
         locations: 2,
         edges: Sequence::from_list(Vec::new(alloc)),

@@ -4,4 +4,8 @@
 #[cfg(test)]
 mod graphs;
 #[cfg(test)]
+mod replays;
+#[cfg(test)]
+mod texts;
+#[cfg(test)]
 mod traces;

@@ -1,5 +1,5 @@
 //! Worked examples of the definitions: each function does no work, and its clauses are the examples.
-ghost use Rattle.ps_trace.specs.Examples.{ChoicesCount, CounterTraces, RaceIsReached, RaceIsTraced};
+ghost use Rattle.ps_trace.specs.Examples.{ChoicesCount, CounterTraces, FirstThatRuns, LettersAsk, RaceIsReached, RaceIsTraced, ThreadsStart};
 
 /// Which witnesses reach a failure.
 pub fn witnesses()
@@ -11,4 +11,15 @@ pub fn witnesses()
 pub fn traces()
     ensures race { RaceIsTraced }
     ensures counter { CounterTraces }
+{}
+
+/// The rows of letters, and of threads at the start.
+pub fn rows()
+    ensures letters { LettersAsk }
+    ensures threads { ThreadsStart }
+{}
+
+/// The edge that a step goes along.
+pub fn replays()
+    ensures { FirstThatRuns }
 {}

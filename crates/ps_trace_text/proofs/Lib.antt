@@ -1,1 +1,4 @@
+pub mod ThreadLines
 pub mod TraceLaws
+pub mod WitnessLaws
+pub mod WitnessPrinted

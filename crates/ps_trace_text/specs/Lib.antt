@@ -1,2 +1,4 @@
 pub mod TraceReading
 pub mod TraceSpelling
+pub mod WitnessReading
+pub mod WitnessSpelling

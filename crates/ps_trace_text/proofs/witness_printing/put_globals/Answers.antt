@@ -1,0 +1,9 @@
+use Rattle.std.specs.Prelude.{codes}
+use Rattle.std.proofs.lemmas.Result.{IfOk-equal}
+use Rattle.ps_trace_text.proofs.WitnessPrinted.{printed_values}
+use Rattle.ps_trace_text.proofs.witness_printing.put_globals.Goals as goal
+
+pub returns : goal.returns
+returns c =
+    IfOk-equal c.put_end.result _ _ _ c.put_end.ensures
+    (printed_values c.args.out.now.items (codes "globals") c.put_word.new.out.items c.put_values.new.out.items c.args.values.now c.in_ok-put_word.ensures c.in_ok-put_values.ensures)
