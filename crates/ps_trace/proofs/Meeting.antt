@@ -9,7 +9,8 @@ use Rattle.std.proofs.lemmas.List.{drop-drop, get_or-drop}
 use Rattle.std.proofs.lemmas.List.Elements.{recursion_from_All}
 use Rattle.std.proofs.lemmas.List.Folds.{list_all-append, list_all-map}
 use Rattle.ps_command.proofs.Alike.{runs_as_form}
-use Rattle.ps_command.proofs.Forms.{is_form, replacement-set, var_eq_sym, variable_value}
+use Rattle.ps_command.proofs.Forms.{is_form, replacement-set, variable_value}
+use Rattle.ps_term.proofs.Variables.{var_eq_sym}
 use Rattle.ps_command.proofs.Sizes.{step_sizes}
 use Rattle.ps_command.specs.Agreement.{AreSeenBy, RanAs}
 use Rattle.ps_command.specs.Fitting.{CanRun, IsSized}

@@ -5,7 +5,8 @@ use Rattle.ps_lines.proofs.Loop.{with_front, with_front-none, with_front-more}
 use Rattle.ps_lines.specs.declared.form_fault.FormFault.{FormFault}
 use Rattle.ps_lines.specs.declared.form_end.FormEnd.{FormEnd}
 use Rattle.ps_lines.specs.declared.form_end.FormEnd.TheVariants.{Fault, Memory}
-use Rattle.ps_lines.specs.Reading.{Position, Read, and_then, ◌>>=◌, Gives}
+use Rattle.ps_lines.specs.Reading.{Position, Read, Gives}
+use Rattle.ps_lines.specs.Steps.{and_then, ◌>>=◌}
 use Rattle.ps_trace_text.specs.WitnessReading.{all_locals_at, locals_at, next_thread}
 
 -- the thread before the one of this number

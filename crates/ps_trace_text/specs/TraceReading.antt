@@ -1,7 +1,8 @@
 -- Reading traces, with the first fault.
 use Rattle.std.specs.Prelude.{Result, Ok, codes}
 use Rattle.ps_lines.specs.declared.form_fault.FormFault.{FormFault}
-use Rattle.ps_lines.specs.Reading.{Position, Read, ◌>>=◌, leaf_at, natural32, line_at, end_at, only_at, done_at, header_at, times_at}
+use Rattle.ps_lines.specs.Reading.{Position, Read, leaf_at, natural32, line_at, end_at, only_at, done_at, header_at, times_at}
+use Rattle.ps_lines.specs.Steps.{◌>>=◌}
 use Rattle.ps_trace.specs.declared.trace.IndexedTrace.{IndexedTrace}
 use Rattle.ps_trace.specs.declared.trace.Letter.{Letter}
 

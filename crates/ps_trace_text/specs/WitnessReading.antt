@@ -4,7 +4,8 @@ use Rattle.ps_lines.specs.declared.form_fault.FormFault.{FormFault}
 use Rattle.ps_lines.specs.declared.form_name.FormName.{FormName}
 use Rattle.ps_lines.specs.declared.form_name.FormName.TheVariants as name
 use Rattle.ps_lines.specs.declared.until.Until.TheVariants.{LineEnd}
-use Rattle.ps_lines.specs.Reading.{Position, Read, ◌>>=◌, leaf_at, natural32, integer, word_at, line_at, end_at, only_at, done_at, header_at, list_at, while_at}
+use Rattle.ps_lines.specs.Reading.{Position, Read, leaf_at, natural32, integer, word_at, line_at, end_at, only_at, done_at, header_at, list_at, while_at}
+use Rattle.ps_lines.specs.Steps.{◌>>=◌}
 use Rattle.ps_lines.specs.Until.{goes}
 use Rattle.ps_trace.specs.declared.step.Step.{Step}
 use Rattle.ps_trace.specs.declared.witness.Witness.{Witness}

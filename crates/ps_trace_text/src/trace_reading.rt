@@ -22,7 +22,7 @@ impl Form for LetterLine {
 
     ghost reading = { letter_at };
 
-    #[tactic(auto, unfolding(crate::specs::TraceReading::letter_at, ps_lines::specs::Reading::and_then))]
+    #[tactic(auto, unfolding(crate::specs::TraceReading::letter_at, ps_lines::specs::Steps::and_then))]
     fn take<'a>(_alloc: Global, reader: &mut Reader<'a>) -> Result<Letter, FormEnd> {
         reader.line(b"step")?;
         let thread = reader.natural32()?;
@@ -32,7 +32,7 @@ impl Form for LetterLine {
     }
 }
 
-#[tactic(auto, unfolding(crate::specs::TraceReading::trace_at, ps_lines::specs::Reading::and_then))]
+#[tactic(auto, unfolding(crate::specs::TraceReading::trace_at, ps_lines::specs::Steps::and_then))]
 fn whole(alloc: Global, bytes: &[u8], first: u32) -> Result<IndexedTrace, FormEnd>
     requires from_one { 1 ≤ first }
     requires room { first + length bytes.now < 2 ^ 32 }

@@ -19,7 +19,7 @@ pub const MOST_THREADS: u32 = 4_096;
 pub const MOST_STEPS: u32 = 1_048_576;
 
 // Values up to the end of the line.
-#[tactic(auto, unfolding(crate::specs::WitnessReading::values_at, ps_lines::specs::Reading::and_then))]
+#[tactic(auto, unfolding(crate::specs::WitnessReading::values_at, ps_lines::specs::Steps::and_then))]
 fn take_values<'a>(alloc: Global, reader: &mut Reader<'a>) -> Result<Sequence<i128>, FormEnd>
     ensures { Gives (λ x. x) result reader.new (values_at reader.old) }
 {
@@ -29,7 +29,7 @@ fn take_values<'a>(alloc: Global, reader: &mut Reader<'a>) -> Result<Sequence<i1
 }
 
 // The line `witness 1`.
-#[tactic(auto, unfolding(crate::specs::WitnessReading::version_at, ps_lines::specs::Reading::and_then))]
+#[tactic(auto, unfolding(crate::specs::WitnessReading::version_at, ps_lines::specs::Steps::and_then))]
 fn take_version<'a>(reader: &mut Reader<'a>) -> Result<(), FormFault>
     ensures { Reads (λ x. x) result reader.new (version_at reader.old) }
 {
@@ -38,7 +38,7 @@ fn take_version<'a>(reader: &mut Reader<'a>) -> Result<(), FormFault>
     reader.end()
 }
 
-#[tactic(auto, unfolding(crate::specs::WitnessReading::globals_at, ps_lines::specs::Reading::and_then))]
+#[tactic(auto, unfolding(crate::specs::WitnessReading::globals_at, ps_lines::specs::Steps::and_then))]
 fn take_globals<'a>(alloc: Global, reader: &mut Reader<'a>) -> Result<Sequence<i128>, FormEnd>
     ensures { Gives (λ x. x) result reader.new (globals_at reader.old) }
 {
@@ -47,7 +47,7 @@ fn take_globals<'a>(alloc: Global, reader: &mut Reader<'a>) -> Result<Sequence<i
 }
 
 // The line of the thread after the one before.
-#[tactic(auto, unfolding(crate::specs::WitnessReading::locals_at, ps_lines::specs::Reading::and_then))]
+#[tactic(auto, unfolding(crate::specs::WitnessReading::locals_at, ps_lines::specs::Steps::and_then))]
 fn take_locals<'a>(
     alloc: Global,
     before: Option<u32>,
@@ -87,7 +87,7 @@ impl Form for StepLine {
 
     ghost reading = { step_at };
 
-    #[tactic(auto, unfolding(crate::specs::WitnessReading::step_at, ps_lines::specs::Reading::and_then))]
+    #[tactic(auto, unfolding(crate::specs::WitnessReading::step_at, ps_lines::specs::Steps::and_then))]
     fn take<'a>(alloc: Global, reader: &mut Reader<'a>) -> Result<Step, FormEnd> {
         reader.line(b"step")?;
         let thread = reader.natural32()?;
@@ -96,7 +96,7 @@ impl Form for StepLine {
     }
 }
 
-#[tactic(auto, unfolding(crate::specs::WitnessReading::witness_at, ps_lines::specs::Reading::and_then))]
+#[tactic(auto, unfolding(crate::specs::WitnessReading::witness_at, ps_lines::specs::Steps::and_then))]
 fn whole(alloc: Global, bytes: &[u8], first: u32) -> Result<Witness, FormEnd>
     requires from_one { 1 ≤ first }
     requires room { first + length bytes.now < 2 ^ 32 }
