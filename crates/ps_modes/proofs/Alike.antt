@@ -1,7 +1,6 @@
 -- A program has one graph, but for the numbers of its commands: a replay on each stays within 128 bits or on none.
-use Rattle.std.proofs.Common.{◌≡◌, ℕ, zero, suc, ℤ, List, [], ◌∷◌, refl, sym, ap, ◌∙◌, subst}
-use Rattle.std.specs.Prelude.{Option, Some, None, option_map, slice_get, slice_index_or, IsFalse, IsTrue, IfSome}
-use Rattle.std.specs.List.{AllZip}
+use Rattle.std.proofs.Common.{◌≡◌, ℕ, zero, suc, ℤ, List, [], ◌∷◌, refl, sym, ◌∙◌, subst}
+use Rattle.std.specs.Prelude.{Option, Some, None, slice_get, slice_index_or, IfSome}
 use Rattle.ps_command.specs.Commands.{ops_of}
 use Rattle.ps_command.specs.Fitting.{IsSized}
 use Rattle.ps_command.specs.Initial.{IsInitial}
@@ -9,16 +8,15 @@ use Rattle.ps_command.specs.RunFits.{RunFits, StartFits}
 use Rattle.ps_command.specs.Values.{Values}
 use Rattle.ps_command.specs.declared.command.Command.{Command}
 use Rattle.ps_command.specs.declared.op.Op.{Op}
-use Rattle.ps_command.specs.declared.setting.Setting.{Setting}
 use Rattle.ps_command.specs.declared.state.State.{State}
 use Rattle.ps_compile.specs.Compiled.{IsCompiled, IsEdge, AreEdges}
 use Rattle.ps_compile.specs.Layout.{Planned, all_planned, body_sites}
 use Rattle.ps_graph.specs.Follows.{along}
-use Rattle.ps_graph.specs.Threads.{Seat, World, Stepping, moved, step_at}
+use Rattle.ps_graph.specs.Threads.{Seat, World, Stepping, step_at}
 use Rattle.ps_graph.specs.declared.edge.Edge.{Edge}
 use Rattle.ps_graph.specs.declared.graph.Graph.{Graph}
 use Rattle.ps_trace.specs.Reaches.{steps_of, witness_state}
-use Rattle.ps_trace.specs.Replay.{at_error, along_first, or_else, moved_on, world_of, entered, EdgeFits, TriesFit, MoveFits, StepsFit, ReplayFits}
+use Rattle.ps_trace.specs.Replay.{along_first, moved_on, world_of, entered, EdgeFits, TriesFit, MoveFits, StepsFit, ReplayFits}
 use Rattle.ps_trace.specs.declared.witness.Witness.{Witness}
 use Rattle.ps_tree.specs.declared.program.Program.{Program}
 

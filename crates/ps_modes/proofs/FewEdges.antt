@@ -1,8 +1,7 @@
 -- A program within its limits has few edges.
-use Rattle.std.proofs.Common.{◌≡◌, ℕ, ◌+◌, ◌<◌, ◌≤◌, ◌^◌, List, [], ◌∷◌, ◌++◌, map, length, arith, length-append}
+use Rattle.std.proofs.Common.{◌≡◌, ℕ, ◌+◌, ◌<◌, ◌≤◌, ◌^◌, List, [], ◌∷◌, ◌++◌, length, arith, length-append}
 use Rattle.std.proofs.lemmas.List.{length-map}
 use Rattle.std.proofs.lemmas.Slice.Zip.{AllZip-long}
-use Rattle.ps_command.specs.declared.op.Op.{Op}
 use Rattle.ps_compile.specs.Checks.{Check, NoneIsExceeded, alternatives_checks, checks, commands_of, count_check, edges_checks, inner_checks, numbers_checks, paths_checks, rows_checks, site_checks}
 use Rattle.ps_compile.specs.Compiled.{IsCompiled, IsEdge}
 use Rattle.ps_compile.specs.Layout.{Planned, Site, all_planned, body_sites, planned_at}
@@ -10,7 +9,6 @@ use Rattle.ps_compile.specs.Ops.{ops_on}
 use Rattle.ps_compile.specs.declared.limits.TheConstants.{MOST_EDGES, MOST_LOCATIONS}
 use Rattle.ps_graph.specs.Paths.{Act}
 use Rattle.ps_graph.specs.declared.graph.Graph.{Graph}
-use Rattle.ps_token.specs.declared.place.Place.{Place}
 use Rattle.ps_tree.specs.declared.limit_name.LimitName.TheVariants as limit
 use Rattle.ps_tree.specs.declared.program.Program.{Program}
 use Rattle.ps_modes.specs.Programs.{limits_of}

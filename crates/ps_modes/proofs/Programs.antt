@@ -1,6 +1,6 @@
 -- A text is one program with its graph, or is refused in one way.
-use Rattle.std.proofs.Common.{◌≡◌, ℕ, ◌<◌, ◌≤◌, ◌^◌, List, [], ◌∷◌, length, Result, Ok, Err, Some, inl, inr, refl, sym, ap, ◌∙◌, subst, arith}
-use Rattle.ps_compile.specs.Checks.{Check, IsExceeded, IsFirstExceeded, NoneIsExceeded}
+use Rattle.std.proofs.Common.{◌≡◌, ℕ, List, [], ◌∷◌, Result, Ok, Err, Some, inl, inr, refl, sym, ap, ◌∙◌, subst}
+use Rattle.ps_compile.specs.Checks.{Check, IsFirstExceeded, NoneIsExceeded}
 use Rattle.ps_grammar.specs.Programs.{IsProgram, IsProgramText}
 use Rattle.ps_grammar.specs.Words.{words_of}
 use Rattle.ps_graph.specs.declared.graph.Graph.{Graph}

@@ -1,5 +1,5 @@
 -- An input that isn't too long owes `replay` one answer.
-use Rattle.std.proofs.Common.{◌≡◌, ℕ, ◌+◌, ◌<◌, ◌≤◌, ◌^◌, ◌⊎◌, inl, inr, List, [], ◌∷◌, ◌++◌, length, Contains, Result, Ok, Err, Option, Some, None, IfOk, IfSome, refl, sym, ap, ◌∙◌, subst, lit<, arith, length-append}
+use Rattle.std.proofs.Common.{◌≡◌, ℕ, ◌+◌, ◌<◌, ◌≤◌, ◌^◌, ◌⊎◌, inl, inr, List, [], ◌∷◌, ◌++◌, length, Contains, Result, Ok, Err, Option, Some, None, IfSome, refl, sym, ap, ◌∙◌, subst, lit<, arith, length-append}
 use Rattle.std.specs.Prelude.{count_by, ◌==◌}
 use Rattle.std.proofs.lemmas.List.{append_cancel_right}
 use Rattle.std.proofs.lemmas.List.Sums.{count_by-le-length}
@@ -12,8 +12,6 @@ use Rattle.ps_lines.specs.declared.form_fault.FormFault.{FormFault}
 use Rattle.ps_parts.proofs.Marks.{one_cut}
 use Rattle.ps_parts.specs.Cuts.{AreTwoParts, HasNoMark, IsNumbered, program_before}
 use Rattle.ps_parts.specs.declared.parts.TheConstants.{MOST_PROGRAM, MOST_WITNESS}
-use Rattle.ps_trace.specs.Reaches.{Reaches}
-use Rattle.ps_trace.specs.Replay.{ReplayFits}
 use Rattle.ps_trace.specs.declared.witness.Witness.{Witness}
 use Rattle.ps_trace_text.proofs.WitnessLaws.{witness_is_format}
 use Rattle.ps_trace_text.specs.WitnessReading.{witness_at}
@@ -22,13 +20,12 @@ use Rattle.ps_tree.specs.declared.program.Program.{Program}
 use Rattle.ps_modes.proofs.Alike.{fits_on_each}
 use Rattle.ps_modes.proofs.Programs.{not_refused, one_line, one_read}
 use Rattle.ps_modes.specs.Owes.{IsOwedAnswer, IsShort, IsVerdict, Owes, OwesStatus, SomeAnswer, TooLong, Within}
-use Rattle.ps_modes.specs.Programs.{SaysProgram}
-use Rattle.ps_modes.specs.Replay.{FirstFault, HasLongPart, HasTexts, LongPart, NoMark, NoProgram, NotOfForm, Owed, OwedOf, OwedToTexts, OwedToWitness, Parts, PastRange, Programs, Reached, Refusal, SaysBoth, SaysReached, SaysUnreached, SpellsWitness, Unreached, Witnesses}
+use Rattle.ps_modes.specs.Replay.{FirstFault, HasLongPart, HasTexts, LongPart, NoMark, NoProgram, NotOfForm, Owed, OwedOf, OwedToTexts, OwedToWitness, Parts, PastRange, Programs, Reached, Refusal, SaysReached, SaysUnreached, SpellsWitness, Unreached, Witnesses}
 use Rattle.ps_modes.specs.Status.{code, Exactly}
 use Rattle.ps_modes.specs.Texts.{fault_line}
 use Rattle.ps_modes.specs.declared.status.Status.{Status}
 use Rattle.ps_modes.specs.declared.status.Status.TheVariants.{Holds, Fails, Unknown, BadInput, BadWords, ReadFault, WriteFault, NoMemory}
-use Rattle.ps_modes.specs.declared.texts.TheConstants.{LIMIT_PART, NO, NO_MARK, PAST, YES}
+use Rattle.ps_modes.specs.declared.texts.TheConstants.{LIMIT_PART, NO, YES}
 
 -- ---- witnesses
 
