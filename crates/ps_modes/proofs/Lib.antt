@@ -1,3 +1,7 @@
+pub mod Alike
 pub mod Answering
 pub mod Asked
+pub mod FewEdges
 pub mod Owing
+pub mod Programs
+pub mod Replaying

@@ -4,4 +4,6 @@ pub mod Words
 pub mod Texts
 pub mod Owes
 pub mod Refute
+pub mod Programs
+pub mod Replay
 pub mod Inner

@@ -5,10 +5,11 @@ ghost use Rattle.std.specs.Global.{Global};
 ghost use Rattle.ps_modes.specs.Modes.{owed_by};
 ghost use Rattle.ps_modes.specs.Owes.{IsShort, Owes};
 ghost use Rattle.ps_modes.specs.Refute.{SaysYes, SaysNo};
+ghost use Rattle.ps_modes.specs.Replay.{SaysReached, SaysUnreached};
 ghost use Rattle.ps_modes.specs.Words.{AskFor};
 ghost use Rattle.ps_modes.specs.declared.input.TheConstants.{MOST_BYTES};
 ghost use Rattle.ps_modes.specs.declared.mode.Mode.{Mode};
-ghost use Rattle.ps_modes.specs.declared.mode.Mode.TheVariants.{Refute};
+ghost use Rattle.ps_modes.specs.declared.mode.Mode.TheVariants.{Refute, Replay};
 ghost use Rattle.ps_modes.specs.declared.status.Status.{Status};
 ghost use Rattle.ps_modes.specs.declared.status.Status.TheVariants.{Holds, Fails, BadInput};
 ghost use Rattle.ps_modes.specs.declared.texts.TheConstants.{NO, TOO_LONG, YES};
@@ -42,5 +43,18 @@ pub fn refute_owes()
         ↔ ((IsShort input × SaysNo input) × (text ≡ NO.now))) }
     ensures statuses { (input : List ℕ) (status : Status) (text : List ℕ)
         → Owes (owed_by Refute) input status text
+        → Contains (Holds ∷ Fails ∷ BadInput ∷ []) status }
+{}
+
+/// `replay` owes `yes` exactly where the input says so, `no` likewise, and beside them a refusal alone.
+pub fn replay_owes()
+    ensures yes { (input text : List ℕ)
+        → (Owes (owed_by Replay) input Holds text
+        ↔ ((IsShort input × SaysReached input) × (text ≡ YES.now))) }
+    ensures no { (input text : List ℕ)
+        → (Owes (owed_by Replay) input Fails text
+        ↔ ((IsShort input × SaysUnreached input) × (text ≡ NO.now))) }
+    ensures statuses { (input : List ℕ) (status : Status) (text : List ℕ)
+        → Owes (owed_by Replay) input status text
         → Contains (Holds ∷ Fails ∷ BadInput ∷ []) status }
 {}

@@ -6,11 +6,16 @@ ghost use Rattle.ps_modes.specs.declared.mode.Mode.{Mode};
 /// The word for `refute`.
 pub const REFUTE: &str = "refute";
 
+/// The word for `replay`.
+pub const REPLAY: &str = "replay";
+
 /// A mode that is built.
 #[derive(Clone, Copy)]
 pub enum Mode {
     /// Whether multipliers refute rows.
     Refute,
+    /// Whether a witness reaches a failure of a program.
+    Replay,
 }
 
 impl Mode {
@@ -20,6 +25,7 @@ impl Mode {
     {
         match self {
             Mode::Refute => REFUTE,
+            Mode::Replay => REPLAY,
         }
     }
 
@@ -30,6 +36,9 @@ impl Mode {
     {
         if name == Mode::Refute.name() {
             return Some(Mode::Refute);
+        }
+        if name == Mode::Replay.name() {
+            return Some(Mode::Replay);
         }
         None
     }

@@ -14,6 +14,7 @@ ghost use Rattle.ps_modes.specs.declared.status.Status.TheVariants.{Holds, Fails
 
 use crate::mode::Mode;
 use crate::refute::refute_run;
+use crate::replay::replay_run;
 use crate::status::Status;
 use crate::texts::USAGE;
 use crate::words::mode_asked;
@@ -23,8 +24,8 @@ use std::string::String;
 use std::sync::Wait;
 use std::thread::Threads;
 
-/// Does what the words ask for, and gives the program's exit status. The words are the program's name and a mode; the
-/// one mode that is built is `refute`.
+/// Does what the words ask for, and gives the program's exit status. The words are the program's name and a
+/// mode: `refute` or `replay`.
 ///
 /// It waits for nobody yet, and passes no gate.
 pub fn run<R, S: Source, K: Sink, G: Gate + Sync>(
@@ -74,6 +75,7 @@ where
 {
     match mode_asked(words) {
         Some(Mode::Refute) => refute_run(alloc, source, sink),
+        Some(Mode::Replay) => replay_run(alloc, source, sink),
         None => match write_all(sink, USAGE.as_bytes()) {
             Ok(()) => Status::BadWords.code(),
             Err(_) => Status::WriteFault.code(),

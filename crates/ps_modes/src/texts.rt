@@ -17,6 +17,12 @@ pub const TOO_LONG: &str = "input: too long\n";
 /// Refuses an input that leads to a number past 128 bits.
 pub const PAST: &str = "input: past 128 bits\n";
 
+/// Refuses an input of several parts without a mark.
+pub const NO_MARK: &str = "input: no mark\n";
+
+/// Refuses an input with a part that is too long.
+pub const LIMIT_PART: &str = "input: limit part\n";
+
 /// Written where the words ask for nothing that is built.
 pub const USAGE: &str = "usage: proofspace MODE [options]\n";
 

@@ -1,0 +1,181 @@
+//! The mode `replay`: whether the witness of the input reaches a failure of its program.
+ghost use Rattle.std.specs.Prelude.{◌≡◌, ℕ, ◌+◌, ◌<◌, ◌≤◌, ◌^◌, List, [], ◌∷◌, length, Some, IsTrue, IfOk, IfSome};
+ghost use Rattle.std.specs.Io.KnownBytes.{Appends, Keeps};
+ghost use Rattle.ps_compile.specs.Conditions.{IsCompilable};
+ghost use Rattle.ps_grammar.specs.Programs.{IsProgram};
+ghost use Rattle.ps_graph.specs.Errors.{IsGraphOf};
+ghost use Rattle.ps_io.specs.Bytes.{GaveAtMost, TookPrefix};
+ghost use Rattle.ps_io.specs.Causes.{Rose};
+ghost use Rattle.ps_modes.specs.Owes.{IsShort, IsVerdict, OwesStatus, SomeAnswer};
+ghost use Rattle.ps_modes.specs.Replay.{IsRefusedInput, Owed, OwedOf, OwedToTexts, OwedToWitness, Refusal, SaysReached, SaysUnreached};
+ghost use Rattle.ps_modes.specs.Status.{code, Exactly, IsOneOf};
+ghost use Rattle.ps_modes.specs.declared.status.Status.{Status};
+ghost use Rattle.ps_modes.specs.declared.status.Status.TheVariants.{Holds, Fails, BadInput, BadWords, ReadFault, WriteFault, NoMemory};
+ghost use Rattle.ps_parse.specs.Refusals.{refusal_text};
+ghost use Rattle.ps_tree.specs.declared.program.Program.{Program};
+
+use crate::answer::{Answer, answer_line};
+use crate::frame::answer_input;
+use crate::input::MOST_BYTES;
+use crate::judge::Judge;
+use crate::status::Status;
+use crate::texts::{LIMIT_PART, NO, NO_MARK, PAST, YES, fault_line};
+use ps_command::RunEnd;
+use ps_compile::{CompileEnd, compile};
+use ps_graph::Graph;
+use ps_io::{Sink, Source};
+use ps_parse::{ReadRefusal, read_program, refusal_line};
+use ps_parts::{MOST_WITNESS, PartsEnd, two_parts};
+use ps_text::FormEnd;
+use ps_trace::{Witness, replay};
+use ps_trace_text::read_witness;
+use ps_tree::Program;
+use std::alloc::{AllocError, Global};
+
+/// Reads the source to its end, and writes `yes` or `no`, or the line that refuses the input. Returns always.
+///
+/// The answer is made whole before anything is written.
+pub fn replay_run<S: Source, K: Sink>(alloc: Global, source: &mut S, sink: &mut K) -> u8
+    ensures statuses { IsOneOf result
+        (Holds ∷ Fails ∷ BadInput ∷ ReadFault ∷ WriteFault ∷ NoMemory ∷ []) }
+    ensures yes { IfSome (S.left source.old)
+        (λ input. Exactly result Holds (IsShort input × SaysReached input)) }
+    ensures yes_text { result ≡ code Holds
+        → Appends (K.written sink.old) (K.written sink.new) YES.now }
+    ensures no { IfSome (S.left source.old)
+        (λ input. Exactly result Fails (IsShort input × SaysUnreached input)) }
+    ensures no_text { result ≡ code Fails
+        → Appends (K.written sink.old) (K.written sink.new) NO.now }
+    ensures refused { IfSome (S.left source.old)
+        (λ input. Exactly result BadInput (IsRefusedInput input)) }
+    ensures refused_text { result ≡ code BadInput → IfSome (S.left source.old) (λ input.
+        (text : List ℕ) × Refusal input text × Appends (K.written sink.old) (K.written sink.new) text) }
+
+    // The status and the text that the input owes, and the whole text was written.
+    ensures answer { result < code BadWords → SomeAnswer Owed (S.left source.old)
+        (λ status text. (result ≡ code status) × Appends (K.written sink.old) (K.written sink.new) text) }
+    ensures exactly { IfSome (S.left source.old) (λ input. (status : Status) → IsVerdict status
+        → Exactly result status (OwesStatus Owed input status)) }
+    ensures prefix { result ≡ code WriteFault → SomeAnswer Owed (S.left source.old)
+        (λ status text. TookPrefix (K.written sink.old) (K.written sink.new) text) }
+
+    ensures read_fault { result ≡ code ReadFault
+        → Rose (S.faults source.old) (S.faults source.new) }
+    ensures read_fault_last { result ≡ code ReadFault → IsTrue (S.failed source.new) }
+    ensures read_fault_within { result ≡ code ReadFault
+        → GaveAtMost MOST_BYTES (S.left source.old) (S.left source.new) }
+    ensures read_fault_text { result ≡ code ReadFault
+        → Keeps (K.written sink.old) (K.written sink.new) }
+    ensures read_stayed { ¬ (result ≡ code ReadFault) → S.faults source.new ≡ S.faults source.old }
+    ensures write_fault { result ≡ code WriteFault → Rose (K.faults sink.old) (K.faults sink.new) }
+    ensures write_stayed { ¬ (result ≡ code WriteFault) → K.faults sink.new ≡ K.faults sink.old }
+    ensures no_memory_text { result ≡ code NoMemory
+        → Keeps (K.written sink.old) (K.written sink.new) }
+{
+    answer_input(alloc, &Replay, source, sink)
+}
+
+/// Answers a program and a witness.
+struct Replay;
+
+impl Judge for Replay {
+    ghost owed = { λ _. Owed };
+
+    fn judge(&self, alloc: Global, input: &[u8]) -> Result<Answer, AllocError> {
+        match two_parts(input, MOST_WITNESS) {
+            Ok(parts) => judge_texts(alloc, parts.program, parts.last.bytes, parts.last.line),
+            Err(PartsEnd::NoMark) => answer_line(alloc, Status::BadInput, NO_MARK),
+            Err(PartsEnd::LimitPart) => answer_line(alloc, Status::BadInput, LIMIT_PART),
+        }
+    }
+}
+
+/// The answer to the texts of a program and of a witness, the second of which begins at this line.
+fn judge_texts(
+    alloc: Global,
+    program: &[u8],
+    witness: &[u8],
+    line: u32,
+) -> Result<Answer, AllocError>
+    requires program { length program.now + 1 < 2 ^ 32 }
+    requires from_one { 1 ≤ line }
+    requires room { line + length witness.now < 2 ^ 32 }
+    ensures { IfOk result
+        (λ answer. OwedToTexts program.now witness.now line answer.status answer.text.items) }
+{
+    match read_program(alloc, program) {
+        Ok(read) => judge_program(alloc, &read, witness, line),
+        Err(refusal) => refuse(alloc, &refusal),
+    }
+}
+
+/// The answer to a program and the text of a witness, which begins at this line.
+fn judge_program(
+    alloc: Global,
+    program: &Program,
+    witness: &[u8],
+    line: u32,
+) -> Result<Answer, AllocError>
+    requires compilable { IsCompilable program.now }
+    requires from_one { 1 ≤ line }
+    requires room { line + length witness.now < 2 ^ 32 }
+    ensures { (text : List ℕ) → IsProgram text program.now → IfOk result
+        (λ answer. OwedToTexts text witness.now line answer.status answer.text.items) }
+{
+    match compile(alloc, program) {
+        Ok(graph) => judge_witness(alloc, &graph, witness, line),
+        Err(CompileEnd::Limit(place, limit)) => refuse(alloc, &ReadRefusal::Limit(place, limit)),
+        Err(CompileEnd::Memory(end)) => Err(end),
+    }
+}
+
+/// The answer to the graph of a program and the text of a witness, which begins at this line.
+fn judge_witness(alloc: Global, graph: &Graph, text: &[u8], line: u32) -> Result<Answer, AllocError>
+    requires few { length graph.now.edges < 2 ^ 32 }
+    requires from_one { 1 ≤ line }
+    requires room { line + length text.now < 2 ^ 32 }
+    ensures { (program : Program) → IsGraphOf program graph.now → IfOk result (λ answer.
+        OwedToWitness program graph.now text.now line answer.status answer.text.items) }
+{
+    match read_witness(alloc, text, line) {
+        Ok(witness) => judge_replay(alloc, graph, &witness),
+        Err(FormEnd::Fault(fault)) => Ok(Answer {
+            status: Status::BadInput,
+            text: fault_line(alloc, &fault)?,
+        }),
+        Err(FormEnd::Memory(end)) => Err(end),
+    }
+}
+
+/// The answer to the graph of a program and a witness.
+fn judge_replay(alloc: Global, graph: &Graph, witness: &Witness) -> Result<Answer, AllocError>
+    requires { length graph.now.edges < 2 ^ 32 }
+    ensures { (program : Program) → IsGraphOf program graph.now → IfOk result (λ answer.
+        OwedOf program graph.now witness.now answer.status answer.text.items) }
+{
+    match replay(alloc, graph, witness) {
+        Ok(yes) => {
+            if yes {
+                answer_line(alloc, Status::Holds, YES)
+            } else {
+                answer_line(alloc, Status::Fails, NO)
+            }
+        }
+        Err(RunEnd::Past128) => answer_line(alloc, Status::BadInput, PAST),
+        Err(RunEnd::Memory(end)) => Err(end),
+    }
+}
+
+/// The answer to the text of a program that is refused so.
+fn refuse(alloc: Global, refusal: &ReadRefusal) -> Result<Answer, AllocError>
+    ensures status { IfOk result (λ answer. answer.status ≡ BadInput) }
+    ensures text { IfOk result (λ answer. refusal_text refusal.now ≡ Some answer.text.items) }
+{
+    match refusal_line(alloc, refusal)? {
+        Some(text) => Ok(Answer {
+            status: Status::BadInput,
+            text,
+        }),
+        None => Err(AllocError),
+    }
+}
