@@ -30,9 +30,9 @@ fn copies_edges(rt: HostRuntime) -> Result<(), Fail> {
     Ok(())
 }
 
-fn setting(alloc: Global) -> Setting {
+fn setting(alloc: Global, globals: u32) -> Setting {
     Setting {
-        globals: 0,
+        globals,
         locals: 0,
         init_once: Sequence::from_list(Vec::new(alloc)),
         init_each: Sequence::from_list(Vec::new(alloc)),
@@ -41,7 +41,8 @@ fn setting(alloc: Global) -> Setting {
     }
 }
 
-pub(crate) fn empty_graph(alloc: Global) -> Result<Graph, AllocError>
+// A graph of no edges, with so many globals.
+pub(crate) fn empty_graph(alloc: Global, globals: u32) -> Result<Graph, AllocError>
     ensures { IfOk result (λ graph. graph.edges ≡ []) }
 {
     Ok(Graph {
@@ -50,7 +51,7 @@ pub(crate) fn empty_graph(alloc: Global) -> Result<Graph, AllocError>
         entries: Sequence::from_list(Vec::new(alloc)),
         once: None,
         owner: Sequence::from_slice(alloc, &[None, None])?,
-        setting: setting(alloc),
+        setting: setting(alloc, globals),
     })
 }
 
@@ -62,7 +63,7 @@ fn are_alike(alloc: Global, given: &Graph, copied: &Graph) -> Result<bool, Alloc
 
 #[test]
 fn copies_graphs(rt: HostRuntime) -> Result<(), Fail> {
-    let given = empty_graph(rt.alloc())?;
+    let given = empty_graph(rt.alloc(), 0)?;
     let copied = given.copy(rt.alloc())?;
     assert!(rt; copied.owner.as_slice() == [None, None].as_slice());
     assert!(rt; are_alike(rt.alloc(), &given, &copied)?);

@@ -1,11 +1,14 @@
 pub mod Begins
 pub mod Exiting
 pub mod Following
+pub mod Knowing
 pub mod Meeting
+pub mod Numbering
 pub mod Owning
 pub mod Picked
 pub mod Reaching
 pub mod Results
 pub mod Rowing
+pub mod Stepping
 pub mod Tried
 pub mod Walking

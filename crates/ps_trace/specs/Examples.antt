@@ -1,10 +1,11 @@
 -- Worked examples: witnesses, and traces.
 use Rattle.std.specs.Prelude.{◌≡◌, ℕ, ℤ, pos, negsuc, List, [], ◌∷◌, Some, None}
 use Rattle.ps_command.specs.Values.{Values}
+use Rattle.ps_command.specs.declared.op.Op.TheVariants.{Havoc as Havocs}
 use Rattle.ps_command.specs.declared.symbolic_form.SymbolicForm.{SymbolicForm}
-use Rattle.ps_graph.specs.Examples.{of_body, race}
+use Rattle.ps_graph.specs.Examples.{of_body, race, x}
 use Rattle.ps_graph.specs.Examples.Steps.{guess}
-use Rattle.ps_graph.specs.Examples.Traces.{HasParts, IsCounter, race_commands, race_edges}
+use Rattle.ps_graph.specs.Examples.Traces.{HasParts, IsCounter, picking, race_commands, race_edges}
 use Rattle.ps_graph.specs.declared.graph.Graph.{Graph}
 use Rattle.ps_trace.specs.Reaches.{Reaches}
 use Rattle.ps_term.specs.declared.row.Row.{Row}
@@ -14,6 +15,7 @@ use Rattle.ps_term.specs.declared.var.Var.TheVariants.{Global, Local, Havoc}
 use Rattle.ps_trace.specs.Replay.{along_first}
 use Rattle.ps_trace.specs.Rows.{SoFar, after_letter, letter_rows, nothing_yet, rows_of_each, threads_in_trace}
 use Rattle.ps_trace.specs.Traces.{IsErrorTraceOf, IsFeasibleTraceOf}
+use Rattle.ps_trace.specs.WitnessOf.{steps_by, value_among, witness_of}
 use Rattle.ps_trace.specs.declared.step.Step.{Step}
 use Rattle.ps_trace.specs.declared.trace.IndexedTrace.{IndexedTrace}
 use Rattle.ps_trace.specs.declared.trace.Letter.{Letter}
@@ -124,3 +126,25 @@ FirstThatRuns =
     × (along_first race_commands race_edges 4 (sees (pos 2) (pos 0)) [] ≡ Some (sees (pos 2) (pos 0), 1))
     × (along_first race_commands race_edges 4 (sees (pos 1) (pos 0)) (pos 0 ∷ []) ≡ None)
     × (along_first race_commands race_edges 2 (sees (pos 1) (pos 0)) [] ≡ None)
+
+-- ---- witnesses of traces
+
+-- Thread 2 reads and writes, thread 0 reads and writes, and thread 2 then fails. Thread 0 stays the first, and 2 becomes
+-- 1; of the two values for its local the first counts, and the local of thread 0 has none.
+abbrev pub RaceIsWitnessed : Type 0
+RaceIsWitnessed =
+    let letters : List (ℕ × ℕ) = (2, 0) ∷ (2, 1) ∷ (0, 0) ∷ (0, 1) ∷ (2, 4) ∷ [] in
+    let values : List (Var × ℤ) = (Local 2 0, pos 5) ∷ (Global 0, negsuc 6) ∷ (Local 2 0, pos 9) ∷ [] in
+    let steps : List Step = step_of 1 [] ∷ step_of 1 [] ∷ step_of 0 [] ∷ step_of 0 [] ∷ step_of 1 [] ∷ [] in
+    (graph : Graph) → HasParts race_commands race_edges 0 1 None graph →
+    witness_of graph letters (value_among values)
+    ≡ record { globals = negsuc 6 ∷ []; locals = (pos 0 ∷ []) ∷ (pos 5 ∷ []) ∷ []; steps = steps }
+
+-- Of an edge by the choice of a `*` and the value of a havoc, the first letter takes the value of the havoc 0, and the
+-- second that of the havoc 1.
+abbrev pub HavocsAreNumbered : Type 0
+HavocsAreNumbered =
+    let values : List (Var × ℤ) = (Havoc 1, pos 8) ∷ (Havoc 0, pos 7) ∷ [] in
+    (graph : Graph) → graph.setting.commands ≡ record { ops = Havocs x ∷ [] } ∷ [] → graph.edges ≡ picking →
+    steps_by graph (3 ∷ []) (value_among values) 0 ((3, 0) ∷ (3, 0) ∷ [])
+    ≡ step_of 0 (pos 1 ∷ pos 7 ∷ []) ∷ step_of 0 (pos 1 ∷ pos 8 ∷ []) ∷ []

@@ -5,3 +5,4 @@ pub mod Reaches
 pub mod Replay
 pub mod Rows
 pub mod Traces
+pub mod WitnessOf

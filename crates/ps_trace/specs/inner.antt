@@ -1,3 +1,4 @@
+pub mod Known
 pub mod Leaving
 pub mod Own
 pub mod Paths

@@ -2,6 +2,7 @@
 #![tactic(auto)]
 
 mod error_trace;
+mod known;
 pub mod laws;
 mod leaving;
 mod picking;
@@ -16,6 +17,7 @@ mod trace;
 mod trying;
 mod walk;
 mod witness;
+mod witnessing;
 pub mod worked;
 
 pub use error_trace::is_error_trace;
@@ -25,3 +27,4 @@ pub use rows::trace_rows;
 pub use step::Step;
 pub use trace::{IndexedTrace, Letter};
 pub use witness::Witness;
+pub use witnessing::witness_of;

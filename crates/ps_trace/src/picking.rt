@@ -45,7 +45,7 @@ fn take_choice(pick: Pick, choice: i128, havocs: &mut Vec<i128>) -> Result<bool,
 }
 
 // The choice of a `*`.
-fn choice_of(holds: bool) -> i128
+pub(crate) fn choice_of(holds: bool) -> i128
     ensures { result ≡ choice_of holds }
 {
     if holds { 1 } else { 0 }

@@ -58,7 +58,7 @@ fn append_rows(
 }
 
 // The symbolic form of the command of the edge.
-fn form_at(graph: &Graph, edge: u32) -> &SymbolicForm
+pub(crate) fn form_at(graph: &Graph, edge: u32) -> &SymbolicForm
     requires { edge < length graph.now.edges }
     ensures form { result.now ≡ form_at graph.now edge }
     ensures own { IsTrue (is_own_form result.now) }
@@ -85,7 +85,7 @@ fn rows_at_start(
 }
 
 // The threads of the letters, in ascending order.
-fn threads_of(alloc: Global, letters: &[Letter]) -> Result<BTreeSet<u32>, AllocError>
+pub(crate) fn threads_of(alloc: Global, letters: &[Letter]) -> Result<BTreeSet<u32>, AllocError>
     ensures { IfOk result (λ threads. threads.keys ≡ threads_in_trace (pairs_in letters.now)) }
 {
     let mut threads = BTreeSet::new(alloc);

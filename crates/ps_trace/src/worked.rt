@@ -1,5 +1,5 @@
 //! Worked examples of the definitions: each function does no work, and its clauses are the examples.
-ghost use Rattle.ps_trace.specs.Examples.{ChoicesCount, CounterTraces, FirstThatRuns, LettersAsk, RaceIsReached, RaceIsTraced, ThreadsStart};
+ghost use Rattle.ps_trace.specs.Examples.{ChoicesCount, CounterTraces, FirstThatRuns, HavocsAreNumbered, LettersAsk, RaceIsReached, RaceIsTraced, RaceIsWitnessed, ThreadsStart};
 
 /// Which witnesses reach a failure.
 pub fn witnesses()
@@ -22,4 +22,10 @@ pub fn rows()
 /// The edge that a step goes along.
 pub fn replays()
     ensures { FirstThatRuns }
+{}
+
+/// The witness that a trace makes of values, and the numbers of havocs.
+pub fn made_witnesses()
+    ensures race { RaceIsWitnessed }
+    ensures havocs { HavocsAreNumbered }
 {}
