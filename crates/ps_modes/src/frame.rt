@@ -31,7 +31,8 @@ pub(crate) fn answer_input<J: Judge, S: Source, K: Sink>(
 
     // The status and the text that the input owes, and the whole text was written.
     ensures answer { result < code BadWords → SomeAnswer (J.owed judge.now) (S.left source.old)
-        (λ status text. (result ≡ code status) × Appends (K.written sink.old) (K.written sink.new) text) }
+        (λ status text. (result ≡ code status)
+        × Appends (K.written sink.old) (K.written sink.new) text) }
     ensures exactly { IfSome (S.left source.old) (λ input. (status : Status) → IsVerdict status
         → Exactly result status (OwesStatus (J.owed judge.now) input status)) }
     ensures prefix { result ≡ code WriteFault → SomeAnswer (J.owed judge.now) (S.left source.old)

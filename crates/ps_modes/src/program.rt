@@ -52,9 +52,11 @@ where
     // Words that ask for a mode: the status and the text that it owes to the input, and the whole text was written.
     ensures answer { (mode : Mode) → AskFor words.now mode → result < code BadWords
         → SomeAnswer (owed_by mode) (S.left source.old)
-        (λ status text. (result ≡ code status) × Appends (K.written sink.old) (K.written sink.new) text) }
+        (λ status text. (result ≡ code status)
+        × Appends (K.written sink.old) (K.written sink.new) text) }
     ensures exactly { (mode : Mode) → AskFor words.now mode → IfSome (S.left source.old) (λ input.
-        (status : Status) → IsVerdict status → Exactly result status (OwesStatus (owed_by mode) input status)) }
+        (status : Status) → IsVerdict status
+        → Exactly result status (OwesStatus (owed_by mode) input status)) }
     ensures prefix { (mode : Mode) → AskFor words.now mode → result ≡ code WriteFault
         → SomeAnswer (owed_by mode) (S.left source.old)
         (λ status text. TookPrefix (K.written sink.old) (K.written sink.new) text) }

@@ -49,11 +49,13 @@ pub fn replay_run<S: Source, K: Sink>(alloc: Global, source: &mut S, sink: &mut 
     ensures refused { IfSome (S.left source.old)
         (λ input. Exactly result BadInput (IsRefusedInput input)) }
     ensures refused_text { result ≡ code BadInput → IfSome (S.left source.old) (λ input.
-        (text : List ℕ) × Refusal input text × Appends (K.written sink.old) (K.written sink.new) text) }
+        (text : List ℕ) × Refusal input text
+        × Appends (K.written sink.old) (K.written sink.new) text) }
 
     // The status and the text that the input owes, and the whole text was written.
     ensures answer { result < code BadWords → SomeAnswer Owed (S.left source.old)
-        (λ status text. (result ≡ code status) × Appends (K.written sink.old) (K.written sink.new) text) }
+        (λ status text. (result ≡ code status)
+        × Appends (K.written sink.old) (K.written sink.new) text) }
     ensures exactly { IfSome (S.left source.old) (λ input. (status : Status) → IsVerdict status
         → Exactly result status (OwesStatus Owed input status)) }
     ensures prefix { result ≡ code WriteFault → SomeAnswer Owed (S.left source.old)
