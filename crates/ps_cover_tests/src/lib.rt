@@ -13,5 +13,4 @@ mod embeds;
 mod slow;
 #[cfg(test)]
 mod table;
-#[cfg(test)]
-mod text;
+pub mod text;

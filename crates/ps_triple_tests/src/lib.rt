@@ -7,7 +7,6 @@ mod entries;
 mod lists;
 #[cfg(test)]
 mod setting;
-#[cfg(test)]
-mod text;
+pub mod text;
 #[cfg(test)]
 mod world;
