@@ -23,14 +23,17 @@ use Rattle.ps_graph.specs.Facts.{entries_owned, entries_owned_from, is_same_body
 use Rattle.ps_graph.specs.declared.edge.Edge.{Edge}
 use Rattle.ps_graph.specs.declared.graph.Graph.{Graph}
 use Rattle.ps_soundness.proofs.Choices.{IsChoice, SomeGood, choose}
-use Rattle.ps_soundness.proofs.Demands.{Demand, before_threads, demand_of, gives_renamed}
+use Rattle.ps_soundness.proofs.Demands.{before_threads, gives_renamed}
+use Rattle.ps_demand.proofs.Giving.{Demand, demand_of}
 use Rattle.ps_soundness.specs.Traces.{AvoidError, command_of_edge, trace_of}
 use Rattle.ps_step.proofs.Demanding.{hits_meets}
 use Rattle.ps_step.proofs.Moved.{moved_at_is}
 use Rattle.ps_step.specs.Closed.{IsClosed, IsCovered}
-use Rattle.ps_step.specs.Steps.{AreTied, IsAccepting, IsDue, IsOfOnce, Stands}
+use Rattle.ps_step.specs.Steps.{IsAccepting, IsDue, IsOfOnce, Stands}
+use Rattle.ps_demand.specs.Demands.{AreTied}
 use Rattle.ps_step.specs.inner.Back.{moved_at}
-use Rattle.ps_step.specs.inner.Demands.{HitsAll, demands}
+use Rattle.ps_demand.specs.Demands.{demands}
+use Rattle.ps_demand.specs.Hitting.{HitsAll}
 use Rattle.ps_triple.proofs.Membership.{all_of}
 use Rattle.ps_triple.specs.Entries.{GivesAtom, HasInitial, false_atom}
 use Rattle.ps_triple.specs.declared.entry.Entry.{Entry}

@@ -6,33 +6,13 @@ use Rattle.ps_atom.specs.declared.atom.Atom.{Atom}
 use Rattle.ps_list.proofs.Mapped.{from_flat_mapped, from_mapped}
 use Rattle.ps_config.proofs.Occurring.{of_renamed, renamed_twice}
 use Rattle.ps_list.proofs.Members.{here, there}
-use Rattle.ps_step.proofs.Demanding.{demanded_given, pre_threads}
-use Rattle.ps_step.proofs.Picked.{from_picked, twice_all}
+use Rattle.ps_demand.proofs.Demanding.{pre_threads}
+use Rattle.ps_demand.proofs.Picked.{twice_all}
 use Rattle.ps_step.proofs.Pulled.{given_threads}
-use Rattle.ps_step.specs.Steps.{AreTied}
-use Rattle.ps_step.specs.inner.Demands.{demand, demands}
+use Rattle.ps_demand.specs.Demands.{AreTied}
 use Rattle.ps_triple.specs.Entries.{GivesAtom, threads_in}
 use Rattle.ps_triple.specs.declared.entry.Entry.{Entry}
 use Rattle.ps_triple.specs.declared.entry.Entry.TheVariants.{Triple as OfTriple, Initial as OfInitial}
-
--- a renamed triple with these atoms before, and after it one of the atoms
-pub record Demand (entries : List Entry) (thread command : ℕ) (atoms before : List Atom) : Type 0 where
-  pub after : Atom
-  pub within : Contains atoms after
-  pub gives : GivesAtom entries thread command before after
-
-of_entry : (entries : List Entry) (tied : AreTied entries) (thread command : ℕ) (q : Atom) (set : List Atom) (entry : Entry) → Contains entries entry →
-    demand thread command q entry ≡ Some set → GivesAtom entries thread command set q
-of_entry entries tied thread command q set (OfTriple t) c e = demanded_given entries thread command q t set (tied (OfTriple t) c) c e
-of_entry entries tied thread command q set (OfInitial i) c e = absurd (let none_such : ⊥ = cc in none_such)
-
--- each of the lists of demands is one
-pub demand_of : (entries : List Entry) → AreTied entries → (atoms : List Atom) (thread command : ℕ) (set : List Atom) →
-    Contains (demands entries atoms thread command) set → Demand entries thread command atoms set
-demand_of entries tied atoms thread command set h =
-    let w = from_flat_mapped (λ (q : Atom). filter_map (demand thread command q) entries) atoms set h in
-    let v = from_picked (demand thread command w.0) entries set w.2 in
-    record { after = w.0; within = w.1; gives = of_entry entries tied thread command w.0 set v.0 v.1 v.2 }
 
 -- the threads of a renamed triple are the mover and those of its post
 image_in : (entries : List Entry) (tied : AreTied entries) (thread command : ℕ) (before : List Atom) (after : Atom) (g : GivesAtom entries thread command before after)

@@ -13,7 +13,8 @@ use Rattle.ps_graph.specs.declared.graph.Graph.{Graph}
 use Rattle.ps_triple.specs.declared.entry.Entry.{Entry}
 use Rattle.ps_step.specs.Successors.{step_cmp, successor_cmp, AreSuccessors, CoverAll}
 use Rattle.ps_step.specs.inner.Parts.{AreSmallestOf}
-use Rattle.ps_step.specs.Steps.{AreTied, IsSmallest}
+use Rattle.ps_step.specs.Steps.{IsSmallest}
+use Rattle.ps_demand.specs.Demands.{AreTied}
 use Rattle.ps_step.specs.declared.expansion.Successor.{Successor}
 use Rattle.ps_step.proofs.Smallest.{covered_by_smallest}
 

@@ -4,7 +4,7 @@ use Rattle.std.specs.List.{filter}
 use Rattle.std.proofs.lemmas.Bool.{false≢true}
 use Rattle.ps_list.proofs.Members.{nothing, cons_cases, here, there}
 use Rattle.ps_list.proofs.Mapped.{kept, from_kept}
-use Rattle.ps_step.specs.inner.Demands.{MeetsSet, HitsAll, IsLeastHit}
+use Rattle.ps_demand.specs.Hitting.{MeetsSet, HitsAll, IsLeastHit}
 
 -- ---- what can be told
 

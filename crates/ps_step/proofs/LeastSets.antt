@@ -15,11 +15,11 @@ use Rattle.ps_hit.specs.Answer.{HasMore}
 use Rattle.ps_hit.specs.Hitting.{IsListedHit}
 use Rattle.ps_list.proofs.Members.{here, there}
 use Rattle.ps_list.proofs.Mapped.{mapped, from_mapped}
-use Rattle.ps_step.specs.inner.Demands.{IsLeastHit}
-use Rattle.ps_step.specs.inner.Numbered.{at_place, named, IsNumbered}
+use Rattle.ps_demand.specs.Hitting.{IsLeastHit}
+use Rattle.ps_demand.specs.Numbered.{at_place, named, IsNumbered}
 use Rattle.ps_step.proofs.Numbered.{hit_within, listed_least, least_listed, named_cmp, named_ascend}
 use Rattle.ps_step.specs.inner.Found.{AreLeast, AreAllLeast}
-use Rattle.ps_step.specs.inner.Pools.{AreOfPool, lists_of}
+use Rattle.ps_demand.specs.Pools.{AreOfPool, lists_of}
 
 pub listed_within : (pool : List Atom) (demands : List (List Atom)) (sets hits : List (List ℕ)) → IsNumbered pool demands sets → Each (IsListedHit sets) hits → (hit : List ℕ) → Contains hits hit → AreOfPool pool hit
 listed_within pool demands sets hits is all hit c = hit_within pool demands sets hit is (All-contains (IsListedHit sets) hits hit all c).is_minimal

@@ -1,8 +1,6 @@
 pub mod Moved
 pub mod Counter
 pub mod CounterSteps
-pub mod Picked
-pub mod Sent
 pub mod Demanding
 pub mod Pulled
 pub mod Least
@@ -10,8 +8,6 @@ pub mod Numbered
 pub mod Smallest
 pub mod Expanding
 pub mod Fewer
-pub mod Pooling
-pub mod Scanning
 pub mod LeastSets
 pub mod Seen
 pub mod Accepts

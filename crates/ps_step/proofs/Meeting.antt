@@ -12,11 +12,14 @@ use Rattle.ps_config.specs.Configurations.{Configuration}
 use Rattle.ps_config.specs.Sent.{sent}
 use Rattle.ps_graph.specs.declared.edge.Edge.{Edge}
 use Rattle.ps_graph.specs.declared.graph.Graph.{Graph}
-use Rattle.ps_step.specs.Steps.{AreTied, GoesBack, Stands}
-use Rattle.ps_step.specs.inner.Demands.{HitsAll, MeetsSet, demand, demands, is_renaming}
-use Rattle.ps_step.proofs.Demanding.{chosen, hits_meets, meets_hits, of_chosen}
-use Rattle.ps_step.proofs.Picked.{from_picked, picked}
-use Rattle.ps_step.proofs.Scanning.{other_demands_none}
+use Rattle.ps_step.specs.Steps.{GoesBack, Stands}
+use Rattle.ps_demand.specs.Demands.{AreTied}
+use Rattle.ps_demand.specs.Demands.{demand, demands, is_renaming}
+use Rattle.ps_demand.specs.Hitting.{HitsAll, MeetsSet}
+use Rattle.ps_step.proofs.Demanding.{hits_meets, meets_hits}
+use Rattle.ps_demand.proofs.Demanding.{chosen, of_chosen}
+use Rattle.ps_demand.proofs.Picked.{from_picked, picked}
+use Rattle.ps_demand.proofs.Scanning.{other_demands_none}
 use Rattle.ps_step.proofs.Smallest.{at_edge}
 use Rattle.ps_triple.specs.declared.entry.Entry.{Entry}
 use Rattle.ps_triple.specs.declared.entry.Entry.TheVariants.{Triple as OfTriple}

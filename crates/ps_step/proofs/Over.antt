@@ -19,7 +19,7 @@ use Rattle.std.proofs.lemmas.List.{append_assoc, drop_more, map-append, map_more
 use Rattle.std.proofs.lemmas.List.Elements.{Contains-push_cases}
 use Rattle.ps_atom.specs.declared.atom.Atom.{Atom}
 use Rattle.ps_list.proofs.Members.{nothing}
-use Rattle.ps_step.specs.inner.Pools.{lists_of}
+use Rattle.ps_demand.specs.Pools.{lists_of}
 use Rattle.ps_step.specs.inner.Sets.{HasLength, HasThreadsWith, IsFirstOver, IsNamed, IsPastBy, IsWithin}
 
 -- each of the first sets has a size within the most

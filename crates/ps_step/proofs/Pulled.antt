@@ -18,10 +18,11 @@ use Rattle.ps_triple.specs.Entries.{GivesAtom, threads_in}
 use Rattle.ps_triple.specs.Tests.{IsTied}
 use Rattle.ps_step.specs.inner.Back.{moved_at}
 use Rattle.ps_config.specs.Forms.{start_configuration}
-use Rattle.ps_step.specs.Steps.{AreTied, IsDue, StandsBy}
+use Rattle.ps_step.specs.Steps.{IsDue, StandsBy}
+use Rattle.ps_demand.specs.Demands.{AreTied}
 use Rattle.ps_step.proofs.Moved.{moved_at_is}
-use Rattle.ps_step.proofs.Picked.{twice_all}
-use Rattle.ps_step.proofs.Demanding.{tied_threads, pre_threads}
+use Rattle.ps_demand.proofs.Picked.{twice_all}
+use Rattle.ps_demand.proofs.Demanding.{tied_threads, pre_threads}
 
 -- ---- the renaming with another value at the mover
 

@@ -8,11 +8,13 @@ use Rattle.ps_config.proofs.Covering.{covers_more, covers_twice}
 use Rattle.ps_graph.specs.declared.edge.Edge.{Edge}
 use Rattle.ps_graph.specs.declared.graph.Graph.{Graph}
 use Rattle.ps_triple.specs.declared.entry.Entry.{Entry}
-use Rattle.ps_step.specs.inner.Demands.{demands, HitsAll, IsLeastHit}
-use Rattle.ps_step.specs.Steps.{AreTied, GoesBack, StandsBy, Stands, IsSmallest}
+use Rattle.ps_demand.specs.Demands.{demands}
+use Rattle.ps_demand.specs.Hitting.{HitsAll, IsLeastHit}
+use Rattle.ps_step.specs.Steps.{GoesBack, StandsBy, Stands, IsSmallest}
+use Rattle.ps_demand.specs.Demands.{AreTied}
 use Rattle.ps_step.proofs.Demanding.{meets_hits, hits_meets}
 use Rattle.ps_step.proofs.Least.{least_of}
-use Rattle.ps_step.proofs.Numbered.{atoms_or_not}
+use Rattle.ps_demand.proofs.Atoms.{atoms_or_not}
 use Rattle.ps_step.proofs.Moved.{goes_same}
 use Rattle.ps_step.proofs.Pulled.{by_any}
 

@@ -25,17 +25,19 @@ use Rattle.ps_config.proofs.Once.{IsOnce, no_longer, once_sorted}
 use Rattle.ps_graph.specs.declared.edge.Edge.{Edge}
 use Rattle.ps_graph.specs.declared.graph.Graph.{Graph}
 use Rattle.ps_list.proofs.Members.{nothing, cons_cases, here}
-use Rattle.ps_step.specs.Steps.{AreTied, GoesBack, IsSmallest}
+use Rattle.ps_step.specs.Steps.{GoesBack, IsSmallest}
+use Rattle.ps_demand.specs.Demands.{AreTied}
 use Rattle.ps_step.specs.Wide.{HasMoreThan, IsNarrow, IsWideBy, IsWrittenStep}
 use Rattle.ps_step.specs.declared.expand_end.TheConstants.{MOST_SETS}
 use Rattle.ps_step.specs.declared.expansion.Successor.{Successor}
-use Rattle.ps_step.specs.inner.Demands.{IsLeastHit, demands}
+use Rattle.ps_demand.specs.Demands.{demands}
+use Rattle.ps_demand.specs.Hitting.{IsLeastHit}
 use Rattle.ps_step.specs.inner.Going.{IsStepTo, located}
 use Rattle.ps_step.specs.inner.Parts.{AddsStep, IsStep, IsWideAt}
 use Rattle.ps_step.specs.inner.Sets.{AddsSets, AreAllOf, HasLength, HasThreadsWith, IsFirstOver, IsNamed, IsWideOf, IsWithin, successor_of}
 use Rattle.ps_step.proofs.Going.{located_up, thread_cmp}
 use Rattle.ps_step.proofs.Moved.{goes_same}
-use Rattle.ps_step.proofs.Numbered.{atoms_total}
+use Rattle.ps_demand.proofs.Atoms.{atoms_total}
 use Rattle.ps_step.proofs.Same.{after_greater, map_sorted, same_sorted, total_asymmetric}
 use Rattle.ps_step.proofs.Smallest.{at_edge, least_smallest, smallest_least}
 use Rattle.ps_triple.specs.declared.entry.Entry.{Entry}

@@ -8,7 +8,6 @@ use Rattle.ps_graph.specs.Facts.{owner_of}
 use Rattle.ps_graph.specs.declared.edge.Edge.{Edge}
 use Rattle.ps_graph.specs.declared.graph.Graph.{Graph}
 use Rattle.ps_triple.specs.Entries.{GivesAtom, HasInitial}
-use Rattle.ps_triple.specs.Tests.{HasNoFreeThread}
 use Rattle.ps_triple.specs.declared.entry.Entry.{Entry}
 
 -- the location belongs to the body that at most one thread runs
@@ -75,7 +74,3 @@ AreUninitial entries atoms = (q : Atom) → Contains atoms q → ¬ HasInitial e
 pub record IsAccepting (graph : Graph) (entries : List Entry) (c : Configuration) : Type 0 where
   pub entered : AreEntered graph.entries c.at
   pub without : AreUninitial entries c.atoms
-
--- no triple has a free thread
-abbrev pub AreTied : List Entry → Type 0
-AreTied entries = (entry : Entry) → Contains entries entry → HasNoFreeThread entry

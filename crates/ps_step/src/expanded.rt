@@ -3,7 +3,7 @@ ghost use Rattle.std.specs.Prelude.{◌≡◌, ◌<◌, ℕ, IfErr, IfOk, OnOk, 
 ghost use Rattle.ps_config.specs.Configurations.{threads_at};
 ghost use Rattle.ps_config.specs.Forms.{IsFresh};
 ghost use Rattle.ps_config.specs.Next.{IsNextThread};
-ghost use Rattle.ps_step.specs.Steps.{AreTied};
+ghost use Rattle.ps_demand.specs.Demands.{AreTied};
 ghost use Rattle.ps_step.specs.Successors.{AreSuccessors, CoverAll};
 ghost use Rattle.ps_step.specs.Wide.{AreNarrow, StepEndsBy, IsFirstWide};
 ghost use Rattle.ps_step.specs.inner.Parts.{AddsSteps, IsFirstWideAt, IsStepAlong};

@@ -1,13 +1,12 @@
 //! The least hitting sets of demands.
 ghost use Rattle.std.specs.Prelude.{◌≡◌, ◌<◌, ℕ, List, IfOk, Contains, map, length};
-ghost use Rattle.ps_step.specs.inner.Demands.{demands};
-ghost use Rattle.ps_step.specs.inner.Numbered.{named};
+ghost use Rattle.ps_demand.specs.Demands.{demands};
+ghost use Rattle.ps_demand.specs.Numbered.{named};
 ghost use Rattle.ps_step.specs.inner.Found.{IsFound};
-ghost use Rattle.ps_step.specs.inner.Pools.{lists_of, AreOfPool};
+ghost use Rattle.ps_demand.specs.Pools.{lists_of, AreOfPool};
 
-use crate::demands::demands_of;
-use crate::numbering::{numbered, pool_of};
 use ps_atom::Atom;
+use ps_demand::{demands_of, numbered, pool_of};
 use ps_basis::Shown;
 use ps_hit::{Hits, minimal_hits};
 use ps_list::Sequence;

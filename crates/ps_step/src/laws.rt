@@ -2,7 +2,8 @@
 ghost use Rattle.std.specs.Prelude.{ℕ, List, Contains};
 ghost use Rattle.ps_config.specs.Configurations.{Configuration, Covers, threads_at};
 ghost use Rattle.ps_graph.specs.declared.graph.Graph.{Graph};
-ghost use Rattle.ps_step.specs.Steps.{AreTied, IsSmallest, Stands};
+ghost use Rattle.ps_step.specs.Steps.{IsSmallest, Stands};
+ghost use Rattle.ps_demand.specs.Demands.{AreTied};
 ghost use Rattle.ps_step.specs.Successors.{IsTried};
 ghost use Rattle.ps_triple.specs.declared.entry.Entry.{Entry};
 

@@ -3,15 +3,11 @@
 
 mod accepted;
 mod back;
-mod demands;
 mod expand_end;
 mod expanded;
 mod expansion;
 mod found;
 pub mod laws;
-mod numbering;
-mod ranked;
-mod renaming;
 mod sizes;
 mod standing;
 mod step;

@@ -1,6 +1,6 @@
 //! The sizes of the configurations that a step leads to.
 ghost use Rattle.ps_config.specs.declared.config.TheConstants.{MOST_ATOMS as most_atoms, MOST_THREADS as most_threads};
-ghost use Rattle.ps_step.specs.inner.Pools.{lists_of};
+ghost use Rattle.ps_demand.specs.Pools.{lists_of};
 ghost use Rattle.ps_step.specs.inner.Sets.{HasLength, HasThreadsWith, IsFirstOver};
 
 use ps_atom::Atom;

@@ -4,15 +4,17 @@ ghost use Rattle.std.specs.List.{filter_map};
 ghost use Rattle.ps_atom.specs.Atoms.{renamed};
 ghost use Rattle.ps_atom.specs.declared.atom.Atom.{Atom as AnAtom};
 ghost use Rattle.ps_config.specs.Sent.{sent};
-ghost use Rattle.ps_step.specs.Steps.{AreTied, GoesBack, Stands};
-ghost use Rattle.ps_step.specs.inner.Demands.{HitsAll, MeetsSet, demand, demands};
+ghost use Rattle.ps_step.specs.Steps.{GoesBack, Stands};
+ghost use Rattle.ps_demand.specs.Demands.{AreTied};
+ghost use Rattle.ps_demand.specs.Demands.{demand, demands};
+ghost use Rattle.ps_demand.specs.Hitting.{HitsAll, MeetsSet};
 ghost use Rattle.ps_step.specs.inner.Going.{came_from, is_moved, stay};
 
 use crate::back::{are_alone, is_at, is_due, may_move};
-use crate::renaming::{image_of, renames};
 use ps_atom::Atom;
 use ps_basis::Shown;
 use ps_config::Config;
+use ps_demand::{image_of, renames};
 use ps_graph::{Edge, Graph};
 use ps_triple::Entry;
 

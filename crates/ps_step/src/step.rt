@@ -4,11 +4,11 @@ ghost use Rattle.std.specs.List.Sorted.{IsStrictlyIncreasing, IsStrictlySortedBy
 ghost use Rattle.ps_atom.specs.Atoms.{atom_cmp};
 ghost use Rattle.ps_atom.specs.declared.atom.Atom.{Atom as AnAtom};
 ghost use Rattle.ps_config.specs.Forms.{IsConfig};
-ghost use Rattle.ps_step.specs.Steps.{AreTied};
+ghost use Rattle.ps_demand.specs.Demands.{AreTied};
 ghost use Rattle.ps_step.specs.Wide.{StepEndsBy};
-ghost use Rattle.ps_step.specs.inner.Demands.{demands};
+ghost use Rattle.ps_demand.specs.Demands.{demands};
 ghost use Rattle.ps_step.specs.inner.Parts.{AddsStep, IsWideAt};
-ghost use Rattle.ps_step.specs.inner.Pools.{lists_of};
+ghost use Rattle.ps_demand.specs.Pools.{lists_of};
 ghost use Rattle.ps_step.specs.inner.Sets.{AddsSets, IsNamed, IsPastBy, IsWideOf, IsWithin, successor_of};
 
 use crate::back::step_to;

@@ -1,6 +1,6 @@
 //! What steps back are taken in: the graph of a program text, and entries that are lines of text.
 ghost use Rattle.std.specs.Prelude.{IsTrue};
-ghost use Rattle.ps_step.specs.Steps.{AreTied};
+ghost use Rattle.ps_demand.specs.Demands.{AreTied};
 ghost use Rattle.ps_triple.specs.Tests.{HasNoFreeThread, IsTiedTo};
 
 use ps_atom::Atom;

@@ -4,8 +4,8 @@ use Rattle.std.specs.Cmp.Lexicographic.{slice_cmp}
 use Rattle.std.specs.List.Sorted.{IsStrictlySortedBy}
 use Rattle.ps_atom.specs.Atoms.{atom_cmp}
 use Rattle.ps_atom.specs.declared.atom.Atom.{Atom}
-use Rattle.ps_step.specs.inner.Demands.{IsLeastHit}
-use Rattle.ps_step.specs.inner.Pools.{HasEach, lists_of}
+use Rattle.ps_demand.specs.Hitting.{IsLeastHit}
+use Rattle.ps_demand.specs.Pools.{HasEach, lists_of}
 use Rattle.ps_step.specs.declared.found.Found.{Found}
 use Rattle.ps_step.specs.declared.found.Found.TheVariants.{All, TooMany}
 

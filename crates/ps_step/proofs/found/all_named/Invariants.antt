@@ -1,6 +1,6 @@
 use Rattle.std.proofs.Common.{◌≡◌, take, map}
-use Rattle.ps_step.specs.inner.Numbered.{named}
-use Rattle.ps_step.specs.inner.Pools.{lists_of}
+use Rattle.ps_demand.specs.Numbered.{named}
+use Rattle.ps_demand.specs.Pools.{lists_of}
 use Rattle.ps_step.proofs.found.all_named.Given as goal
 
 abbrev pub invariant-loop-hit : goal.invariant-loop-hit

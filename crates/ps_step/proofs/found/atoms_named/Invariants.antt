@@ -1,5 +1,5 @@
 use Rattle.std.proofs.Common.{◌≡◌, take}
-use Rattle.ps_step.specs.inner.Numbered.{named}
+use Rattle.ps_demand.specs.Numbered.{named}
 use Rattle.ps_step.proofs.found.atoms_named.Given as goal
 
 abbrev pub invariant-loop-place : goal.invariant-loop-place

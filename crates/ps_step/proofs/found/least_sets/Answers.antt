@@ -3,8 +3,8 @@ use Rattle.ps_atom.specs.declared.atom.Atom.{Atom}
 use Rattle.ps_hit.specs.Answer.{IfAll, OnTooMany, IsLexicographic, HasMore}
 use Rattle.ps_hit.specs.Hitting.{numbers_of, IsListedHit}
 use Rattle.ps_hit.specs.declared.hits.Hits.{Hits}
-use Rattle.ps_step.specs.inner.Demands.{demands}
-use Rattle.ps_step.specs.inner.Numbered.{IsNumbered}
+use Rattle.ps_demand.specs.Demands.{demands}
+use Rattle.ps_demand.specs.Numbered.{IsNumbered}
 use Rattle.ps_step.proofs.LeastSets.{listed_within, moved_numbers, found_all, are_more}
 use Rattle.ps_step.proofs.found.least_sets.Goals as goal
 

@@ -3,7 +3,8 @@ use Rattle.std.specs.List.{filter_map}
 use Rattle.std.proofs.lemmas.Bool.{both_ways, false≢true}
 use Rattle.ps_atom.specs.declared.atom.Atom.{Atom}
 use Rattle.ps_list.proofs.Mapped.{flat_mapped, from_flat_mapped}
-use Rattle.ps_step.specs.inner.Demands.{HitsAll, demand}
+use Rattle.ps_demand.specs.Demands.{demand}
+use Rattle.ps_demand.specs.Hitting.{HitsAll}
 use Rattle.ps_step.proofs.Seen.{all_seen, one_more, read_in}
 use Rattle.ps_step.proofs.standing.meets.Goals as goal
 

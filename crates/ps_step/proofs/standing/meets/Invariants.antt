@@ -1,7 +1,8 @@
 use Rattle.std.proofs.Common.{take, Contains}
 use Rattle.std.specs.List.{filter_map}
 use Rattle.ps_atom.specs.declared.atom.Atom.{Atom}
-use Rattle.ps_step.specs.inner.Demands.{HitsAll, demand}
+use Rattle.ps_demand.specs.Demands.{demand}
+use Rattle.ps_demand.specs.Hitting.{HitsAll}
 use Rattle.ps_step.proofs.standing.meets.Given as goal
 
 abbrev pub invariant-loop-atom : goal.invariant-loop-atom

@@ -1,6 +1,6 @@
 use Rattle.std.proofs.Common.{◌≡◌, ◌<◌, length, arith, rules}
 use Rattle.ps_step.proofs.Meeting.{all_met, more_met, not_met}
-use Rattle.ps_step.proofs.Scanning.{next_within}
+use Rattle.ps_demand.proofs.Scanning.{next_within}
 use Rattle.ps_step.proofs.standing.meets_atom.Goals as goal
 
 pub returns-then-not-meets_entry : goal.returns-then-not-meets_entry

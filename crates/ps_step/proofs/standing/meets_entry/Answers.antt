@@ -1,8 +1,8 @@
 use Rattle.std.proofs.Common.{◌∙◌, sym}
 use Rattle.std.proofs.lemmas.Bool.{and_parts}
-use Rattle.ps_step.specs.inner.Demands.{agrees, is_renaming}
+use Rattle.ps_demand.specs.Demands.{agrees, is_renaming}
 use Rattle.ps_step.proofs.Meeting.{one_demand_at}
-use Rattle.ps_step.proofs.Pooling.{renaming_long}
+use Rattle.ps_demand.proofs.Pooling.{renaming_long}
 use Rattle.ps_step.proofs.standing.meets_entry.Goals as goal
 
 pub meets_set-requires : goal.meets_set-requires

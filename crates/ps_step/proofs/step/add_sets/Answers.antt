@@ -1,7 +1,7 @@
 use Rattle.std.proofs.Common.{◌≡◌, ap}
 use Rattle.ps_config.specs.declared.wide.WideName.TheVariants.{Threads}
 use Rattle.ps_config.specs.declared.wide.WideStep.{WideStep}
-use Rattle.ps_step.specs.inner.Pools.{lists_of}
+use Rattle.ps_demand.specs.Pools.{lists_of}
 use Rattle.ps_step.specs.inner.Sets.{IsNamed, IsPastBy}
 use Rattle.ps_step.proofs.Over.{are_configs, are_within, ends_weaker, ok_always, past_threads}
 use Rattle.ps_step.proofs.step.add_sets.Goals as goal

@@ -6,7 +6,7 @@ use Rattle.ps_config.specs.Configurations.{Configuration}
 use Rattle.ps_config.specs.Forms.{IsConfig}
 use Rattle.ps_list.proofs.Members.{here, there}
 use Rattle.ps_step.specs.declared.expansion.Successor.{Successor}
-use Rattle.ps_step.specs.inner.Pools.{lists_of}
+use Rattle.ps_demand.specs.Pools.{lists_of}
 use Rattle.ps_step.specs.inner.Sets.{successor_of}
 use Rattle.ps_step.proofs.Over.{pushed}
 use Rattle.ps_step.proofs.step.push_sets.Goals as goal

@@ -1,7 +1,7 @@
 use Rattle.std.proofs.Common.{◌≡◌, ◌++◌, List, map, Contains}
 use Rattle.ps_atom.specs.declared.atom.Atom.{Atom}
 use Rattle.ps_config.specs.Forms.{IsConfig}
-use Rattle.ps_step.specs.inner.Pools.{lists_of}
+use Rattle.ps_demand.specs.Pools.{lists_of}
 use Rattle.ps_step.specs.inner.Sets.{successor_of}
 use Rattle.ps_step.proofs.step.push_sets.Given as goal
 

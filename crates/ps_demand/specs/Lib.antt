@@ -1,0 +1,4 @@
+pub mod Demands
+pub mod Hitting
+pub mod Numbered
+pub mod Pools

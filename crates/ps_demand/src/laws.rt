@@ -1,0 +1,14 @@
+//! Facts about demands: each function does no work, and its clause is the fact.
+ghost use Rattle.std.specs.Prelude.{◌≡◌, ◌↔◌, ℕ, List, Contains};
+ghost use Rattle.ps_atom.specs.declared.atom.Atom.{Atom};
+ghost use Rattle.ps_demand.specs.Demands.{AreTied, demands};
+ghost use Rattle.ps_triple.specs.Entries.{GivesAtom};
+ghost use Rattle.ps_triple.specs.declared.entry.Entry.{Entry};
+
+/// Where no triple has a free thread, the demands are exactly the atoms before of the renamed triples
+/// that have one of the atoms after the command of the thread.
+pub fn demands_are_what_gives()
+    ensures { (entries : List Entry) (atoms : List Atom) (thread command : ℕ) (before : List Atom)
+        → AreTied entries → Contains (demands entries atoms thread command) before
+        ↔ ((q : Atom) × Contains atoms q × GivesAtom entries thread command before q) }
+{}

@@ -1,7 +1,0 @@
-use Rattle.std.proofs.Common.{take}
-use Rattle.ps_step.specs.inner.Numbered.{IsNumbered}
-use Rattle.ps_step.specs.inner.Pools.{lists_of}
-use Rattle.ps_step.proofs.numbering.numbered.Given as goal
-
-abbrev pub invariant-loop-set : goal.invariant-loop-set
-invariant-loop-set l = IsNumbered l.pool (lists_of (take l.set-index l.sets)) (lists_of l.numbers.items)

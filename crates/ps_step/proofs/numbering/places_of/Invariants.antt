@@ -1,6 +1,0 @@
-use Rattle.std.proofs.Common.{take}
-use Rattle.ps_step.specs.inner.Pools.{ArePlaces}
-use Rattle.ps_step.proofs.numbering.places_of.Given as goal
-
-abbrev pub invariant-loop-atom : goal.invariant-loop-atom
-invariant-loop-atom l = ArePlaces l.pool (take l.atom-index l.set) l.places.items

@@ -1,6 +1,0 @@
-use Rattle.std.proofs.Common.{◌≡◌, ◌∷◌, take, map}
-use Rattle.ps_config.specs.Sent.{sent}
-use Rattle.ps_step.proofs.renaming.renamed_atom.Given as goal
-
-abbrev pub invariant-loop-number : goal.invariant-loop-number
-invariant-loop-number l = l.threads.items ≡ map (sent (0 ∷ l.numbers) (l.thread ∷ l.images)) (take l.number-index l.number-items)
