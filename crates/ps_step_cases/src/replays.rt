@@ -1,17 +1,14 @@
 //! Error traces, rows, replays and the witnesses of traces on the graphs of programs.
-ghost use Rattle.std.specs.Prelude.{◌<◌, ◌^◌, All, IfOk, length};
-ghost use Rattle.ps_trace.specs.Rows.{havocs_of_letters};
-ghost use Rattle.ps_trace.specs.Traces.{pairs_of};
+ghost use Rattle.std.specs.Prelude.{◌≡◌, [], IfOk};
 
 use crate::commands::put_rows;
 use crate::graphs::graph_of;
 use crate::traces::{printed_witness, read_witness_of, trace_of};
 use ps_case::{read_variable, truth, two_parts, word};
 use ps_command::RunEnd;
-use ps_graph::Graph;
 use ps_term::{Row, TermEnd, Var};
 use ps_text::read_i128;
-use ps_trace::{IndexedTrace, is_error_trace, is_numbered, reach, replay, trace_rows, witness_of};
+use ps_trace::{IndexedTrace, is_error_trace, reach, replay, trace_rows, witness_of};
 use std::alloc::{AllocError, Global};
 
 // More edges are no case.
@@ -24,29 +21,22 @@ pub fn is_trace_of(alloc: Global, input: &str) -> Result<Vec<u8>, AllocError> {
     truth(alloc, is_error_trace(&graph, &trace_of(alloc, trace)?))
 }
 
-// The graph of the program and the trace, whose edges and havocs have numbers in it.
-fn graph_and_trace(
-    alloc: Global,
-    program: &str,
-    trace: &str,
-) -> Result<(Graph, IndexedTrace), AllocError>
-    ensures edges { IfOk result
-        (λ pair. All (λ l. l.edge < length pair.0.edges) pair.1.letters) }
-    ensures havocs { IfOk result
-        (λ pair. havocs_of_letters pair.0 (pairs_of pair.1) < 2 ^ 32) }
+// The trace, where it has no letters.
+fn empty_trace(alloc: Global, text: &str) -> Result<IndexedTrace, AllocError>
+    ensures { IfOk result (λ trace. trace.letters ≡ []) }
 {
-    let graph = graph_of(alloc, program)?;
-    let trace = trace_of(alloc, trace)?;
-    if !is_numbered(&graph, &trace) {
+    let trace = trace_of(alloc, text)?;
+    if !trace.letters.as_slice().is_empty() {
         return Err(AllocError);
     }
-    Ok((graph, trace))
+    Ok(trace)
 }
 
-/// The rows that a trace asks for on the program's graph, in brackets, `none` or `past`: `PROGRAM|TRACE`.
+/// The rows that a trace of no letters asks for on the program's graph, in brackets, `none` or `past`: `PROGRAM|TRACE`.
 pub fn rows_of(alloc: Global, input: &str) -> Result<Vec<u8>, AllocError> {
     let (program, trace) = two_parts(input, '|')?;
-    let (graph, trace) = graph_and_trace(alloc, program, trace)?;
+    let graph = graph_of(alloc, program)?;
+    let trace = empty_trace(alloc, trace)?;
     match trace_rows(alloc, &graph, &trace) {
         Ok(rows) => shown_rows(alloc, rows.as_slice()),
         Err(TermEnd::Past128) => word(alloc, "past"),
@@ -63,11 +53,12 @@ fn shown_rows(alloc: Global, rows: &[Row]) -> Result<Vec<u8>, AllocError> {
     Ok(out)
 }
 
-/// The witness of a trace with these values: `PROGRAM|TRACE|VARIABLE VALUE|VARIABLE VALUE`.
+/// The witness of a trace of no letters with these values: `PROGRAM|TRACE|VARIABLE VALUE|VARIABLE VALUE`.
 pub fn witness_with(alloc: Global, input: &str) -> Result<Vec<u8>, AllocError> {
     let (program, rest) = two_parts(input, '|')?;
     let (trace, rest) = two_parts(rest, '|')?;
-    let (graph, trace) = graph_and_trace(alloc, program, trace)?;
+    let graph = graph_of(alloc, program)?;
+    let trace = empty_trace(alloc, trace)?;
     let mut values = Vec::new(alloc);
     for part in rest.split('|') {
         values.push(read_value(part)?)?;

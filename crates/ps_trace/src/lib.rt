@@ -5,7 +5,6 @@ mod error_trace;
 mod known;
 pub mod laws;
 mod leaving;
-mod numbered;
 mod picking;
 mod reached;
 mod renaming;
@@ -22,7 +21,6 @@ mod witnessing;
 pub mod worked;
 
 pub use error_trace::is_error_trace;
-pub use numbered::is_numbered;
 pub use reached::{Reached, reach};
 pub use replaying::replay;
 pub use rows::trace_rows;
