@@ -5,5 +5,4 @@
 mod embeds;
 mod slow;
 
-pub use embeds::embeds;
 pub use slow::first;
