@@ -1,6 +1,5 @@
 pub mod Alike
 pub mod Answering
-pub mod Asked
 pub mod FewEdges
 pub mod Owing
 pub mod Programs

@@ -1,6 +1,6 @@
 pub mod Status
 pub mod Modes
-pub mod Words
+pub mod Promise
 pub mod Texts
 pub mod Owes
 pub mod Refute

@@ -1,0 +1,6 @@
+pub mod Modes
+pub mod Options
+pub mod Command
+pub mod Asked
+pub mod Plain
+pub mod inner
