@@ -9,13 +9,13 @@ use Rattle.clap.proofs.CallerLemmas.{added_plain}
 use Rattle.clap.specs.Built.{AddsArg, IsAuto, IsParsedFrom, IsPlainArg, SameRules}
 use Rattle.clap.specs.Facts.{args_of, groups_of}
 use Rattle.clap.specs.Simple.{App, app_of, with_rule}
-use Rattle.clap.specs.Walk.{rule_of}
+use Rattle.clap.specs.Walk.{Rule, rule_of}
 use Rattle.clap.specs.declared.builder.arg.Arg.{Arg}
 use Rattle.clap.specs.declared.builder.command.Command.{Command}
 use Rattle.clap.specs.declared.builder.command.Command.TheViews.{out-Command}
 use Rattle.clap.specs.declared.parser.matches.ArgMatches.{ArgMatches}
 use Rattle.std.specs.Prelude.{Some}
-use Rattle.ps_words.specs.Command.{option_parser}
+use Rattle.ps_words.specs.Command.{mode_rule, option_parser, option_rule}
 use Rattle.ps_words.specs.Options.{option_name}
 use Rattle.ps_words.specs.declared.option_name.OptionName.{OptionName}
 use Rattle.ps_words.specs.declared.option_name.OptionName.TheVariants.{Explorers, Provers, Nodes, Traces, Width, Size}
@@ -60,6 +60,14 @@ not_version Traces = refl
 not_version Width = refl
 not_version Size = refl
 
+not_mode : (option : OptionName) → bytes_eq (option_name option) (codes "MODE") ≡ false
+not_mode Explorers = refl
+not_mode Provers = refl
+not_mode Nodes = refl
+not_mode Traces = refl
+not_mode Width = refl
+not_mode Size = refl
+
 length_name : (option : OptionName) → 0 < length (option_name option)
 length_name Explorers = lit< tt
 length_name Provers = lit< tt
@@ -94,3 +102,25 @@ built_parses made app m p is option j x high at same =
           rules.parser (option_parser option) (is.parses j x under option (sym (ap (λ i. i.now) rules.id) ∙ named))
       | inr over ↦ absurd (no_flag option x named (subst IsAuto at (p.from.extra j x over high)))
     ]
+
+alike : (a b : OptionName) → bytes_eq (option_name a) (option_name b) ≡ true → a ≡ b
+alike Explorers Explorers e = refl
+alike Provers Provers e = refl
+alike Nodes Nodes e = refl
+alike Traces Traces e = refl
+alike Width Width e = refl
+alike Size Size e = refl
+alike _ _ e = absurd (cc)
+
+-- an argument that shows as an option takes the numbers of each option of its name
+pub rule_parses : (arg : Arg) (option : OptionName) → rule_of arg ≡ option_rule option → ParsesAs arg
+rule_parses arg option rule other named =
+    let same : option ≡ other =
+    alike option other ((bytes_eq-Decides (option_name option) (option_name other)).1 (sym (ap (λ (r : Rule). r.id) rule) ∙ named)) in
+    ap (λ (r : Rule). r.parser) rule ∙ ap (λ (o : OptionName). Some (option_parser o)) same
+
+-- so does one that shows as MODE, which is no option's name
+pub mode_parses : (arg : Arg) → rule_of arg ≡ mode_rule → ParsesAs arg
+mode_parses arg rule option named =
+    let same : bytes_eq (option_name option) (codes "MODE") ≡ true = ap (λ (t : List ℕ). bytes_eq t (codes "MODE")) (sym named ∙ ap (λ (r : Rule). r.id) rule) in
+    let other = not_mode option in absurd (cc)

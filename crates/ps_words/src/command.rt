@@ -3,8 +3,8 @@ ghost use Rattle.std.specs.Prelude.{◌≡◌, IfOk, false};
 ghost use Rattle.clap.specs.Built.{IsPlainArg};
 ghost use Rattle.clap.specs.Simple.{App};
 ghost use Rattle.clap.specs.Walk.{rule_of};
-ghost use Rattle.ps_words.specs.Command.{command, mode_rule, option_parser, option_rule, with_option};
-ghost use Rattle.ps_words.specs.inner.Commands.{IsMade, ParsesAs};
+ghost use Rattle.ps_words.specs.Command.{command, mode_rule, option_rule, with_option};
+ghost use Rattle.ps_words.specs.inner.Commands.{IsMade};
 
 use crate::option_name::OptionName;
 use clap::{Arg, ArgAction, Command, value_parser};
@@ -43,7 +43,6 @@ fn mode_arg<'a>(alloc: Global) -> Arg<'a>
     ensures rule { rule_of result ≡ mode_rule }
     ensures plain { IsPlainArg result }
     ensures local { result.global ≡ false }
-    ensures parses { ParsesAs result }
 {
     Arg::new(alloc, MODE)
         .required(true)
@@ -55,7 +54,6 @@ fn option_arg<'a>(alloc: Global, option: OptionName) -> Arg<'a>
     ensures rule { rule_of result ≡ option_rule option }
     ensures plain { IsPlainArg result }
     ensures local { result.global ≡ false }
-    ensures parses { ParsesAs result }
 {
     let name: &'a str = option.name();
     let least = i64::from(option.least());

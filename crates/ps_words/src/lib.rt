@@ -7,6 +7,7 @@ mod mode;
 mod option_name;
 mod words;
 mod words_end;
+pub mod worked;
 
 pub use mode::Mode;
 pub use option_name::OptionName;

@@ -19,9 +19,9 @@ use Rattle.ps_words.specs.declared.option_name.OptionName.{OptionName}
 abbrev pub ParsesAs : Arg → Type 0
 ParsesAs arg = (option : OptionName) → arg.id.now ≡ option_name option → arg.value_parser ≡ Some (option_parser option)
 
--- the command is read as this one, no argument excludes another, and each option takes its numbers
-pub record IsMade (made : Command) (app : App) : Type 0 where
-  pub app : app_of made ≡ app
+-- the command shows as this one, no argument excludes another, and each option takes its numbers
+pub record IsMade (made : Command) (shown : App) : Type 0 where
+  pub app : app_of made ≡ shown
   pub globals : (out-Command made).has_globals ≡ false
   pub plain : IsPlain made
   pub parses : All ParsesAs (args_of made)
