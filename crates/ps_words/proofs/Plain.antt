@@ -76,12 +76,12 @@ walked_option : (option : OptionName) (rows : List Row) (id text : Text) (x : �
     → walked top.rules [] (walked top.rules [] (between rows id text) (codes "--" ++ option_name option)) (x ∷ xs)
     ≡ between (settled_rows top.rules (Some (id, text ∷ [])) rows) (option_name option) (x ∷ xs)
 unfolding clap_on_literals
-walked_option Explorers rows id text x xs other = rw other refl
-walked_option Provers rows id text x xs other = rw other refl
-walked_option Nodes rows id text x xs other = rw other refl
-walked_option Traces rows id text x xs other = rw other refl
-walked_option Width rows id text x xs other = rw other refl
-walked_option Size rows id text x xs other = rw other refl
+walked_option Explorers rows id text x xs other = rw (other, other) refl
+walked_option Provers rows id text x xs other = rw (other, other) refl
+walked_option Nodes rows id text x xs other = rw (other, other) refl
+walked_option Traces rows id text x xs other = rw (other, other) refl
+walked_option Width rows id text x xs other = rw (other, other) refl
+walked_option Size rows id text x xs other = rw (other, other) refl
 
 
 -- ---- numbers as words
@@ -137,11 +137,12 @@ number_word option n takes =
 at_row_missing : (id : Text) (change : Row → List Row) (missing rows : List Row) → has_row id rows ≡ false
     → at_row id change missing rows ≡ rows ++ missing
 at_row_missing id change missing [] none = refl
-at_row_missing id change missing (r ∷ rs) none = go (bytes_eq r.id id) refl
+at_row_missing id change missing (r ∷ rs) none = go (bytes_eq r.id id) refl (λ later. at_row_missing id change missing rs later)
   where
-    go : (t : Bool) → bytes_eq r.id id ≡ t → at_row id change missing (r ∷ rs) ≡ (r ∷ rs) ++ missing
-    go true is = let bad : true ≡ false = rw is at none in absurd (cc)
-    go false is = rw is (ap (λ (rest : List Row). r ∷ rest) (at_row_missing id change missing rs (rw is at none)))
+    go : (t : Bool) → bytes_eq r.id id ≡ t → (has_row id rs ≡ false → at_row id change missing rs ≡ rs ++ missing)
+        → at_row id change missing (r ∷ rs) ≡ (r ∷ rs) ++ missing
+    go true is rest = let bad : true ≡ false = rw is at none in absurd (cc)
+    go false is rest = rw is (ap (λ (rest : List Row). r ∷ rest) (rest (rw is at none)))
 
 with_values_new : (id : Text) (how : Reading) (s : ValueSource) (values : List Text) (rows : List Row) → has_row id rows ≡ false
     → with_values id how s values (without id rows) ≡ rows ++ (record { id = id; values = values; count = None; source = Some s; reading = how } ∷ [])
@@ -181,12 +182,12 @@ first_turn Size rows id text none = rw none refl
 second_turn : (option : OptionName) (rows : List Row) (id text : Text) (x : ℕ) (xs : Text) → (x == 45) ≡ false
     → turn_fault top [] (walked top.rules [] (between rows id text) (codes "--" ++ option_name option)) (x ∷ xs) ≡ []
 unfolding clap_on_literals
-second_turn Explorers rows id text x xs other = rw other refl
-second_turn Provers rows id text x xs other = rw other refl
-second_turn Nodes rows id text x xs other = rw other refl
-second_turn Traces rows id text x xs other = rw other refl
-second_turn Width rows id text x xs other = rw other refl
-second_turn Size rows id text x xs other = rw other refl
+second_turn Explorers rows id text x xs other = rw (other, other) refl
+second_turn Provers rows id text x xs other = rw (other, other) refl
+second_turn Nodes rows id text x xs other = rw (other, other) refl
+second_turn Traces rows id text x xs other = rw (other, other) refl
+second_turn Width rows id text x xs other = rw (other, other) refl
+second_turn Size rows id text x xs other = rw (other, other) refl
 
 -- ---- the walk
 
@@ -232,16 +233,16 @@ passes rows id text row fine is (g ∷ rest) taken none =
     let word = number_word g.0 g.1 taken.0 in
     let more = rows ++ (row ∷ []) in
     let step = two_words rows id text row g.0 g.1 word is in
-    let then = passes more (option_name g.0) (decimal g.1) (option_row g.0 (decimal g.1))
+    let rest_passes = passes more (option_name g.0) (decimal g.1) (option_row g.0 (decimal g.1))
     (option_fault g.0 (decimal g.1) more none.0 word.taken) (settled_option g.0 (decimal g.1) more none.0) rest taken.2 none.1 in
     let second : turn_fault top [] (walked top.rules [] (between rows id text) (codes "--" ++ option_name g.0)) (decimal g.1) ≡ [] =
     ap (turn_fault top [] (walked top.rules [] (between rows id text) (codes "--" ++ option_name g.0))) word.is
     ∙ second_turn g.0 rows id text word.x word.xs word.minus in record {
-      faults = (λ i. or_else (first_turn g.0 rows id text fine i) (or_else (second i) (walk_fault top [] (step i) (option_words rest)))) ∙ then.faults;
-      last = ap (λ (w : Walk). settle_fault top.rules false (fold (walked top.rules []) w (option_words rest)).held) step ∙ then.last;
-      left = ap (λ (w : Walk). (settled top.rules (fold (walked top.rules []) w (option_words rest)).held).rows) step ∙ then.left
+      faults = (λ i. or_else (first_turn g.0 rows id text fine i) (or_else (second i) (walk_fault top [] (step i) (option_words rest)))) ∙ rest_passes.faults;
+      last = ap (λ (w : Walk). settle_fault top.rules false (fold (walked top.rules []) w (option_words rest)).held) step ∙ rest_passes.last;
+      left = ap (λ (w : Walk). (settled top.rules (fold (walked top.rules []) w (option_words rest)).held).rows) step ∙ rest_passes.left
           ∙ append_assoc more (option_row g.0 (decimal g.1) ∷ []) (rows_given rest);
-      stopped = ap (λ (w : Walk). (fold (walked top.rules []) w (option_words rest)).stopped) step ∙ then.stopped;
+      stopped = ap (λ (w : Walk). (fold (walked top.rules []) w (option_words rest)).stopped) step ∙ rest_passes.stopped;
     }
 
 -- ---- the word of the mode
@@ -305,11 +306,12 @@ or_false a b e f = rw (e, f) refl
 
 has_row_more : (id : Text) (rows : List Row) (row : Row) → has_row id rows ≡ false → bytes_eq row.id id ≡ false → has_row id (rows ++ (row ∷ [])) ≡ false
 has_row_more id [] row none other = rw other refl
-has_row_more id (r ∷ rs) row none other = go (bytes_eq r.id id) refl
+has_row_more id (r ∷ rs) row none other = go (bytes_eq r.id id) refl (λ later. has_row_more id rs row later other)
   where
-    go : (t : Bool) → bytes_eq r.id id ≡ t → has_row id ((r ∷ rs) ++ (row ∷ [])) ≡ false
-    go true is = let bad : true ≡ false = rw is at none in absurd (cc)
-    go false is = rw is (has_row_more id rs row (rw is at none) other)
+    go : (t : Bool) → bytes_eq r.id id ≡ t → (has_row id rs ≡ false → has_row id (rs ++ (row ∷ [])) ≡ false)
+        → has_row id ((r ∷ rs) ++ (row ∷ [])) ≡ false
+    go true is rest = let bad : true ≡ false = rw is at none in absurd (cc)
+    go false is rest = rw is (rest (rw is at none))
 
 no_rows : (rows : List Row) (given : List Given) → ((option : OptionName) → is_given option given ≡ true → has_row (option_name option) rows ≡ false)
     → AreTaken given → NoRows rows given
@@ -343,27 +345,27 @@ look id rows = find (λ r. bytes_eq r.id id) rows
 
 look_some : (id : Text) (rows more : List Row) (row : Row) → look id rows ≡ Some row → look id (rows ++ more) ≡ Some row
 look_some id [] more row e = absurd (cc)
-look_some id (r ∷ rs) more row e = go (bytes_eq r.id id) refl
+look_some id (r ∷ rs) more row e = go (bytes_eq r.id id) refl (λ later. look_some id rs more row later)
   where
-    go : (t : Bool) → bytes_eq r.id id ≡ t → look id ((r ∷ rs) ++ more) ≡ Some row
-    go true is = rw is (rw is at e)
-    go false is = rw is (look_some id rs more row (rw is at e))
+    go : (t : Bool) → bytes_eq r.id id ≡ t → (look id rs ≡ Some row → look id (rs ++ more) ≡ Some row) → look id ((r ∷ rs) ++ more) ≡ Some row
+    go true is rest = rw is (rw is at e)
+    go false is rest = rw is (rest (rw is at e))
 
 look_none : (id : Text) (rows more : List Row) → look id rows ≡ None → look id (rows ++ more) ≡ look id more
 look_none id [] more e = refl
-look_none id (r ∷ rs) more e = go (bytes_eq r.id id) refl
+look_none id (r ∷ rs) more e = go (bytes_eq r.id id) refl (λ later. look_none id rs more later)
   where
-    go : (t : Bool) → bytes_eq r.id id ≡ t → look id ((r ∷ rs) ++ more) ≡ look id more
-    go true is = let bad : Some r ≡ None = rw is at e in absurd (cc)
-    go false is = rw is (look_none id rs more (rw is at e))
+    go : (t : Bool) → bytes_eq r.id id ≡ t → (look id rs ≡ None → look id (rs ++ more) ≡ look id more) → look id ((r ∷ rs) ++ more) ≡ look id more
+    go true is rest = let bad : Some r ≡ None = rw is at e in absurd (cc)
+    go false is rest = rw is (rest (rw is at e))
 
 none_has : (id : Text) (rows : List Row) → look id rows ≡ None → has_row id rows ≡ false
 none_has id [] e = refl
-none_has id (r ∷ rs) e = go (bytes_eq r.id id) refl
+none_has id (r ∷ rs) e = go (bytes_eq r.id id) refl (λ later. none_has id rs later)
   where
-    go : (t : Bool) → bytes_eq r.id id ≡ t → has_row id (r ∷ rs) ≡ false
-    go true is = let bad : Some r ≡ None = rw is at e in absurd (cc)
-    go false is = rw is (none_has id rs (rw is at e))
+    go : (t : Bool) → bytes_eq r.id id ≡ t → (look id rs ≡ None → has_row id rs ≡ false) → has_row id (r ∷ rs) ≡ false
+    go true is rest = let bad : Some r ≡ None = rw is at e in absurd (cc)
+    go false is rest = rw is (rest (rw is at e))
 
 -- the row that an argument's defaults give it
 abbrev row_added : Text → Reading → List Text → List Row
@@ -422,11 +424,13 @@ default_look rows id a none = go (bytes_eq a.id id) refl
 
 finish_none : (rules : List Rule) (rows : List Row) (id : Text) → look id rows ≡ None → look id (fold with_default rows rules) ≡ first_added id rules
 finish_none [] rows id none = none
-finish_none (a ∷ rest) rows id none = go (look id (added a)) refl
+finish_none (a ∷ rest) rows id none = go (look id (added a)) refl (λ later. finish_none rest (with_default rows a) id later)
   where
-    go : (o : Option Row) → look id (added a) ≡ o → look id (fold with_default (with_default rows a) rest) ≡ first_of_two (look id (added a)) (first_added id rest)
-    go (Some r) e = finish_some rest (with_default rows a) id r (default_look rows id a none ∙ e) ∙ sym (ap (λ (o : Option Row). first_of_two o (first_added id rest)) e)
-    go None e = finish_none rest (with_default rows a) id (default_look rows id a none ∙ e) ∙ sym (ap (λ (o : Option Row). first_of_two o (first_added id rest)) e)
+    go : (o : Option Row) → look id (added a) ≡ o
+        → (look id (with_default rows a) ≡ None → look id (fold with_default (with_default rows a) rest) ≡ first_added id rest)
+        → look id (fold with_default (with_default rows a) rest) ≡ first_of_two (look id (added a)) (first_added id rest)
+    go (Some r) e later = finish_some rest (with_default rows a) id r (default_look rows id a none ∙ e) ∙ sym (ap (λ (o : Option Row). first_of_two o (first_added id rest)) e)
+    go None e later = later (default_look rows id a none ∙ e) ∙ sym (ap (λ (o : Option Row). first_of_two o (first_added id rest)) e)
 
 abbrev default_row : OptionName → Row
 default_row option = record { id = option_name option; values = default_text option ∷ []; count = None; source = Some DefaultValue; reading = WithoutMinus }
@@ -452,22 +456,23 @@ default_number Size = refl
 look_given : (option : OptionName) (given : List Given)
     → look (option_name option) (rows_given given) ≡ option_map (λ g. option_row g.0 (decimal g.1)) (find (λ g. same_option option g.0) given)
 look_given option [] = refl
-look_given option (g ∷ rest) = go (same_option option g.0) refl
+look_given option (g ∷ rest) = go (same_option option g.0) refl (look_given option rest)
   where
     go : (t : Bool) → same_option option g.0 ≡ t
+        → look (option_name option) (rows_given rest) ≡ option_map (λ g. option_row g.0 (decimal g.1)) (find (λ g. same_option option g.0) rest)
         → look (option_name option) (rows_given (g ∷ rest)) ≡ option_map (λ g. option_row g.0 (decimal g.1)) (find (λ g. same_option option g.0) (g ∷ rest))
-    go true is = rw (names_alike option g.0 ∙ is, is) refl
-    go false is = rw (names_alike option g.0 ∙ is, is) (look_given option rest)
+    go true is later = rw (names_alike option g.0 ∙ is, is) refl
+    go false is later = rw (names_alike option g.0 ∙ is, is) later
 
 found_taken : (option : OptionName) (given : List Given) (g : Given) → find (λ g. same_option option g.0) given ≡ Some g → AreTaken given → Takes g.0 g.1
 found_taken option [] g found taken = absurd (cc)
-found_taken option (x ∷ rest) g found taken = go (same_option option x.0) refl
+found_taken option (x ∷ rest) g found taken = go (same_option option x.0) refl (λ later. found_taken option rest g later taken.2)
   where
-    go : (t : Bool) → same_option option x.0 ≡ t → Takes g.0 g.1
-    go true is =
+    go : (t : Bool) → same_option option x.0 ≡ t → (find (λ g. same_option option g.0) rest ≡ Some g → Takes g.0 g.1) → Takes g.0 g.1
+    go true is later =
         let same : Some x ≡ Some g = rw is at found in
         let here : x ≡ g = cc in subst (λ (y : Given). Takes y.0 y.1) here taken.0
-    go false is = found_taken option rest g (rw is at found) taken.2
+    go false is later = later (rw is at found)
 
 abbrev base : Mode → List Given → List Row
 base mode given = mode_row mode ∷ rows_given given
@@ -521,7 +526,7 @@ no_defaults_fault (a ∷ rest) fine rows =
     (λ i. or_else (no_default_fault a fine.0 rows i) (defaults_fault (with_default rows a) rest)) ∙ no_defaults_fault rest fine.1 (with_default rows a)
 
 top_defaults : FineDefaults top.rules
-top_defaults = (inl refl, inr refl, inr refl, inr refl, inr refl, inr refl, inr refl, inl refl, tt)
+top_defaults = (inl refl, (inr refl, (inr refl, (inr refl, (inr refl, (inr refl, (inr refl, (inl refl, tt))))))))
 
 mode_given : (mode : Mode) (given : List Given) → is_given_in (codes "MODE") (fold with_default (base mode given) top.rules) ≡ true
 mode_given mode given = ap (λ (o : Option Row). option_map_or (λ r. explicit_source r.source) o false) (mode_there mode given)
@@ -569,7 +574,6 @@ plain_asks name mode given taken = record {
     stopped = ap (λ (w : Walk). w.stopped) end_is ∙ passed.stopped
 
     walk_fine : walk_fault top [] (walk_from nothing_held) words ≡ []
-    unfolding walk_fault
     walk_fine = (λ i. or_else (mode_turn mode i) (walk_fault top [] (mode_word mode i) (option_words given))) ∙ passed.faults
 
     last_fine : settle_fault top.rules false (walk top.rules [] nothing_held words).held ≡ []
