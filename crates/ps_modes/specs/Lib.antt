@@ -5,5 +5,6 @@ pub mod Texts
 pub mod Owes
 pub mod Refute
 pub mod Programs
+pub mod Parts
 pub mod Replay
 pub mod Inner

@@ -3,6 +3,7 @@
 
 mod answer;
 mod frame;
+mod graphs;
 mod input;
 mod judge;
 pub mod laws;
