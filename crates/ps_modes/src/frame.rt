@@ -30,11 +30,19 @@ pub(crate) fn answer_input<J: Judge, S: Source, K: Sink>(
     ensures answers { Answers (J.owed judge.now) (S.left source.old) (K.written sink.old)
         (K.written sink.new) result }
     ensures causes { HasCauses
-        (record { left = S.left source.old; left_after = S.left source.new;
-            faults = S.faults source.old; faults_after = S.faults source.new;
-            failed_after = S.failed source.new })
-        (record { written = K.written sink.old; written_after = K.written sink.new;
-            faults = K.faults sink.old; faults_after = K.faults sink.new })
+        (record {
+          left = S.left source.old;
+          left_after = S.left source.new;
+          faults = S.faults source.old;
+          faults_after = S.faults source.new;
+          failed_after = S.failed source.new;
+        })
+        (record {
+          written = K.written sink.old;
+          written_after = K.written sink.new;
+          faults = K.faults sink.old;
+          faults_after = K.faults sink.new;
+        })
         result }
 {
     match answer_made(alloc, judge, source) {

@@ -52,11 +52,19 @@ where
 
     // Faults of the outside, each with its cause, and want of memory.
     ensures causes { HasCauses
-        (record { left = S.left source.old; left_after = S.left source.new;
-            faults = S.faults source.old; faults_after = S.faults source.new;
-            failed_after = S.failed source.new })
-        (record { written = K.written sink.old; written_after = K.written sink.new;
-            faults = K.faults sink.old; faults_after = K.faults sink.new })
+        (record {
+          left = S.left source.old;
+          left_after = S.left source.new;
+          faults = S.faults source.old;
+          faults_after = S.faults source.new;
+          failed_after = S.failed source.new;
+        })
+        (record {
+          written = K.written sink.old;
+          written_after = K.written sink.new;
+          faults = K.faults sink.old;
+          faults_after = K.faults sink.new;
+        })
         result }
 {
     match read_words(alloc, words) {

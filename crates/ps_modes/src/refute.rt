@@ -43,11 +43,19 @@ pub fn refute_run<S: Source, K: Sink>(alloc: Global, source: &mut S, sink: &mut 
     ensures answers { Answers Owed (S.left source.old) (K.written sink.old) (K.written sink.new)
         result }
     ensures causes { HasCauses
-        (record { left = S.left source.old; left_after = S.left source.new;
-            faults = S.faults source.old; faults_after = S.faults source.new;
-            failed_after = S.failed source.new })
-        (record { written = K.written sink.old; written_after = K.written sink.new;
-            faults = K.faults sink.old; faults_after = K.faults sink.new })
+        (record {
+          left = S.left source.old;
+          left_after = S.left source.new;
+          faults = S.faults source.old;
+          faults_after = S.faults source.new;
+          failed_after = S.failed source.new;
+        })
+        (record {
+          written = K.written sink.old;
+          written_after = K.written sink.new;
+          faults = K.faults sink.old;
+          faults_after = K.faults sink.new;
+        })
         result }
 {
     answer_input(alloc, &Refute, source, sink)

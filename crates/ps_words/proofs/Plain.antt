@@ -83,7 +83,6 @@ walked_option Traces rows id text x xs other = rw (other, other) refl
 walked_option Width rows id text x xs other = rw (other, other) refl
 walked_option Size rows id text x xs other = rw (other, other) refl
 
-
 -- ---- numbers as words
 
 most_small : (option : OptionName) → most_of option < 2 ^ 63

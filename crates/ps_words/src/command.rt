@@ -44,9 +44,7 @@ fn mode_arg<'a>(alloc: Global) -> Arg<'a>
     ensures plain { IsPlainArg result }
     ensures local { result.global ≡ false }
 {
-    Arg::new(alloc, MODE)
-        .required(true)
-        .action(ArgAction::Set)
+    Arg::new(alloc, MODE).required(true).action(ArgAction::Set)
 }
 
 /// The argument of an option.
