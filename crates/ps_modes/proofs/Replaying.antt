@@ -1,31 +1,27 @@
 -- An input that isn't too long owes `replay` one answer.
-use Rattle.std.proofs.Common.{◌≡◌, ℕ, ◌+◌, ◌<◌, ◌≤◌, ◌^◌, ◌⊎◌, inl, inr, List, [], ◌∷◌, ◌++◌, length, Contains, Result, Ok, Err, Option, Some, None, IfSome, refl, sym, ap, ◌∙◌, subst, lit<, arith, length-append}
-use Rattle.std.specs.Prelude.{count_by, ◌==◌}
-use Rattle.std.proofs.lemmas.List.{append_cancel_right}
-use Rattle.std.proofs.lemmas.List.Sums.{count_by-le-length}
+use Rattle.std.proofs.Common.{◌≡◌, ℕ, ◌⊎◌, inl, inr, List, [], ◌∷◌, Contains, Result, Ok, Err, Option, Some, None, IfSome, refl, sym, ap, ◌∙◌, subst, arith, lit<}
 use Rattle.ps_compile.specs.Compiled.{IsCompiled}
 use Rattle.ps_graph.specs.declared.graph.Graph.{Graph}
 use Rattle.ps_lines.proofs.Bytes.{text_read}
 use Rattle.ps_lines.specs.Reading.{text_start}
 use Rattle.ps_lines.specs.Tokens.{line_parts}
 use Rattle.ps_lines.specs.declared.form_fault.FormFault.{FormFault}
-use Rattle.ps_parts.proofs.Marks.{one_cut}
-use Rattle.ps_parts.specs.Cuts.{AreTwoParts, HasNoMark, IsNumbered, program_before}
-use Rattle.ps_parts.specs.declared.parts.TheConstants.{MOST_PROGRAM, MOST_WITNESS}
+use Rattle.ps_parts.specs.declared.parts.TheConstants.{MOST_WITNESS}
 use Rattle.ps_trace.specs.declared.witness.Witness.{Witness}
 use Rattle.ps_trace_text.proofs.WitnessLaws.{witness_is_format}
 use Rattle.ps_trace_text.specs.WitnessReading.{witness_at}
 use Rattle.ps_trace_text.specs.WitnessSpelling.{witness_lines}
 use Rattle.ps_tree.specs.declared.program.Program.{Program}
 use Rattle.ps_modes.proofs.Alike.{fits_on_each}
-use Rattle.ps_modes.proofs.Programs.{not_refused, one_line, one_read}
-use Rattle.ps_modes.specs.Owes.{IsOwedAnswer, IsShort, IsVerdict, Owes, OwesStatus, SomeAnswer, TooLong, Within}
-use Rattle.ps_modes.specs.Replay.{FirstFault, HasLongPart, HasTexts, LongPart, NoMark, NoProgram, NotOfForm, Owed, OwedOf, OwedToTexts, OwedToWitness, Parts, PastRange, Programs, Reached, Refusal, SaysReached, SaysUnreached, SpellsWitness, Unreached, Witnesses}
+use Rattle.ps_modes.proofs.Two as two
+use Rattle.ps_modes.specs.Owes.{IsShort, IsVerdict, Owes, OwesStatus, TooLong, Within}
+use Rattle.ps_modes.specs.Parts.{LongPart, NoMark, NoProgram, Parts, Programs}
+use Rattle.ps_modes.specs.Replay.{FirstFault, NotOfForm, Owed, OwedOf, OwedToWitness, PastRange, Reached, SaysReached, SaysUnreached, SpellsWitness, Unreached, Witnesses}
 use Rattle.ps_modes.specs.Status.{code, Exactly}
 use Rattle.ps_modes.specs.Texts.{fault_line}
 use Rattle.ps_modes.specs.declared.status.Status.{Status}
-use Rattle.ps_modes.specs.declared.status.Status.TheVariants.{Holds, Fails, Unknown, BadInput, BadWords, ReadFault, WriteFault, NoMemory}
-use Rattle.ps_modes.specs.declared.texts.TheConstants.{LIMIT_PART, NO, YES}
+use Rattle.ps_modes.specs.declared.status.Status.TheVariants.{Holds, Fails, BadInput}
+use Rattle.ps_modes.specs.declared.texts.TheConstants.{NO, YES}
 
 -- ---- witnesses
 
@@ -67,7 +63,7 @@ one_of p g h w a b s t x y (PastRange past _ _) (Reached fits _ _ _) = absurd (p
 one_of p g h w a b s t x y (PastRange past _ _) (Unreached fits _ _ _) = absurd (past (fits_on_each p h g b a w fits))
 one_of p g h w a b s t x y (PastRange _ e f) (PastRange _ d c) = (e ∙ sym d, f ∙ sym c)
 
-one_to_witness : (p : Program) (g h : Graph) (bytes : List ℕ) (line : ℕ) → IsCompiled p g → IsCompiled p h → (s t : Status) (x y : List ℕ)
+pub one_to_witness : (p : Program) (g h : Graph) (bytes : List ℕ) (line : ℕ) → IsCompiled p g → IsCompiled p h → (s t : Status) (x y : List ℕ)
     → OwedToWitness p g bytes line s x → OwedToWitness p h bytes line t y → (s ≡ t) × (x ≡ y)
 one_to_witness p g h bytes line a b s t x y (NotOfForm fault first e f) (NotOfForm other again d c) =
     (e ∙ sym d, f ∙ ap fault_line (err_is fault other (sym first ∙ again)) ∙ sym c)
@@ -76,95 +72,8 @@ one_to_witness p g h bytes line a b s t x y (Witnesses w says _) (NotOfForm faul
 one_to_witness p g h bytes line a b s t x y (Witnesses v says owed) (Witnesses w too other) =
     one_of p g h w a b s t x y (subst (λ (u : Witness). OwedOf p g u s x) (one_witness bytes v w says too) owed) other
 
-one_to_texts : (program witness : List ℕ) (line : ℕ) (s t : Status) (x y : List ℕ)
-    → OwedToTexts program witness line s x → OwedToTexts program witness line t y → (s ≡ t) × (x ≡ y)
-one_to_texts program witness line s t x y (NoProgram by e) (NoProgram other d) = (e ∙ sym d, one_line program x y by other)
-one_to_texts program witness line s t x y (NoProgram by e) (Programs q h too _) = absurd (not_refused program q h by.0 too by.1)
-one_to_texts program witness line s t x y (Programs p g says _) (NoProgram by e) = absurd (not_refused program p g by.0 says by.1)
-one_to_texts program witness line s t x y (Programs p g says owed) (Programs q h too other) =
-    let same = one_read program p q says.read too.read in
-    one_to_witness q g h witness line (subst (λ (r : Program). IsCompiled r g) same says.compiled) too.compiled s t x y
-    (subst (λ (r : Program). OwedToWitness r g witness line s x) same owed) other
-
--- ---- the parts of an input
-
-record AreSameTexts (program witness : List ℕ) (line : ℕ) (front rest : List ℕ) (at : ℕ) : Type 0 where
-  pub front_is : program ≡ front
-  pub rest_is : witness ≡ rest
-  pub line_is : line ≡ at
-
-same_parts : (input program witness front rest : List ℕ) → AreTwoParts input program witness → AreTwoParts input front rest
-    → (program ≡ front) × (witness ≡ rest)
-same_parts input program witness front rest a b =
-    let same = one_cut input a.0 witness b.0 rest a.1 b.1 in
-    (a.2 ∙ ap program_before same.0 ∙ sym b.2, same.1)
-
-same_line : (input last rest : List ℕ) (line at : ℕ) → last ≡ rest → IsNumbered input last line → IsNumbered input rest at → line ≡ at
-same_line input last rest line at same a b =
-    let joined : a.0 ++ rest ≡ b.0 ++ rest = ap (λ (xs : List ℕ). a.0 ++ xs) (sym same) ∙ sym a.1 ∙ b.1 in
-    a.2 ∙ ap (λ (xs : List ℕ). 1 + count_by (λ (b : ℕ). b == 10) xs) (append_cancel_right a.0 b.0 rest joined) ∙ sym b.2
-
-same_texts : (input program witness : List ℕ) (line : ℕ) (front rest : List ℕ) (at : ℕ) → HasTexts input program witness line
-    → HasTexts input front rest at → AreSameTexts program witness line front rest at
-same_texts input program witness line front rest at a b =
-    let same = same_parts input program witness front rest a.parts b.parts in record {
-      front_is = same.0;
-      rest_is = same.1;
-      line_is = same_line input witness rest line at same.1 a.numbered b.numbered;
-    }
-
-not_long : (input program witness : List ℕ) (line : ℕ) → HasTexts input program witness line → HasLongPart input → ⊥
-not_long input program witness line texts long =
-    let same = same_parts input program witness long.program long.witness texts.parts long.parts in
-    elim long.long [
-      | inl more ↦ omega (arith, more, texts.program_within, ap length same.0)
-      | inr more ↦ omega (arith, more, texts.witness_within, ap length same.1)
-    ]
-
--- an input of two parts has a mark
-marked : (input program witness : List ℕ) → AreTwoParts input program witness → HasNoMark input → ⊥
-marked input program witness parts none = none (length parts.0) parts.1.first.mark
-
 pub one_owed : (input : List ℕ) (s t : Status) (x y : List ℕ) → Owed input s x → Owed input t y → (s ≡ t) × (x ≡ y)
-one_owed input s t x y (NoMark _ e f) (NoMark _ d c) = (e ∙ sym d, f ∙ sym c)
-one_owed input s t x y (NoMark none _ _) (LongPart long _ _) = absurd (marked input long.program long.witness long.parts none)
-one_owed input s t x y (NoMark none _ _) (Parts p w line texts _) = absurd (marked input p w texts.parts none)
-one_owed input s t x y (LongPart long _ _) (NoMark none _ _) = absurd (marked input long.program long.witness long.parts none)
-one_owed input s t x y (LongPart _ e f) (LongPart _ d c) = (e ∙ sym d, f ∙ sym c)
-one_owed input s t x y (LongPart long _ _) (Parts p w line texts _) = absurd (not_long input p w line texts long)
-one_owed input s t x y (Parts p w line texts _) (NoMark none _ _) = absurd (marked input p w texts.parts none)
-one_owed input s t x y (Parts p w line texts _) (LongPart long _ _) = absurd (not_long input p w line texts long)
-one_owed input s t x y (Parts p w line texts owed) (Parts q v at others other) =
-    let same = same_texts input p w line q v at texts others in
-    one_to_texts q v at s t x y
-    (subst (λ (n : ℕ). OwedToTexts q v n s x) same.line_is
-    (subst (λ (u : List ℕ). OwedToTexts q u line s x) same.rest_is
-    (subst (λ (r : List ℕ). OwedToTexts r w line s x) same.front_is owed)))
-    other
-
-pub answer_of : (input : List ℕ) (s : Status) (x : List ℕ) → Owed input s x → IsOwedAnswer (Owed input) s x
-answer_of input s x owed = record { owed = owed; only = λ t y other. one_owed input t s y x other owed }
-
--- ---- what the cut answered
-
-pub parts_owe : (input program witness : List ℕ) (line : ℕ) → AreTwoParts input program witness
-    → (length program ≤ MOST_PROGRAM) × (length witness ≤ MOST_WITNESS) → IsNumbered input witness line
-    → (s : Status) (x : List ℕ) → OwedToTexts program witness line s x → Owed input s x
-parts_owe input program witness line parts within numbered s x owed =
-    Parts program witness line
-    (record { parts = parts; program_within = within.0; witness_within = within.1; numbered = numbered }) owed
-
-pub long_owes : (input : List ℕ)
-    → ((program last : List ℕ) × AreTwoParts input program last × ((MOST_PROGRAM < length program) ⊎ (MOST_WITNESS < length last)))
-    → (s : Status) (x : List ℕ) → s ≡ BadInput → x ≡ LIMIT_PART.now → Owed input s x
-long_owes input long s x e f = LongPart (record { program = long.0; witness = long.1; parts = long.2; long = long.3 }) e f
-
--- the lines of the last part stay below 2^32
-pub room : (input last : List ℕ) (line : ℕ) → IsShort input → IsNumbered input last line → (1 ≤ line) × (line + length last < 2 ^ 32)
-room input last line short numbered =
-    let feeds = count_by-le-length (λ (b : ℕ). b == 10) numbered.0 in
-    let joined = ap length numbered.1 ∙ length-append numbered.0 last in
-    (omega (arith, numbered.2), omega (arith, short, numbered.2, feeds, joined))
+one_owed = two.one_owed MOST_WITNESS OwedToWitness one_to_witness
 
 -- ---- what the statuses of `replay` mean
 
@@ -226,19 +135,24 @@ unreached_owed input text is =
     Within is.0.0 (Parts says.program_text says.witness_text says.line says.texts
     (Programs no.program no.graph says.reads (Witnesses no.witness says.spells (Unreached no.fits no.misses refl is.1))))
 
+-- a program and the text of a witness owe no other status
+pub owed_status : (p : Program) (g : Graph) (bytes : List ℕ) (line : ℕ) (status : Status) (text : List ℕ) → OwedToWitness p g bytes line status text
+    → (status ≡ Holds) ⊎ ((status ≡ Fails) ⊎ (status ≡ BadInput))
+owed_status p g bytes line status text (NotOfForm _ _ is _) = inr (inr is)
+owed_status p g bytes line status text (Witnesses _ _ (Reached _ _ is _)) = inl is
+owed_status p g bytes line status text (Witnesses _ _ (Unreached _ _ is _)) = inr (inl is)
+owed_status p g bytes line status text (Witnesses _ _ (PastRange _ is _)) = inr (inr is)
+
 -- `replay` owes no other status
 pub status_of : (input : List ℕ) (status : Status) (text : List ℕ) → Owed input status text → (status ≡ Holds) ⊎ ((status ≡ Fails) ⊎ (status ≡ BadInput))
 status_of input status text (NoMark _ is _) = inr (inr is)
 status_of input status text (LongPart _ is _) = inr (inr is)
 status_of input status text (Parts _ _ _ _ (NoProgram _ is)) = inr (inr is)
-status_of input status text (Parts _ _ _ _ (Programs _ _ _ (NotOfForm _ _ is _))) = inr (inr is)
-status_of input status text (Parts _ _ _ _ (Programs _ _ _ (Witnesses _ _ (Reached _ _ is _)))) = inl is
-status_of input status text (Parts _ _ _ _ (Programs _ _ _ (Witnesses _ _ (Unreached _ _ is _)))) = inr (inl is)
-status_of input status text (Parts _ _ _ _ (Programs _ _ _ (Witnesses _ _ (PastRange _ is _)))) = inr (inr is)
+status_of input status text (Parts _ last line _ (Programs q g _ owed)) = owed_status q g last line status text owed
 
-pub is_verdict : (input : List ℕ) (status : Status) (text : List ℕ) → Owed input status text → IsVerdict status
-is_verdict input status text owed =
-    elim (status_of input status text owed) [
+pub is_verdict : (p : Program) (g : Graph) (bytes : List ℕ) (line : ℕ) (status : Status) (text : List ℕ) → OwedToWitness p g bytes line status text → IsVerdict status
+is_verdict p g bytes line status text owed =
+    elim (owed_status p g bytes line status text owed) [
       | inl e ↦ omega (arith, ap code e)
       | inr other ↦ elim other [
         | inl e ↦ omega (arith, ap code e)
@@ -277,28 +191,3 @@ exactly_unreached (Some input) n each =
       only = λ one. let owes = at.only one in (unreached_said input owes.0 owes.1).0;
       comes = λ says. at.comes (NO.now, unreached_owed input NO.now (says, refl));
     }
-
--- the status of this number
-bad_input : (s : Status) → code s ≡ 3 → s ≡ BadInput
-bad_input Holds e = absurd (omega (arith, e))
-bad_input Fails e = absurd (omega (arith, e))
-bad_input Unknown e = absurd (omega (arith, e))
-bad_input BadInput e = refl
-bad_input BadWords e = absurd (omega (arith, e))
-bad_input ReadFault e = absurd (omega (arith, e))
-bad_input WriteFault e = absurd (omega (arith, e))
-bad_input NoMemory e = absurd (omega (arith, e))
-
--- a line that refuses the input was written
-pub refused_line : (left : Option (List ℕ)) (n : ℕ) (Wrote : List ℕ → Type 0)
-    → (n < code BadWords → SomeAnswer Owed left (λ status text. (n ≡ code status) × Wrote text)) → n ≡ 3
-    → IfSome left (λ input. (text : List ℕ) × Refusal input text × Wrote text)
-refused_line None n Wrote answer e = tt
-refused_line (Some input) n Wrote answer e =
-    let some = answer (omega (arith, e)) in
-    let status : some.status ≡ BadInput = bad_input some.status (sym some.holding.0 ∙ e) in (
-      some.text,
-      subst (λ (i : List ℕ). Owes Owed i BadInput some.text) (sym some.is)
-          (subst (λ (s : Status). Owes Owed some.input s some.text) status some.owed),
-      some.holding.1,
-    )

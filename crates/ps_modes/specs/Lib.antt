@@ -1,9 +1,10 @@
 pub mod Status
 pub mod Modes
-pub mod Words
+pub mod Promise
 pub mod Texts
 pub mod Owes
 pub mod Refute
 pub mod Programs
+pub mod Parts
 pub mod Replay
 pub mod Inner

@@ -1,11 +1,10 @@
 -- What `replay` owes to its input.
-use Rattle.std.specs.Prelude.{◌≡◌, ℕ, ◌<◌, ◌≤◌, ◌⊎◌, List, length, Err}
+use Rattle.std.specs.Prelude.{◌≡◌, ℕ, List, Err}
 use Rattle.ps_graph.specs.declared.graph.Graph.{Graph}
 use Rattle.ps_lines.specs.declared.form_fault.FormFault.{FormFault}
 use Rattle.ps_lines.specs.Reading.{text_start}
 use Rattle.ps_lines.specs.Tokens.{text_bytes}
-use Rattle.ps_parts.specs.Cuts.{AreTwoParts, HasNoMark, IsNumbered}
-use Rattle.ps_parts.specs.declared.parts.TheConstants.{MOST_PROGRAM, MOST_WITNESS}
+use Rattle.ps_parts.specs.declared.parts.TheConstants.{MOST_WITNESS}
 use Rattle.ps_trace.specs.Reaches.{Reaches}
 use Rattle.ps_trace.specs.Replay.{ReplayFits}
 use Rattle.ps_trace.specs.declared.witness.Witness.{Witness}
@@ -13,26 +12,12 @@ use Rattle.ps_trace_text.specs.WitnessReading.{witness_at}
 use Rattle.ps_trace_text.specs.WitnessSpelling.{witness_lines, WitnessFits}
 use Rattle.ps_tree.specs.declared.program.Program.{Program}
 use Rattle.ps_modes.specs.Owes.{Owes}
-use Rattle.ps_modes.specs.Programs.{RefusesBy, SaysProgram}
+use Rattle.ps_modes.specs.Parts.{HasTexts, OwedToParts}
+use Rattle.ps_modes.specs.Programs.{SaysProgram}
 use Rattle.ps_modes.specs.Texts.{fault_line}
 use Rattle.ps_modes.specs.declared.status.Status.{Status}
 use Rattle.ps_modes.specs.declared.status.Status.TheVariants.{Holds, Fails, BadInput}
-use Rattle.ps_modes.specs.declared.texts.TheConstants.{YES, NO, NO_MARK, LIMIT_PART, PAST}
-
--- The input is the text of a program, its first mark, and the text of a witness, neither too long; the witness begins at
--- the line of this number.
-pub record HasTexts (input program witness : List ℕ) (line : ℕ) : Type 0 where
-  pub parts : AreTwoParts input program witness
-  pub program_within : length program ≤ MOST_PROGRAM
-  pub witness_within : length witness ≤ MOST_WITNESS
-  pub numbered : IsNumbered input witness line
-
--- the input has a mark, and a part of it is too long
-pub record HasLongPart (input : List ℕ) : Type 0 where
-  pub program : List ℕ
-  pub witness : List ℕ
-  pub parts : AreTwoParts input program witness
-  pub long : (MOST_PROGRAM < length program) ⊎ (MOST_WITNESS < length witness)
+use Rattle.ps_modes.specs.declared.texts.TheConstants.{YES, NO, PAST}
 
 -- the text spells this witness, which is within the limits of the form
 pub record SpellsWitness (text : List ℕ) (witness : Witness) : Type 0 where
@@ -48,7 +33,7 @@ pub record SaysBoth (input : List ℕ) (program : Program) (graph : Graph) (witn
   pub program_text : List ℕ
   pub witness_text : List ℕ
   pub line : ℕ
-  pub texts : HasTexts input program_text witness_text line
+  pub texts : HasTexts MOST_WITNESS input program_text witness_text line
   pub reads : SaysProgram program_text program graph
   pub spells : SpellsWitness witness_text witness
 
@@ -81,16 +66,9 @@ pub data OwedToWitness (program : Program) (graph : Graph) (bytes : List ℕ) (l
   NotOfForm : (fault : FormFault) → FirstFault bytes line fault → status ≡ BadInput → text ≡ fault_line fault → OwedToWitness program graph bytes line status text
   Witnesses : (witness : Witness) → SpellsWitness bytes witness → OwedOf program graph witness status text → OwedToWitness program graph bytes line status text
 
--- what the texts of a program and of a witness owe: a line that refuses the first, or what the program and the second owe
-pub data OwedToTexts (program witness : List ℕ) (line : ℕ) (status : Status) (text : List ℕ) : Type 0 where
-  NoProgram : RefusesBy program text → status ≡ BadInput → OwedToTexts program witness line status text
-  Programs : (read : Program) (graph : Graph) → SaysProgram program read graph → OwedToWitness read graph witness line status text → OwedToTexts program witness line status text
-
--- What an input owes that isn't too long: a line where it has no mark, or a part that is too long; else what its parts owe.
-pub data Owed (input : List ℕ) (status : Status) (text : List ℕ) : Type 0 where
-  NoMark : HasNoMark input → status ≡ BadInput → text ≡ NO_MARK.now → Owed input status text
-  LongPart : HasLongPart input → status ≡ BadInput → text ≡ LIMIT_PART.now → Owed input status text
-  Parts : (program witness : List ℕ) (line : ℕ) → HasTexts input program witness line → OwedToTexts program witness line status text → Owed input status text
+-- what an input owes that isn't too long
+abbrev pub Owed : List ℕ → Status → List ℕ → Type 0
+Owed = OwedToParts MOST_WITNESS OwedToWitness
 
 -- the line that refuses an input, which is too long, not of the form, past a limit, or leads past 128 bits
 abbrev pub Refusal : List ℕ → List ℕ → Type 0

@@ -1,13 +1,11 @@
 //! The frame of every mode: it reads the whole input, has the mode make the whole answer, and then writes it.
-ghost use Rattle.std.specs.Prelude.{◌≡◌, ℕ, ◌<◌, ◌⊎◌, List, [], ◌∷◌, IsTrue, IfOk, IfErr, IfSome, IsErrOf};
-ghost use Rattle.std.specs.Io.KnownBytes.{Appends, Keeps};
-ghost use Rattle.ps_io.specs.Bytes.{GaveAtMost, TookPrefix};
+ghost use Rattle.std.specs.Prelude.{◌≡◌, ◌⊎◌, [], ◌∷◌, IsTrue, IfOk, IfErr, IsErrOf};
+ghost use Rattle.ps_io.specs.Bytes.{GaveAtMost};
 ghost use Rattle.ps_io.specs.Causes.{Rose};
 ghost use Rattle.ps_modes.specs.Inner.Settled.{Settled};
-ghost use Rattle.ps_modes.specs.Owes.{IsVerdict, OwesStatus, SomeAnswer};
-ghost use Rattle.ps_modes.specs.Status.{code, Exactly, IsOneOf};
-ghost use Rattle.ps_modes.specs.declared.status.Status.{Status};
-ghost use Rattle.ps_modes.specs.declared.status.Status.TheVariants.{Holds, Fails, Unknown, BadInput, BadWords, ReadFault, WriteFault, NoMemory};
+ghost use Rattle.ps_modes.specs.Promise.{Answers, HasCauses};
+ghost use Rattle.ps_modes.specs.Status.{IsOneOf};
+ghost use Rattle.ps_modes.specs.declared.status.Status.TheVariants.{Holds, Fails, Unknown, BadInput, ReadFault, WriteFault, NoMemory};
 
 use crate::answer::{Answer, answer_line};
 use crate::input::MOST_BYTES;
@@ -29,29 +27,23 @@ pub(crate) fn answer_input<J: Judge, S: Source, K: Sink>(
     ensures statuses { IsOneOf result
         (Holds ∷ Fails ∷ Unknown ∷ BadInput ∷ ReadFault ∷ WriteFault ∷ NoMemory ∷ []) }
 
-    // The status and the text that the input owes, and the whole text was written.
-    ensures answer { result < code BadWords → SomeAnswer (J.owed judge.now) (S.left source.old)
-        (λ status text. (result ≡ code status)
-        × Appends (K.written sink.old) (K.written sink.new) text) }
-    ensures exactly { IfSome (S.left source.old) (λ input. (status : Status) → IsVerdict status
-        → Exactly result status (OwesStatus (J.owed judge.now) input status)) }
-    ensures prefix { result ≡ code WriteFault → SomeAnswer (J.owed judge.now) (S.left source.old)
-        (λ status text. TookPrefix (K.written sink.old) (K.written sink.new) text) }
-
-    // A fault of the source, within the limit, ended the reading, and nothing was written.
-    ensures read_fault { result ≡ code ReadFault
-        → Rose (S.faults source.old) (S.faults source.new) }
-    ensures read_fault_last { result ≡ code ReadFault → IsTrue (S.failed source.new) }
-    ensures read_fault_within { result ≡ code ReadFault
-        → GaveAtMost MOST_BYTES (S.left source.old) (S.left source.new) }
-    ensures read_fault_text { result ≡ code ReadFault
-        → Keeps (K.written sink.old) (K.written sink.new) }
-    ensures read_stayed { ¬ (result ≡ code ReadFault) → S.faults source.new ≡ S.faults source.old }
-
-    ensures write_fault { result ≡ code WriteFault → Rose (K.faults sink.old) (K.faults sink.new) }
-    ensures write_stayed { ¬ (result ≡ code WriteFault) → K.faults sink.new ≡ K.faults sink.old }
-    ensures no_memory_text { result ≡ code NoMemory
-        → Keeps (K.written sink.old) (K.written sink.new) }
+    ensures answers { Answers (J.owed judge.now) (S.left source.old) (K.written sink.old)
+        (K.written sink.new) result }
+    ensures causes { HasCauses
+        (record {
+          left = S.left source.old;
+          left_after = S.left source.new;
+          faults = S.faults source.old;
+          faults_after = S.faults source.new;
+          failed_after = S.failed source.new;
+        })
+        (record {
+          written = K.written sink.old;
+          written_after = K.written sink.new;
+          faults = K.faults sink.old;
+          faults_after = K.faults sink.new;
+        })
+        result }
 {
     match answer_made(alloc, judge, source) {
         Ok(answer) => match write_all(sink, answer.text.as_slice()) {

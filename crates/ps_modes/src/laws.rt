@@ -1,24 +1,16 @@
-//! Facts about what words ask for and what inputs are owed, which readers and callers cite: each function does no
+//! Facts about what inputs are owed, which readers and callers cite: each function does no
 //! work, and its clause is the fact.
-ghost use Rattle.std.specs.Prelude.{◌≡◌, ◌↔◌, ℕ, ◌<◌, List, [], ◌∷◌, length, Contains, String};
-ghost use Rattle.std.specs.Global.{Global};
+ghost use Rattle.std.specs.Prelude.{◌≡◌, ◌↔◌, ℕ, ◌<◌, List, [], ◌∷◌, length, Contains};
 ghost use Rattle.ps_modes.specs.Modes.{owed_by};
 ghost use Rattle.ps_modes.specs.Owes.{IsShort, Owes};
 ghost use Rattle.ps_modes.specs.Refute.{SaysYes, SaysNo};
 ghost use Rattle.ps_modes.specs.Replay.{SaysReached, SaysUnreached};
-ghost use Rattle.ps_modes.specs.Words.{AskFor};
 ghost use Rattle.ps_modes.specs.declared.input.TheConstants.{MOST_BYTES};
-ghost use Rattle.ps_modes.specs.declared.mode.Mode.{Mode};
-ghost use Rattle.ps_modes.specs.declared.mode.Mode.TheVariants.{Refute, Replay};
 ghost use Rattle.ps_modes.specs.declared.status.Status.{Status};
 ghost use Rattle.ps_modes.specs.declared.status.Status.TheVariants.{Holds, Fails, BadInput};
 ghost use Rattle.ps_modes.specs.declared.texts.TheConstants.{NO, TOO_LONG, YES};
-
-/// Words ask for one mode at most.
-pub fn one_mode_is_asked_for()
-    ensures { (words : List (String Global)) (a b : Mode) → AskFor words a → AskFor words b
-        → a ≡ b }
-{}
+ghost use Rattle.ps_words.specs.declared.mode.Mode.{Mode};
+ghost use Rattle.ps_words.specs.declared.mode.Mode.TheVariants.{Refute, Replay};
 
 /// An input is owed one status and one text at most, whatever the mode.
 pub fn one_answer_is_owed()

@@ -3,19 +3,17 @@
 
 mod answer;
 mod frame;
+mod graphs;
 mod input;
 mod judge;
 pub mod laws;
-mod mode;
 mod program;
 mod refute;
 mod replay;
 mod status;
 mod texts;
-mod words;
 
 pub use input::MOST_BYTES;
-pub use mode::Mode;
 pub use program::run;
 pub use refute::refute_run;
 pub use replay::replay_run;

@@ -1,18 +1,15 @@
 //! The mode `refute`: whether the multipliers of the input refute its rows.
-ghost use Rattle.std.specs.Prelude.{◌≡◌, ℕ, ◌<◌, List, [], ◌∷◌, length, IsTrue, IfOk, IfSome};
-ghost use Rattle.std.specs.Io.KnownBytes.{Appends, Keeps};
-ghost use Rattle.ps_io.specs.Bytes.{GaveAtMost, TookPrefix};
-ghost use Rattle.ps_io.specs.Causes.{Rose};
+ghost use Rattle.std.specs.Prelude.{◌≡◌, ℕ, List, [], ◌∷◌, length, IfOk, IfSome};
+ghost use Rattle.std.specs.Io.KnownBytes.{Appends};
 ghost use Rattle.ps_modes.specs.Inner.Judged.{Judged};
-ghost use Rattle.ps_modes.specs.Owes.{IsShort, IsVerdict, OwesStatus, SomeAnswer};
+ghost use Rattle.ps_modes.specs.Owes.{IsShort};
+ghost use Rattle.ps_modes.specs.Promise.{Answers, HasCauses};
 ghost use Rattle.ps_modes.specs.Refute.{IsRefusedInput, Owed, Refusal, SaysYes, SaysNo};
 ghost use Rattle.ps_modes.specs.Status.{code, Exactly, IsOneOf};
-ghost use Rattle.ps_modes.specs.declared.status.Status.{Status};
-ghost use Rattle.ps_modes.specs.declared.status.Status.TheVariants.{Holds, Fails, BadInput, BadWords, ReadFault, WriteFault, NoMemory};
+ghost use Rattle.ps_modes.specs.declared.status.Status.TheVariants.{Holds, Fails, BadInput, ReadFault, WriteFault, NoMemory};
 
 use crate::answer::{Answer, answer_line};
 use crate::frame::answer_input;
-use crate::input::MOST_BYTES;
 use crate::judge::Judge;
 use crate::status::Status;
 use crate::texts::{NO, PAST, YES, fault_line};
@@ -42,27 +39,24 @@ pub fn refute_run<S: Source, K: Sink>(alloc: Global, source: &mut S, sink: &mut 
         (text : List ℕ) × Refusal input text
         × Appends (K.written sink.old) (K.written sink.new) text) }
 
-    // The status and the text that the input owes, and the whole text was written.
-    ensures answer { result < code BadWords → SomeAnswer Owed (S.left source.old)
-        (λ status text. (result ≡ code status)
-        × Appends (K.written sink.old) (K.written sink.new) text) }
-    ensures exactly { IfSome (S.left source.old) (λ input. (status : Status) → IsVerdict status
-        → Exactly result status (OwesStatus Owed input status)) }
-    ensures prefix { result ≡ code WriteFault → SomeAnswer Owed (S.left source.old)
-        (λ status text. TookPrefix (K.written sink.old) (K.written sink.new) text) }
-
-    ensures read_fault { result ≡ code ReadFault
-        → Rose (S.faults source.old) (S.faults source.new) }
-    ensures read_fault_last { result ≡ code ReadFault → IsTrue (S.failed source.new) }
-    ensures read_fault_within { result ≡ code ReadFault
-        → GaveAtMost MOST_BYTES (S.left source.old) (S.left source.new) }
-    ensures read_fault_text { result ≡ code ReadFault
-        → Keeps (K.written sink.old) (K.written sink.new) }
-    ensures read_stayed { ¬ (result ≡ code ReadFault) → S.faults source.new ≡ S.faults source.old }
-    ensures write_fault { result ≡ code WriteFault → Rose (K.faults sink.old) (K.faults sink.new) }
-    ensures write_stayed { ¬ (result ≡ code WriteFault) → K.faults sink.new ≡ K.faults sink.old }
-    ensures no_memory_text { result ≡ code NoMemory
-        → Keeps (K.written sink.old) (K.written sink.new) }
+    // What every mode promises.
+    ensures answers { Answers Owed (S.left source.old) (K.written sink.old) (K.written sink.new)
+        result }
+    ensures causes { HasCauses
+        (record {
+          left = S.left source.old;
+          left_after = S.left source.new;
+          faults = S.faults source.old;
+          faults_after = S.faults source.new;
+          failed_after = S.failed source.new;
+        })
+        (record {
+          written = K.written sink.old;
+          written_after = K.written sink.new;
+          faults = K.faults sink.old;
+          faults_after = K.faults sink.new;
+        })
+        result }
 {
     answer_input(alloc, &Refute, source, sink)
 }

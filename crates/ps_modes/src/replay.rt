@@ -1,35 +1,28 @@
 //! The mode `replay`: whether the witness of the input reaches a failure of its program.
-ghost use Rattle.std.specs.Prelude.{◌≡◌, ℕ, ◌+◌, ◌<◌, ◌≤◌, ◌^◌, List, [], ◌∷◌, length, Some, IsTrue, IfOk, IfSome};
-ghost use Rattle.std.specs.Io.KnownBytes.{Appends, Keeps};
-ghost use Rattle.ps_compile.specs.Conditions.{IsCompilable};
-ghost use Rattle.ps_grammar.specs.Programs.{IsProgram};
+ghost use Rattle.std.specs.Prelude.{◌≡◌, ℕ, ◌+◌, ◌<◌, ◌≤◌, ◌^◌, List, [], ◌∷◌, length, IfOk, IfSome};
+ghost use Rattle.std.specs.Io.KnownBytes.{Appends};
 ghost use Rattle.ps_graph.specs.Errors.{IsGraphOf};
-ghost use Rattle.ps_io.specs.Bytes.{GaveAtMost, TookPrefix};
-ghost use Rattle.ps_io.specs.Causes.{Rose};
-ghost use Rattle.ps_modes.specs.Owes.{IsShort, IsVerdict, OwesStatus, SomeAnswer};
-ghost use Rattle.ps_modes.specs.Replay.{IsRefusedInput, Owed, OwedOf, OwedToTexts, OwedToWitness, Refusal, SaysReached, SaysUnreached};
+ghost use Rattle.ps_modes.specs.Owes.{IsShort};
+ghost use Rattle.ps_modes.specs.Parts.{OwedToTexts};
+ghost use Rattle.ps_modes.specs.Promise.{Answers, HasCauses};
+ghost use Rattle.ps_modes.specs.Replay.{IsRefusedInput, Owed, OwedOf, OwedToWitness, Refusal, SaysReached, SaysUnreached};
 ghost use Rattle.ps_modes.specs.Status.{code, Exactly, IsOneOf};
-ghost use Rattle.ps_modes.specs.declared.status.Status.{Status};
-ghost use Rattle.ps_modes.specs.declared.status.Status.TheVariants.{Holds, Fails, BadInput, BadWords, ReadFault, WriteFault, NoMemory};
-ghost use Rattle.ps_parse.specs.Refusals.{refusal_text};
+ghost use Rattle.ps_modes.specs.declared.status.Status.TheVariants.{Holds, Fails, BadInput, ReadFault, WriteFault, NoMemory};
 ghost use Rattle.ps_tree.specs.declared.program.Program.{Program};
 
 use crate::answer::{Answer, answer_line};
 use crate::frame::answer_input;
-use crate::input::MOST_BYTES;
+use crate::graphs::{GraphEnd, graph_said};
 use crate::judge::Judge;
 use crate::status::Status;
 use crate::texts::{LIMIT_PART, NO, NO_MARK, PAST, YES, fault_line};
 use ps_command::RunEnd;
-use ps_compile::{CompileEnd, compile};
 use ps_graph::Graph;
 use ps_io::{Sink, Source};
-use ps_parse::{ReadRefusal, read_program, refusal_line};
 use ps_parts::{MOST_WITNESS, PartsEnd, two_parts};
 use ps_text::FormEnd;
 use ps_trace::{Witness, replay};
 use ps_trace_text::read_witness;
-use ps_tree::Program;
 use std::alloc::{AllocError, Global};
 
 /// Reads the source to its end, and writes `yes` or `no`, or the line that refuses the input. Returns always.
@@ -52,27 +45,24 @@ pub fn replay_run<S: Source, K: Sink>(alloc: Global, source: &mut S, sink: &mut 
         (text : List ℕ) × Refusal input text
         × Appends (K.written sink.old) (K.written sink.new) text) }
 
-    // The status and the text that the input owes, and the whole text was written.
-    ensures answer { result < code BadWords → SomeAnswer Owed (S.left source.old)
-        (λ status text. (result ≡ code status)
-        × Appends (K.written sink.old) (K.written sink.new) text) }
-    ensures exactly { IfSome (S.left source.old) (λ input. (status : Status) → IsVerdict status
-        → Exactly result status (OwesStatus Owed input status)) }
-    ensures prefix { result ≡ code WriteFault → SomeAnswer Owed (S.left source.old)
-        (λ status text. TookPrefix (K.written sink.old) (K.written sink.new) text) }
-
-    ensures read_fault { result ≡ code ReadFault
-        → Rose (S.faults source.old) (S.faults source.new) }
-    ensures read_fault_last { result ≡ code ReadFault → IsTrue (S.failed source.new) }
-    ensures read_fault_within { result ≡ code ReadFault
-        → GaveAtMost MOST_BYTES (S.left source.old) (S.left source.new) }
-    ensures read_fault_text { result ≡ code ReadFault
-        → Keeps (K.written sink.old) (K.written sink.new) }
-    ensures read_stayed { ¬ (result ≡ code ReadFault) → S.faults source.new ≡ S.faults source.old }
-    ensures write_fault { result ≡ code WriteFault → Rose (K.faults sink.old) (K.faults sink.new) }
-    ensures write_stayed { ¬ (result ≡ code WriteFault) → K.faults sink.new ≡ K.faults sink.old }
-    ensures no_memory_text { result ≡ code NoMemory
-        → Keeps (K.written sink.old) (K.written sink.new) }
+    // What every mode promises.
+    ensures answers { Answers Owed (S.left source.old) (K.written sink.old) (K.written sink.new)
+        result }
+    ensures causes { HasCauses
+        (record {
+          left = S.left source.old;
+          left_after = S.left source.new;
+          faults = S.faults source.old;
+          faults_after = S.faults source.new;
+          failed_after = S.failed source.new;
+        })
+        (record {
+          written = K.written sink.old;
+          written_after = K.written sink.new;
+          faults = K.faults sink.old;
+          faults_after = K.faults sink.new;
+        })
+        result }
 {
     answer_input(alloc, &Replay, source, sink)
 }
@@ -102,32 +92,16 @@ fn judge_texts(
     requires program { length program.now + 1 < 2 ^ 32 }
     requires from_one { 1 ≤ line }
     requires room { line + length witness.now < 2 ^ 32 }
-    ensures { IfOk result
-        (λ answer. OwedToTexts program.now witness.now line answer.status answer.text.items) }
+    ensures { IfOk result (λ answer. OwedToTexts OwedToWitness program.now witness.now line
+        answer.status answer.text.items) }
 {
-    match read_program(alloc, program) {
-        Ok(read) => judge_program(alloc, &read, witness, line),
-        Err(refusal) => refuse(alloc, &refusal),
-    }
-}
-
-/// The answer to a program and the text of a witness, which begins at this line.
-fn judge_program(
-    alloc: Global,
-    program: &Program,
-    witness: &[u8],
-    line: u32,
-) -> Result<Answer, AllocError>
-    requires compilable { IsCompilable program.now }
-    requires from_one { 1 ≤ line }
-    requires room { line + length witness.now < 2 ^ 32 }
-    ensures { (text : List ℕ) → IsProgram text program.now → IfOk result
-        (λ answer. OwedToTexts text witness.now line answer.status answer.text.items) }
-{
-    match compile(alloc, program) {
+    match graph_said(alloc, program) {
         Ok(graph) => judge_witness(alloc, &graph, witness, line),
-        Err(CompileEnd::Limit(place, limit)) => refuse(alloc, &ReadRefusal::Limit(place, limit)),
-        Err(CompileEnd::Memory(end)) => Err(end),
+        Err(GraphEnd::Refused(text)) => Ok(Answer {
+            status: Status::BadInput,
+            text,
+        }),
+        Err(GraphEnd::Memory(end)) => Err(end),
     }
 }
 
@@ -165,19 +139,5 @@ fn judge_replay(alloc: Global, graph: &Graph, witness: &Witness) -> Result<Answe
         }
         Err(RunEnd::Past128) => answer_line(alloc, Status::BadInput, PAST),
         Err(RunEnd::Memory(end)) => Err(end),
-    }
-}
-
-/// The answer to the text of a program that is refused so.
-fn refuse(alloc: Global, refusal: &ReadRefusal) -> Result<Answer, AllocError>
-    ensures status { IfOk result (λ answer. answer.status ≡ BadInput) }
-    ensures text { IfOk result (λ answer. refusal_text refusal.now ≡ Some answer.text.items) }
-{
-    match refusal_line(alloc, refusal)? {
-        Some(text) => Ok(Answer {
-            status: Status::BadInput,
-            text,
-        }),
-        None => Err(AllocError),
     }
 }

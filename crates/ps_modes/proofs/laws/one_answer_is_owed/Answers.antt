@@ -3,8 +3,8 @@ use Rattle.ps_modes.proofs.Answering.{one_owes}
 use Rattle.ps_modes.proofs.Owing as refute
 use Rattle.ps_modes.proofs.Replaying as replay
 use Rattle.ps_modes.specs.Modes.{owed_by}
-use Rattle.ps_modes.specs.declared.mode.Mode.{Mode}
-use Rattle.ps_modes.specs.declared.mode.Mode.TheVariants.{Refute, Replay}
+use Rattle.ps_words.specs.declared.mode.Mode.{Mode}
+use Rattle.ps_words.specs.declared.mode.Mode.TheVariants.{Refute, Replay}
 use Rattle.ps_modes.specs.declared.status.Status.{Status}
 use Rattle.ps_modes.proofs.laws.one_answer_is_owed.Goals as goal
 

@@ -1,19 +1,17 @@
--- A program that is read can be compiled; one that isn't is refused by the line of its refusal.
-use Rattle.ps_compile.proofs.Readable.{readable}
-use Rattle.ps_trace.proofs.Results.{both_ok}
-use Rattle.ps_modes.proofs.Programs.{read_refused}
-use Rattle.ps_modes.specs.Replay.{NoProgram}
+-- The program's graph and the witness owe the answer, or the line that refuses the program is owed.
+use Rattle.std.proofs.Common.{refl}
+use Rattle.std.proofs.lemmas.Result.{IfOk-weaker}
+use Rattle.ps_modes.specs.Parts.{NoProgram, Programs}
 use Rattle.ps_modes.proofs.replay.judge_texts.Goals as goal
 
-pub judge_program-requires-clause-compilable : goal.judge_program-requires-clause-compilable
-judge_program-requires-clause-compilable c = readable c.args.program.now c.in-Ok.read c.in-Ok.ensures.found
+pub judge_witness-requires-clause-few : goal.judge_witness-requires-clause-few
+judge_witness-requires-clause-few c = c.in-Ok.ensures.said.few
 
 pub returns-in-Ok : goal.returns-in-Ok
-returns-in-Ok c = c.judge_program.ensures c.args.program.now c.in-Ok.ensures.found
+returns-in-Ok c =
+    let said = c.in-Ok.ensures.said in
+    IfOk-weaker c.judge_witness.result _ _ (λ answer owed. Programs said.program c.in-Ok.graph said.says owed)
+    (c.judge_witness.ensures said.program said.is)
 
-pub returns-in-Err : goal.returns-in-Err
-returns-in-Err c =
-    both_ok c.refuse.result
-    (λ answer s t. NoProgram
-    (read_refused c.args.program.now answer.text.items c.in-Err.refusal c.in-Err.ensures.token c.in-Err.ensures.first c.in-Err.ensures.exact t) s)
-    c.refuse.ensures.status c.refuse.ensures.text
+pub returns-in-Err-Refused : goal.returns-in-Err-Refused
+returns-in-Err-Refused c = NoProgram (rw c.in-Err-Refused.field-0-is at c.in-Err-Refused.ensures.refused) refl

@@ -1,7 +1,7 @@
 //! The modes of the program and their names.
 ghost use Rattle.std.specs.Prelude.{◌≡◌, ◌≢◌, MatchOption};
-ghost use Rattle.ps_modes.specs.Modes.{mode_name};
-ghost use Rattle.ps_modes.specs.declared.mode.Mode.{Mode};
+ghost use Rattle.ps_words.specs.Modes.{mode_name};
+ghost use Rattle.ps_words.specs.declared.mode.Mode.{Mode};
 
 /// The word for `refute`.
 pub const REFUTE: &str = "refute";

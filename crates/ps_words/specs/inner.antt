@@ -1,0 +1,3 @@
+-- What the clauses of private functions cite, and no public contract.
+pub mod Commands
+pub mod Numbers
