@@ -473,10 +473,10 @@ last_guards {n = n} {n' = n'} {one = one} {one' = one'} {spell = spell} {okay = 
       };
     }
 
--- the same with a value of the place and of what was read
+-- the same with a value of the place and of what was read, which may be another where less is asked
 pub placed_guards : {C A B : Type 0} {n : ℕ} {n' most : ℕ → ℕ} {read : ReadWords A} {read' : ℕ → ReadWords A} {spell : C → List Piece} {okay : C → Type 0} {alike : A → A → Type 0} {follows : List Piece → Type 0}
-    (of : WordsAhead → A → B) → Guards n n' most read read' spell okay alike follows → Guards n n' most (λ at. read at >>= λ x. Ok (of at x.0, x.1)) (λ i at. read' i at >>= λ x. Ok (of at x.0, x.1)) spell okay Any follows
-placed_guards of g = record {
+    (of of' : WordsAhead → A → B) → Guards n n' most read read' spell okay alike follows → Guards n n' most (λ at. read at >>= λ x. Ok (of at x.0, x.1)) (λ i at. read' i at >>= λ x. Ok (of' at x.0, x.1)) spell okay Any follows
+placed_guards of of' g = record {
   never = λ i at c rest fine h stop. lets_bind _ _ _ _ (g.never i at c rest fine h stop) (λ y p. lets_end _ _ p);
   stuck = λ at room.
       keeps_bind _ _ _ _ _ _ (g.stuck at room)
@@ -503,35 +503,10 @@ placed_guards of g = record {
       });
 }
 
--- another value of what was read, and any
+-- the same with a value of what was read
 pub mapped_any : {C A B : Type 0} {n : ℕ} {n' most : ℕ → ℕ} {read : ReadWords A} {read' : ℕ → ReadWords A} {spell : C → List Piece} {okay : C → Type 0} {alike : A → A → Type 0} {follows : List Piece → Type 0}
     (of of' : A → B) → Guards n n' most read read' spell okay alike follows → Guards n n' most (mapped of read) (λ i. mapped of' (read' i)) spell okay Any follows
-mapped_any of of' g = record {
-  never = λ i at c rest fine h stop. lets_bind _ _ _ _ (g.never i at c rest fine h stop) (λ y p. lets_end _ _ p);
-  stuck = λ at room.
-      keeps_bind _ _ _ _ _ _ (g.stuck at room)
-      (λ y p. keeps_end _ _ _ (record {
-        text = p.text;
-        fine = p.fine;
-        front = p.front;
-        split = p.split;
-        ends = p.ends;
-        spelled = p.spelled;
-        same = λ i at' more room' s h. gets_bind _ _ _ _ (p.same i at' more room' s h) (λ z q. gets_end _ _ (tt, q.1));
-      }))
-      (λ p q. record {
-        text = q.text;
-        fine = q.fine;
-        front = q.front;
-        rest = q.rest;
-        more = q.more;
-        next = q.next;
-        split = q.split;
-        place = q.place;
-        spelled = q.spelled;
-        same = λ g i at' more room' s h. refused_bind _ _ (q.same g i at' more room' s h);
-      });
-}
+mapped_any of of' g = placed_guards (λ at. of) (λ at. of') g
 
 pub paired : {A B X : Type 0} (of : A → B → X) (a : ReadWords A) (b : ReadWords B) (at : WordsAhead) → mapped (λ (p : A × B). of p.0 p.1) (both pair_up a b) at ≡ both of a b at
 paired of a b at = bind_bind (a at) _ _ ∙ bind_same (a at) _ _ (λ x. bind_bind (b x.1) _ _ ∙ bind_same (b x.1) _ _ (λ y. bind_end ((x.0, y.0), y.1) _))

@@ -12,7 +12,6 @@ pub mod DeclarationLaws
 pub mod ProgramLaws
 pub mod WordsWithin
 pub mod TextLaws
-pub mod NoTokens
 pub mod Guards
 pub mod GuardSteps
 pub mod GuardLoops

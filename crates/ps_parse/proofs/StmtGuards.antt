@@ -187,7 +187,7 @@ kind_guards t levels block block' g inside =
 stmt_guards : (t : Two) (levels : ℕ) (block : Bool → ReadWords (List Stmt)) (block' : ℕ → Bool → ReadWords (List Stmt)) → ((inside : Bool) → BlockGuards t (block inside) (λ i. block' i inside)) → (inside : Bool)
     → GuardsIn t (stmt_at block inside t.scope t.most levels) (λ i. stmt_at (block' i) inside t.scope' (t.most' i) levels) stmt_pieces Any (Not kind.Else)
 unfolding stmt_at
-stmt_guards t levels block block' g inside = placed_guards (λ at k. record { place = place_at at; kind = k }) (kind_guards t levels block block' g inside)
+stmt_guards t levels block block' g inside = placed_guards (λ at k. record { place = place_at at; kind = k }) (λ at k. record { place = place_at at; kind = k }) (kind_guards t levels block block' g inside)
 
 -- ---- blocks
 
