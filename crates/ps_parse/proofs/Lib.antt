@@ -22,7 +22,9 @@ pub mod DeclarationGuards
 pub mod ProgramGuards
 pub mod ItemRows
 pub mod NamesDeclared
+pub mod Spots
 pub mod OneAnswer
+pub mod OneRefusal
 pub mod Examples
 pub mod RowLaws
 pub mod CauseSteps
