@@ -15,5 +15,5 @@ pub returns-in-Err : goal.returns-in-Err
 returns-in-Err c =
     both_ok c.refuse.result
     (λ answer s t. NoProgram
-    (read_refused c.args.program.now answer.text.items c.in-Err.refusal c.in-Err.ensures.token c.in-Err.ensures.first c.in-Err.ensures.exact t) s)
+    (read_refused c.args.program.now answer.text.items c.in-Err.refusal c.in-Err.ensures.token c.in-Err.ensures.first c.in-Err.ensures.in_text c.in-Err.ensures.grammar t) s)
     c.refuse.ensures.status c.refuse.ensures.text
