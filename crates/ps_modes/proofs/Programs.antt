@@ -1,5 +1,5 @@
 -- A text is one program with its graph, or is refused in one way.
-use Rattle.std.proofs.Common.{◌≡◌, ℕ, List, [], ◌∷◌, Result, Ok, Err, Some, inl, inr, refl, sym, ap, ◌∙◌, subst}
+use Rattle.std.proofs.Common.{◌≡◌, ℕ, List, [], ◌∷◌, Some, inl, inr, refl, sym, ap, ◌∙◌, subst}
 use Rattle.ps_compile.specs.Checks.{Check, IsFirstExceeded, NoneIsExceeded}
 use Rattle.ps_grammar.specs.Programs.{IsProgram, IsProgramText}
 use Rattle.ps_grammar.specs.Words.{words_of}
@@ -11,7 +11,6 @@ use Rattle.ps_parse.specs.Texts.{GrammarIsFault, IsFirstRefusal, IsInText, Refus
 use Rattle.ps_parse.specs.declared.read_refusal.ReadRefusal.{ReadRefusal}
 use Rattle.ps_parse.specs.declared.read_refusal.ReadRefusal.TheVariants as refusal
 use Rattle.ps_token.proofs.OneCut.{not_both, one_list, one_place}
-use Rattle.ps_token.specs.Lexing.{AreTokens}
 use Rattle.ps_token.specs.declared.place.Place.{Place}
 use Rattle.ps_token.specs.declared.token.Token.{Token}
 use Rattle.ps_tree.specs.declared.limit_name.LimitName.{LimitName}

@@ -16,7 +16,8 @@ use Rattle.ps_grammar.specs.Names.{Names, variable_of_name}
 use Rattle.ps_parse.specs.Reads.{refusal_place}
 use Rattle.ps_grammar.specs.Spelling.{Piece, Mark, pieces}
 use Rattle.ps_grammar.specs.Words.{Word}
-use Rattle.ps_parse.specs.Reading.{WordsAhead, ReadWords, is_kind, begins_with, place_of_next, word_from, next_word, after_word}
+use Rattle.ps_parse.specs.Inner.Reading.{WordsAhead, ReadWords, word_from, next_word, after_word}
+use Rattle.ps_parse.specs.Kinds.{is_kind, begins_with, place_of_next}
 use Rattle.ps_lines.specs.Steps.{◌>>=◌}
 use Rattle.ps_parse.proofs.Steps.{one_kind, same_kind, Takes, takes_pieces, begins_piece, begins_pieces}
 use Rattle.ps_parse.proofs.Guards.{Keeps, keeps_bind, keeps_more}

@@ -10,9 +10,9 @@ use Rattle.ps_tree.specs.declared.limit_name.LimitName.TheVariants as limit
 use Rattle.ps_parse.specs.declared.read_refusal.ReadRefusal.TheVariants.{Limit}
 use Rattle.ps_grammar.specs.Grammar.{CondText, last_conj, or_else, last_unary, and_also, UnaryText, negation, in_parens, relation, TestText, either, condition}
 use Rattle.ps_grammar.specs.Words.{Word}
-use Rattle.ps_parse.specs.Reading.{WordsAhead, ReadWords, next_is, place_at, after_word}
-use Rattle.ps_parse.specs.Sums.{sign_of, relation_at}
-use Rattle.ps_parse.specs.Conds.{one_or_all, members_at, conj_with, cond_with, opens_at, unary_at, cond_at, test_at, parens_at}
+use Rattle.ps_parse.specs.Inner.Reading.{WordsAhead, ReadWords, next_is, place_at, after_word}
+use Rattle.ps_parse.specs.Inner.Sums.{sign_of, relation_at}
+use Rattle.ps_parse.specs.Inner.Conds.{one_or_all, members_at, conj_with, cond_with, opens_at, unary_at, cond_at, test_at, parens_at}
 use Rattle.ps_grammar.specs.Spelling.{Piece, Mark, relation_pieces, cond_pieces, conj_pieces, unary_pieces, test_pieces}
 use Rattle.ps_parse.proofs.Steps.{Ahead, begins_piece, next_ahead, Always}
 use Rattle.ps_parse.proofs.Sequences.{IsMark, mapped, Ends}

@@ -9,10 +9,10 @@ use Rattle.ps_tree.specs.declared.cond.Cond.{Cond}
 use Rattle.ps_tree.specs.declared.cond.Cond.TheVariants as cond
 use Rattle.ps_tree.specs.declared.cond.Test.TheVariants as test
 use Rattle.ps_grammar.specs.Grammar.{CondText, last_conj, or_else, ConjText, last_unary, and_also, UnaryText, negation, in_parens, relation, TestText, either, condition}
-use Rattle.ps_parse.specs.Reading.{WordsAhead, ReadWords, next_is, after_word}
+use Rattle.ps_parse.specs.Inner.Reading.{WordsAhead, ReadWords, next_is, after_word}
 use Rattle.ps_grammar.specs.Names.{Names}
-use Rattle.ps_parse.specs.Sums.{sign_of, relation_at}
-use Rattle.ps_parse.specs.Conds.{one_or_all, members_at, conj_with, cond_with, opens_at, unary_at, cond_at, test_at, parens_at}
+use Rattle.ps_parse.specs.Inner.Sums.{sign_of, relation_at}
+use Rattle.ps_parse.specs.Inner.Conds.{one_or_all, members_at, conj_with, cond_with, opens_at, unary_at, cond_at, test_at, parens_at}
 use Rattle.ps_grammar.specs.Spelling.{Piece, Mark, relation_pieces, cond_pieces, conj_pieces, unary_pieces, test_pieces}
 use Rattle.ps_grammar.specs.Trees.{relation_tree, gathered, cond_members, conj_members, unary_tree, cond_tree, test_tree}
 use Rattle.ps_grammar.specs.Fits.{CondFits, ConjFits, UnaryFits, TestFits}

@@ -3,7 +3,7 @@
 use Rattle.std.proofs.Common.{◌≡◌, ◌⊎◌, inl, inr, ℕ, ◌+◌, ◌<◌, ◌≤◌, Bool, true, false, List, [], ◌∷◌, ◌++◌, length, Some, Result, Ok, Err, refl, sym, ap, subst, ◌∙◌, arith, length-append}
 use Rattle.std.specs.Prelude.{if◌then◌else◌, nat_eq}
 use Rattle.std.proofs.Math.Nat.{eq-or-lt_of_le}
-use Rattle.std.proofs.lemmas.Bool.{cases_lt, cond-true, cond-false}
+use Rattle.std.proofs.lemmas.Bool.{cases_lt, cond-true}
 use Rattle.ps_token.specs.Lexing.{AreTokens}
 use Rattle.ps_token.specs.declared.place.Place.{Place}
 use Rattle.ps_token.specs.declared.token.Token.{Token}
@@ -16,10 +16,10 @@ use Rattle.ps_tree.specs.declared.program.Program.{Program}
 use Rattle.ps_grammar.specs.Programs.{IsProgram, IsProgramText}
 use Rattle.ps_grammar.specs.Words.{Word, words_of}
 use Rattle.ps_parse.specs.Causes.{AreRefused, HasCauseOf, HasNoCause, IsCause, IsCauseAt, IsFaultIfSaid, opens_level, rank, words_at}
-use Rattle.ps_parse.specs.Items.{program_in}
-use Rattle.ps_parse.specs.Reading.{begins_with, is_kind, place_of_next}
+use Rattle.ps_parse.specs.Inner.Items.{program_in}
+use Rattle.ps_parse.specs.Kinds.{begins_with, is_kind, place_of_next}
 use Rattle.ps_parse.specs.Reads.{IsFirstGrammarFault, IsText, PassesGrammar, StandsInText, refusal_place}
-use Rattle.ps_parse.specs.Texts.{GrammarIsFault, IsAnswered, IsFaultAt, IsFirstRefusal, IsInText, IsRefused, end_of}
+use Rattle.ps_parse.specs.Texts.{GrammarIsFault, IsAnswered, IsFirstRefusal, IsInText, IsRefused, end_of}
 use Rattle.ps_parse.specs.declared.read_refusal.ReadRefusal.{ReadRefusal}
 use Rattle.ps_parse.specs.declared.read_refusal.ReadRefusal.TheVariants as refusal
 use Rattle.ps_parse.proofs.CauseSteps.{rows_begin}

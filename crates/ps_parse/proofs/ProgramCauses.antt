@@ -3,15 +3,15 @@ use Rattle.std.proofs.Common.{◌≡◌, ℕ, false, List, [], ◌∷◌, length
 use Rattle.ps_token.specs.declared.place.Place.{Place}
 use Rattle.ps_token.specs.declared.token_kind.TokenKind.TheVariants as kind
 use Rattle.ps_parse.specs.declared.read_refusal.ReadRefusal.{ReadRefusal}
-use Rattle.ps_parse.specs.Blocks.{block_at}
+use Rattle.ps_parse.specs.Inner.Blocks.{block_at}
 use Rattle.ps_tree.specs.declared.program.Program.{Program}
 use Rattle.ps_parse.specs.Causes.{HasNoCause, IsFirstCause}
 use Rattle.ps_grammar.specs.Programs.{IsProgramText}
 use Rattle.ps_grammar.specs.Declarations.{most_levels, names_of, nothing_declared}
-use Rattle.ps_parse.specs.Items.{program_at, program_in}
+use Rattle.ps_parse.specs.Inner.Items.{program_at, program_in}
 use Rattle.ps_grammar.specs.Names.{Names}
 use Rattle.ps_grammar.specs.Words.{Word}
-use Rattle.ps_parse.specs.Reading.{words_end_from}
+use Rattle.ps_parse.specs.Inner.Reading.{words_end_from}
 use Rattle.ps_parse.proofs.Guards.{Keeps, keeps_end}
 use Rattle.ps_parse.proofs.ProgramGuards.{refused_is}
 use Rattle.ps_parse.proofs.ProgramLaws.{program_of_again}

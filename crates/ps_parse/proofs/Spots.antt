@@ -1,15 +1,15 @@
 -- Spots in the words of a text: the words before it and those ahead. Their places ascend, so a place tells its spot.
-use Rattle.std.proofs.Common.{◌≡◌, ◌⊎◌, inl, inr, ℕ, zero, suc, ◌+◌, ◌-◌, ◌<◌, ◌≤◌, Bool, true, false, List, [], ◌∷◌, ◌++◌, length, take, drop, refl, sym, ap, subst, ◌∙◌, arith, append_assoc}
+use Rattle.std.proofs.Common.{◌≡◌, ◌⊎◌, inl, inr, ℕ, zero, suc, ◌+◌, ◌-◌, ◌<◌, ◌≤◌, Bool, true, false, List, [], ◌∷◌, ◌++◌, length, take, drop, refl, sym, ap, subst, ◌∙◌, arith}
 use Rattle.std.specs.Prelude.{◌==◌, if◌then◌else◌, slice_range}
 use Rattle.std.proofs.Math.Nat.{eq-or-lt_of_le}
 use Rattle.std.proofs.lemmas.List.{append_cancel_right, length-take}
 use Rattle.ps_token.specs.declared.place.Place.{Place}
 use Rattle.ps_token.specs.declared.token.Token.{Token}
-use Rattle.ps_token.specs.Lexing.{AreTokens, AreUpTo, IsGapBetween, IsTokenOf, next_place, place_after, place_of, text_begin}
+use Rattle.ps_token.specs.Lexing.{AreTokens, AreUpTo, IsTokenOf, next_place, place_after, place_of, text_begin}
 use Rattle.ps_token.proofs.OneCut.{token_some}
 use Rattle.ps_grammar.specs.Words.{Word, words_of}
 use Rattle.ps_parse.specs.Causes.{IsCause, IsClean, HasNoCause, words_at}
-use Rattle.ps_parse.specs.Reading.{place_of_next}
+use Rattle.ps_parse.specs.Kinds.{place_of_next}
 use Rattle.ps_parse.specs.Texts.{end_of}
 use Rattle.ps_parse.specs.declared.read_refusal.ReadRefusal.{ReadRefusal}
 

@@ -10,9 +10,9 @@ use Rattle.ps_tree.specs.declared.program.Program.{Program}
 use Rattle.ps_parse.specs.declared.read_refusal.ReadRefusal.{ReadRefusal}
 use Rattle.ps_parse.specs.declared.read_refusal.ReadRefusal.TheVariants as refusal
 use Rattle.ps_parse.specs.Causes.{HasCauseOf, IsFirstCause}
-use Rattle.ps_parse.specs.Reading.{ReadsWhole}
+use Rattle.ps_parse.specs.Promises.{ReadsWhole}
 use Rattle.ps_grammar.specs.Words.{Word, words_of}
-use Rattle.ps_parse.specs.Items.{program_in}
+use Rattle.ps_parse.specs.Inner.Items.{program_in}
 use Rattle.ps_grammar.specs.Programs.{IsProgram}
 use Rattle.ps_parse.specs.Texts.{TokenIsBad, GrammarIsFault, IsInText, RefusalIsInText, IsFirstRefusal, RefusalIsFirst, end_of, uncut}
 use Rattle.ps_parse.proofs.ProgramGuards.{program_of_grammar, program_of_refused}
@@ -29,7 +29,7 @@ pub cut_found : (bytes : List ℕ) (ts : List Token) (result : Result Program Re
 cut_found bytes ts (Ok p) cut tells = record { tokens = ts; cut = cut; is = program_of_found (words_of bytes ts) (end_of bytes) p tells }
 cut_found bytes ts (Err e) cut tells = tt
 
-pub cut_exact : (bytes : List ℕ) (ts us : List Token) (result : Result Program ReadRefusal) → AreTokens bytes ts → ReadsWhole (λ (p : Program). p) result (program_in (words_of bytes ts) (end_of bytes)) → AreTokens bytes us → ReadsWhole (λ (p : Program). p) result (program_in (words_of bytes us) (end_of bytes))
+cut_exact : (bytes : List ℕ) (ts us : List Token) (result : Result Program ReadRefusal) → AreTokens bytes ts → ReadsWhole (λ (p : Program). p) result (program_in (words_of bytes ts) (end_of bytes)) → AreTokens bytes us → ReadsWhole (λ (p : Program). p) result (program_in (words_of bytes us) (end_of bytes))
 cut_exact bytes ts us result cut tells other = subst (λ (vs : List Token). Answers result (program_in (words_of bytes vs) (end_of bytes))) (one_list bytes ts us cut other) tells
 
 pub cut_only : (bytes : List ℕ) (ts : List Token) (result : Result Program ReadRefusal) (p : Program) → AreTokens bytes ts → ReadsWhole (λ (p : Program). p) result (program_in (words_of bytes ts) (end_of bytes)) → IsProgram bytes p → ReadsWhole (λ (p : Program). p) result (Ok p)

@@ -15,7 +15,7 @@ use Rattle.ps_parse.specs.Reads.{IsFirstGrammarFault, StandsInText, refusal_plac
 use Rattle.ps_grammar.specs.Spelling.{NamePiece, Mark, pieces, relation_pieces, value_pieces, more_relations}
 use Rattle.ps_grammar.specs.Trees.{rows_of_relations}
 use Rattle.ps_grammar.specs.Words.{Word}
-use Rattle.ps_parse.specs.Reading.{begins_with, is_kind, place_of_next}
+use Rattle.ps_parse.specs.Kinds.{begins_with, is_kind, place_of_next}
 
 -- The words of a text, from those that were passed, the nearest first, and those ahead.
 abbrev pub words_at : List Word → List Word → List Word

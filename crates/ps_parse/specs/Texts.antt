@@ -1,5 +1,5 @@
 -- Why a text of bytes is no program.
-use Rattle.std.specs.Prelude.{◌≡◌, ◌⊎◌, ℕ, List, length}
+use Rattle.std.specs.Prelude.{◌⊎◌, ℕ, List, length}
 use Rattle.ps_token.specs.declared.place.Place.{Place}
 use Rattle.ps_token.specs.declared.token.Token.{Token}
 use Rattle.ps_token.specs.Lexing.{AreTokens, IsBadAt, place_of}

@@ -9,7 +9,7 @@ ghost use Rattle.ps_grammar.specs.Programs.{IsProgram, IsProgramText};
 ghost use Rattle.ps_grammar.specs.Words.{Word};
 ghost use Rattle.ps_parse.specs.Causes.{HasNoCause};
 ghost use Rattle.ps_parse.specs.Reads.{IsFirstGrammarFault, IsText, PassesGrammar, StandsInText};
-ghost use Rattle.ps_parse.specs.Texts.{IsAnswered, IsRefused};
+ghost use Rattle.ps_parse.specs.Texts.{GrammarIsFault, IsAnswered, IsFirstRefusal, IsInText, IsRefused};
 ghost use Rattle.ps_parse.specs.declared.read_refusal.ReadRefusal.{ReadRefusal};
 
 /// Words are one program at most.
@@ -57,4 +57,7 @@ pub fn one_answer()
         → IsProgram bytes program → ¬ IsRefused bytes e }
     ensures some { (bytes : List ℕ) (list : List Token) → AreTokens bytes list
         → IsAnswered bytes }
+    // What `read_program` promises of a refusal of the words is that it refuses them.
+    ensures promised { (bytes : List ℕ) (e : ReadRefusal) → IsFirstRefusal bytes e
+        → IsInText bytes e → GrammarIsFault bytes e → IsRefused bytes e }
 {}
