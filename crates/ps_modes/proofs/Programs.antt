@@ -1,19 +1,16 @@
 -- A text is one program with its graph, or is refused in one way.
-use Rattle.std.proofs.Common.{◌≡◌, ℕ, List, [], ◌∷◌, Result, Ok, Err, Some, inl, inr, refl, sym, ap, ◌∙◌, subst}
+use Rattle.std.proofs.Common.{◌≡◌, ℕ, List, [], ◌∷◌, Some, inl, inr, refl, sym, ap, ◌∙◌, subst}
 use Rattle.ps_compile.specs.Checks.{Check, IsFirstExceeded, NoneIsExceeded}
 use Rattle.ps_grammar.specs.Programs.{IsProgram, IsProgramText}
 use Rattle.ps_grammar.specs.Words.{words_of}
 use Rattle.ps_graph.specs.declared.graph.Graph.{Graph}
 use Rattle.ps_parse.proofs.OneAnswer.{one_program}
-use Rattle.ps_parse.proofs.ProgramLaws.{program_of_again}
-use Rattle.ps_parse.specs.Items.{program_in}
-use Rattle.ps_parse.specs.Reading.{ReadsWhole}
+use Rattle.ps_parse.proofs.OneRefusal.{no_refused_program, one_refusal as one_of_words, refused_so}
 use Rattle.ps_parse.specs.Refusals.{refusal_text}
-use Rattle.ps_parse.specs.Texts.{IsFirstRefusal, RefusalIsFirst, TokenIsBad, end_of}
+use Rattle.ps_parse.specs.Texts.{GrammarIsFault, IsFirstRefusal, IsInText, RefusalIsFirst, RefusalIsInText, TokenIsBad}
 use Rattle.ps_parse.specs.declared.read_refusal.ReadRefusal.{ReadRefusal}
 use Rattle.ps_parse.specs.declared.read_refusal.ReadRefusal.TheVariants as refusal
 use Rattle.ps_token.proofs.OneCut.{not_both, one_list, one_place}
-use Rattle.ps_token.specs.Lexing.{AreTokens}
 use Rattle.ps_token.specs.declared.place.Place.{Place}
 use Rattle.ps_token.specs.declared.token.Token.{Token}
 use Rattle.ps_tree.specs.declared.limit_name.LimitName.{LimitName}
@@ -39,50 +36,30 @@ one_limit place other limit next (c ∷ cs) (inr a) (inr b) = one_limit place ot
 
 -- ---- programs
 
-abbrev said : Program → Result Program ReadRefusal
-said program = Ok program
-
-abbrev refused : ReadRefusal → Result Program ReadRefusal
-refused e = Err e
-
 pub one_read : (text : List ℕ) (p q : Program) → IsProgram text p → IsProgram text q → p ≡ q
 one_read text p q a b =
     one_program (words_of text a.tokens) p q a.is
     (subst (λ (ts : List Token). IsProgramText (words_of text ts) q) (one_list text b.tokens a.tokens b.cut a.cut) b.is)
 
--- reading its words gives the program
-read_so : (text : List ℕ) (p : Program) (tokens : List Token) → IsProgram text p → AreTokens text tokens
-    → program_in (words_of text tokens) (end_of text) ≡ said p
-read_so text p tokens is cut =
-    subst (λ (ts : List Token). program_in (words_of text ts) (end_of text) ≡ said p) (one_list text is.tokens tokens is.cut cut)
-    (program_of_again (words_of text is.tokens) (end_of text) p is.is)
-
 -- a text that is a program within the limits isn't refused
 pub not_refused : (text : List ℕ) (p : Program) (g : Graph) (e : ReadRefusal) → SaysProgram text p g → Refuses text e → ⊥
 not_refused text p g e says (BadByte place bad _) = not_both text says.read.tokens place says.read.cut bad
-not_refused text p g e says (BadWord tokens cut is) =
-    let read = read_so text p tokens says.read cut in absurd (cc)
+not_refused text p g e says (BadWord refused) = no_refused_program text p e says.read refused
 not_refused text p g e says (PastLimit q is place limit first _) =
     some_exceeded place limit (limits_of p)
     (subst (λ (r : Program). IsFirstExceeded place limit (limits_of r)) (one_read text q p is says.read) first) says.within
-
-same_error : (e f : ReadRefusal) → refused e ≡ refused f → e ≡ f
-same_error e f is = cc
 
 -- a text is refused in one way
 pub one_refusal : (text : List ℕ) (e f : ReadRefusal) → Refuses text e → Refuses text f → e ≡ f
 one_refusal text e f (BadByte place bad is) (BadByte other worse too) =
     is ∙ ap (λ (p : Place). refusal.Token p) (one_place text place other bad worse) ∙ sym too
-one_refusal text e f (BadByte place bad is) (BadWord tokens cut _) = absurd (not_both text tokens place cut bad)
+one_refusal text e f (BadByte place bad is) (BadWord words) = absurd (not_both text words.tokens place words.cut bad)
 one_refusal text e f (BadByte place bad is) (PastLimit q says _ _ _ _) = absurd (not_both text says.tokens place says.cut bad)
-one_refusal text e f (BadWord tokens cut _) (BadByte place bad _) = absurd (not_both text tokens place cut bad)
-one_refusal text e f (BadWord tokens cut is) (BadWord others again too) =
-    same_error e f (sym is ∙ ap (λ (ts : List Token). program_in (words_of text ts) (end_of text)) (one_list text tokens others cut again) ∙ too)
-one_refusal text e f (BadWord tokens cut is) (PastLimit q says _ _ _ _) =
-    let read = read_so text q tokens says cut in absurd (cc)
+one_refusal text e f (BadWord words) (BadByte place bad _) = absurd (not_both text words.tokens place words.cut bad)
+one_refusal text e f (BadWord words) (BadWord others) = one_of_words text e f words others
+one_refusal text e f (BadWord words) (PastLimit q says _ _ _ _) = absurd (no_refused_program text q e says words)
 one_refusal text e f (PastLimit q says _ _ _ _) (BadByte place bad _) = absurd (not_both text says.tokens place says.cut bad)
-one_refusal text e f (PastLimit q says _ _ _ _) (BadWord tokens cut is) =
-    let read = read_so text q tokens says cut in absurd (cc)
+one_refusal text e f (PastLimit q says _ _ _ _) (BadWord words) = absurd (no_refused_program text q f says words)
 one_refusal text e f (PastLimit p says place limit first is) (PastLimit q too other next second same) =
     is ∙ one_limit place other limit next (limits_of q)
     (subst (λ (r : Program). IsFirstExceeded place limit (limits_of r)) (one_read text p q says too) first) second ∙ sym same
@@ -97,19 +74,17 @@ one_line text x y a b =
 
 -- ---- what the reader answered
 
-first_is : (text line : List ℕ) (e : ReadRefusal) → IsFirstRefusal text e → ((list : List Token) → AreTokens text list → program_in (words_of text list) (end_of text) ≡ Err e)
-    → refusal_text e ≡ Some line → RefusesBy text line
-first_is text line e first exact is = (e, BadWord first.tokens first.cut (exact first.tokens first.cut), is)
+words_refused : (text line : List ℕ) (e : ReadRefusal) → IsFirstRefusal text e → IsInText text e → GrammarIsFault text e → refusal_text e ≡ Some line → RefusesBy text line
+words_refused text line e first in_text grammar is = (e, BadWord (refused_so text e first in_text grammar), is)
 
 -- a refusal with a line refuses the text by it
-pub read_refused : (text line : List ℕ) (e : ReadRefusal) → TokenIsBad text e → RefusalIsFirst text e
-    → ((list : List Token) → AreTokens text list → ReadsWhole {X = Program} (λ (x : Program). x) (Err e) (program_in (words_of text list) (end_of text)))
+pub read_refused : (text line : List ℕ) (e : ReadRefusal) → TokenIsBad text e → RefusalIsFirst text e → RefusalIsInText text e → GrammarIsFault text e
     → refusal_text e ≡ Some line → RefusesBy text line
-read_refused text line (refusal.Token place) bad first exact is = (refusal.Token place, BadByte place bad refl, is)
-read_refused text line (refusal.Grammar place) bad first exact is = first_is text line (refusal.Grammar place) first exact is
-read_refused text line (refusal.UnknownName place) bad first exact is = first_is text line (refusal.UnknownName place) first exact is
-read_refused text line (refusal.Twice place) bad first exact is = first_is text line (refusal.Twice place) first exact is
-read_refused text line (refusal.NotLinear place) bad first exact is = first_is text line (refusal.NotLinear place) first exact is
-read_refused text line (refusal.LoopInAtomic place) bad first exact is = first_is text line (refusal.LoopInAtomic place) first exact is
-read_refused text line (refusal.Limit place l) bad first exact is = first_is text line (refusal.Limit place l) first exact is
-read_refused text line (refusal.Memory e) bad first exact is = absurd (cc)
+read_refused text line (refusal.Token place) bad first in_text grammar is = (refusal.Token place, BadByte place bad refl, is)
+read_refused text line (refusal.Grammar place) bad first in_text grammar is = words_refused text line (refusal.Grammar place) first in_text grammar is
+read_refused text line (refusal.UnknownName place) bad first in_text grammar is = words_refused text line (refusal.UnknownName place) first in_text grammar is
+read_refused text line (refusal.Twice place) bad first in_text grammar is = words_refused text line (refusal.Twice place) first in_text grammar is
+read_refused text line (refusal.NotLinear place) bad first in_text grammar is = words_refused text line (refusal.NotLinear place) first in_text grammar is
+read_refused text line (refusal.LoopInAtomic place) bad first in_text grammar is = words_refused text line (refusal.LoopInAtomic place) first in_text grammar is
+read_refused text line (refusal.Limit place l) bad first in_text grammar is = words_refused text line (refusal.Limit place l) first in_text grammar is
+read_refused text line (refusal.Memory e) bad first in_text grammar is = absurd (cc)

@@ -11,9 +11,10 @@ use Rattle.ps_tree.specs.declared.stmt.StmtKind.TheVariants as stmt
 use Rattle.ps_parse.specs.declared.read_refusal.ReadRefusal.{ReadRefusal}
 use Rattle.ps_grammar.specs.Grammar.{StmtText, assign, havoc, assume, assert, skip, atomic, if_then, if_else, while_do, BlockText, block_end, block_more}
 use Rattle.ps_grammar.specs.Words.{Word}
-use Rattle.ps_parse.specs.Reading.{WordsAhead, ReadWords, is_kind, next_is, place_of_next, place_at, after_word}
+use Rattle.ps_parse.specs.Inner.Reading.{WordsAhead, ReadWords, next_is, place_at, after_word}
+use Rattle.ps_parse.specs.Kinds.{is_kind, place_of_next}
 use Rattle.ps_grammar.specs.Names.{Names}
-use Rattle.ps_parse.specs.Blocks.{while_stmt_at, kind_at, stmt_at, has_more, block_at}
+use Rattle.ps_parse.specs.Inner.Blocks.{while_stmt_at, kind_at, stmt_at, has_more, block_at}
 use Rattle.ps_grammar.specs.Spelling.{Piece, Mark, pieces, stmt_pieces, rest_pieces, block_pieces}
 use Rattle.ps_grammar.specs.Trees.{place_of_first, stmt_tree, block_trees}
 use Rattle.ps_grammar.specs.Fits.{StmtFits, RestFits}

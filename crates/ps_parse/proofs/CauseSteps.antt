@@ -1,6 +1,6 @@
 -- The laws of causes of refusals, in steps: where a reading function stands in the whole text, what it is to pass a word
 -- there that has no cause of a refusal, and what a refusal there promises of its cause.
-use Rattle.std.proofs.Common.{◌≡◌, ℕ, ◌+◌, ◌<◌, ◌≤◌, Bool, true, false, ◌&&◌, ◌||◌, List, [], ◌∷◌, ◌++◌, length, Some, None, Result, inl, inr, refl, sym, ap, subst, ◌∙◌, arith}
+use Rattle.std.proofs.Common.{◌≡◌, ◌⊎◌, ℕ, ◌+◌, ◌<◌, ◌≤◌, Bool, true, false, ◌&&◌, ◌||◌, List, [], ◌∷◌, ◌++◌, length, Some, None, Result, inl, inr, refl, sym, ap, subst, ◌∙◌, arith}
 use Rattle.std.specs.Prelude.{Contains, if◌then◌else◌}
 use Rattle.std.proofs.lemmas.Bool.{cond-false, or_parts, true≢false}
 use Rattle.ps_token.specs.declared.place.Place.{Place}
@@ -16,7 +16,8 @@ use Rattle.ps_grammar.specs.Names.{Names, variable_of_name}
 use Rattle.ps_parse.specs.Reads.{refusal_place}
 use Rattle.ps_grammar.specs.Spelling.{Piece, Mark, pieces}
 use Rattle.ps_grammar.specs.Words.{Word}
-use Rattle.ps_parse.specs.Reading.{WordsAhead, ReadWords, is_kind, begins_with, place_of_next, word_from, next_word, after_word}
+use Rattle.ps_parse.specs.Inner.Reading.{WordsAhead, ReadWords, word_from, next_word, after_word}
+use Rattle.ps_parse.specs.Kinds.{is_kind, begins_with, place_of_next}
 use Rattle.ps_lines.specs.Steps.{◌>>=◌}
 use Rattle.ps_parse.proofs.Steps.{one_kind, same_kind, Takes, takes_pieces, begins_piece, begins_pieces}
 use Rattle.ps_parse.proofs.Guards.{Keeps, keeps_bind, keeps_more}
@@ -50,10 +51,18 @@ spelled_first k ps w ahead front rest split spelled =
     let taken : Takes (w ∷ ahead) (Mark k ∷ ps) rest = record { front = front; split = split; spelled = spelled } in
     one_kind w.kind k (begins_pieces k (w ∷ ahead) ∙ ap (begins_piece k) (takes_pieces taken) ∙ same_kind k k refl)
 
--- where words give rows, an item begins
+-- where words give rows, a declared value or an `init` begins
+pub rows_begin : (w : Word) (ahead : List Word) (rows : ℕ) → GivesRows (w ∷ ahead) rows → (w.kind ≡ kind.Global) ⊎ (w.kind ≡ kind.Init)
+rows_begin w ahead rows (inl h) = inl (spelled_first kind.Global _ w ahead h.0.front h.0.rest h.0.split h.0.spelled)
+rows_begin w ahead rows (inr h) = inr (spelled_first kind.Init _ w ahead h.0.front h.0.rest h.0.split h.0.spelled)
+
+-- so an item does
 rows_open : (w : Word) (ahead : List Word) (rows : ℕ) → GivesRows (w ∷ ahead) rows → opens_item w.kind ≡ true
-rows_open w ahead rows (inl h) = ap opens_item (spelled_first kind.Global _ w ahead h.0.front h.0.rest h.0.split h.0.spelled)
-rows_open w ahead rows (inr h) = ap opens_item (spelled_first kind.Init _ w ahead h.0.front h.0.rest h.0.split h.0.spelled)
+rows_open w ahead rows h = by_kind (rows_begin w ahead rows h)
+  where
+    by_kind : (w.kind ≡ kind.Global) ⊎ (w.kind ≡ kind.Init) → opens_item w.kind ≡ true
+    by_kind (inl e) = ap opens_item e
+    by_kind (inr e) = ap opens_item e
 
 -- what rules out each cause of a refusal at a word
 pub record Allows (back : List Word) (w : Word) (ahead : List Word) : Type 0 where
@@ -135,9 +144,6 @@ looping back w ahead out e = record {
   rows = λ i. test_clash w opens_item e refl i;
   depth = λ i. test_clash w opens_level e refl i;
 }
-
-begins_either : (back : List Word) → is_declaration back ≡ false → (begins_with kind.Global back ≡ false) × (begins_with kind.Local back ≡ false)
-begins_either back h = or_parts _ _ h
 
 -- a name that was declared
 pub naming : (back : List Word) (w : Word) (ahead : List Word) → is_declaration back ≡ false → is_after_factor back ≡ false → Contains (declared_in back) w.text → w.kind ≡ kind.Name → Allows back w ahead

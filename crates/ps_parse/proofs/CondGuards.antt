@@ -8,17 +8,17 @@ use Rattle.ps_tree.specs.declared.cond.Cond.TheVariants as cond
 use Rattle.ps_tree.specs.declared.cond.Test.TheVariants as test
 use Rattle.ps_tree.specs.declared.limit_name.LimitName.TheVariants as limit
 use Rattle.ps_parse.specs.declared.read_refusal.ReadRefusal.TheVariants.{Limit}
-use Rattle.ps_grammar.specs.Grammar.{CondText, last_conj, last_unary, UnaryText, negation, in_parens, relation, TestText, either, condition}
+use Rattle.ps_grammar.specs.Grammar.{CondText, last_conj, or_else, last_unary, and_also, UnaryText, negation, in_parens, relation, TestText, either, condition}
 use Rattle.ps_grammar.specs.Words.{Word}
-use Rattle.ps_parse.specs.Reading.{WordsAhead, ReadWords, next_is, place_at, after_word}
-use Rattle.ps_parse.specs.Sums.{sign_of, relation_at}
-use Rattle.ps_parse.specs.Conds.{one_or_all, members_at, conj_with, cond_with, opens_at, unary_at, cond_at, test_at, parens_at}
+use Rattle.ps_parse.specs.Inner.Reading.{WordsAhead, ReadWords, next_is, place_at, after_word}
+use Rattle.ps_parse.specs.Inner.Sums.{sign_of, relation_at}
+use Rattle.ps_parse.specs.Inner.Conds.{one_or_all, members_at, conj_with, cond_with, opens_at, unary_at, cond_at, test_at, parens_at}
 use Rattle.ps_grammar.specs.Spelling.{Piece, Mark, relation_pieces, cond_pieces, conj_pieces, unary_pieces, test_pieces}
 use Rattle.ps_parse.proofs.Steps.{Ahead, begins_piece, next_ahead, Always}
 use Rattle.ps_parse.proofs.Sequences.{IsMark, mapped, Ends}
 use Rattle.ps_parse.proofs.SumLaws.{SumEnds}
 use Rattle.ps_parse.proofs.RelationLaws.{all_signs, every_sign, SignIn, relation_begins}
-use Rattle.ps_parse.proofs.CondLaws.{members_go_on, members_pieces, conj_chain, conj_first, conj_rest, conj_back, conj_spelled, ConjEnds, cond_chain, cond_first, cond_rest, cond_back, cond_spelled, CondEnds, inner_pieces, cond_begins, test_spelled}
+use Rattle.ps_parse.proofs.CondLaws.{members_go_on, members_pieces, chained, conj_parts, conj_back, conj_spelled, ConjEnds, cond_parts, cond_back, cond_spelled, CondEnds, inner_pieces, cond_begins, test_spelled}
 use Rattle.ps_parse.proofs.Guards.{IsTest, next_test, Any, Example, Resumed, resumed_mark}
 use Rattle.ps_parse.proofs.GuardSteps.{guards_as, mapped_guards, refusing_guards, both_guards, after_guards, word_refused_guards, word_alone, mark_example, closed_guards, example_after, example_closed, OfSort, choosing_guards, choice_guards}
 use Rattle.ps_parse.proofs.GuardLoops.{while_guards}
@@ -53,13 +53,13 @@ cond_example = record { text = last_conj conj_example.text; fine = tt; words = c
 conj_guards : (t : Two) (read : ReadWords Cond) (read' : ℕ → ReadWords Cond) → GuardsIn t read read' unary_pieces Any SumEnds → GuardsIn t (conj_with read t.most) (λ i. conj_with (read' i) (t.most' i)) conj_pieces Any ConjEnds
 unfolding conj_with
 conj_guards t read read' g =
-    guards_as conj_pieces Always (λ c. conj_chain c.0 c.1) (λ c. (conj_first c, conj_rest c)) conj_back (λ c. conj_spelled c.0 c.1) (λ c h. tt) (λ c h. tt)
+    guards_as conj_pieces Always (chained last_unary and_also) conj_parts conj_back conj_spelled (λ c h. tt) (λ c h. tt)
     (members_guards t read read' unary_pieces SumEnds cond.And kind.And (λ u. refl) (λ rest. (refl, refl)) unary_example g)
 
 cond_with_guards : (t : Two) (read : ReadWords Cond) (read' : ℕ → ReadWords Cond) → GuardsIn t read read' unary_pieces Any SumEnds → GuardsIn t (cond_with read t.most) (λ i. cond_with (read' i) (t.most' i)) cond_pieces Any CondEnds
 unfolding cond_with
 cond_with_guards t read read' g =
-    guards_as cond_pieces Always (λ c. cond_chain c.0 c.1) (λ c. (cond_first c, cond_rest c)) cond_back (λ c. cond_spelled c.0 c.1) (λ c h. tt) (λ c h. tt)
+    guards_as cond_pieces Always (chained last_conj or_else) cond_parts cond_back cond_spelled (λ c h. tt) (λ c h. tt)
     (members_guards t (conj_with read t.most) (λ i. conj_with (read' i) (t.most' i)) conj_pieces ConjEnds cond.Or kind.Or (λ u. refl) (λ rest. (refl, (refl, refl))) conj_example (conj_guards t read read' g))
 
 -- ---- levels

@@ -1,5 +1,5 @@
 -- The laws of conditions and tests.
-use Rattle.std.proofs.Common.{◌≡◌, ℕ, zero, suc, ◌-◌, Bool, ◌||◌, List, [], ◌∷◌, ◌++◌, map, length, drop, Some, refl, sym, ap, subst, ◌∙◌, arith, append_assoc}
+use Rattle.std.proofs.Common.{◌≡◌, ◌↔◌, ℕ, zero, suc, ◌-◌, Bool, ◌||◌, List, [], ◌∷◌, ◌++◌, map, length, drop, Some, refl, sym, ap, subst, ◌∙◌, arith, append_assoc}
 use Rattle.std.specs.List.{flat_map, AllByRecursion}
 use Rattle.std.proofs.lemmas.List.{append-nil}
 use Rattle.ps_token.specs.declared.place.Place.{Place}
@@ -9,10 +9,10 @@ use Rattle.ps_tree.specs.declared.cond.Cond.{Cond}
 use Rattle.ps_tree.specs.declared.cond.Cond.TheVariants as cond
 use Rattle.ps_tree.specs.declared.cond.Test.TheVariants as test
 use Rattle.ps_grammar.specs.Grammar.{CondText, last_conj, or_else, ConjText, last_unary, and_also, UnaryText, negation, in_parens, relation, TestText, either, condition}
-use Rattle.ps_parse.specs.Reading.{WordsAhead, ReadWords, next_is, after_word}
+use Rattle.ps_parse.specs.Inner.Reading.{WordsAhead, ReadWords, next_is, after_word}
 use Rattle.ps_grammar.specs.Names.{Names}
-use Rattle.ps_parse.specs.Sums.{sign_of, relation_at}
-use Rattle.ps_parse.specs.Conds.{one_or_all, members_at, conj_with, cond_with, opens_at, unary_at, cond_at, test_at, parens_at}
+use Rattle.ps_parse.specs.Inner.Sums.{sign_of, relation_at}
+use Rattle.ps_parse.specs.Inner.Conds.{one_or_all, members_at, conj_with, cond_with, opens_at, unary_at, cond_at, test_at, parens_at}
 use Rattle.ps_grammar.specs.Spelling.{Piece, Mark, relation_pieces, cond_pieces, conj_pieces, unary_pieces, test_pieces}
 use Rattle.ps_grammar.specs.Trees.{relation_tree, gathered, cond_members, conj_members, unary_tree, cond_tree, test_tree}
 use Rattle.ps_grammar.specs.Fits.{CondFits, ConjFits, UnaryFits, TestFits}
@@ -67,44 +67,66 @@ gathered_is : (all : List Cond → Cond) (c : Cond) (cs : List Cond) → one_or_
 gathered_is all c [] = refl
 gathered_is all c (d ∷ ds) = refl
 
+-- ---- chains of members
+
+-- a first member and further ones: the last one, or one before the others
+abbrev pub chain : {C L : Type 0} → (C → L) → (C → L → L) → C → List C → L
+chain last more u [] = last u
+chain last more u (v ∷ vs) = more u (chain last more v vs)
+
+abbrev pub chained : {C L : Type 0} → (C → L) → (C → L → L) → C × List C → L
+chained last more c = chain last more c.0 c.1
+
+pub chain_spelled : {C L : Type 0} (between : TokenKind) (spell : C → List Piece) (spells : L → List Piece) (last : C → L) (more : C → L → L)
+    → ((u : C) → spells (last u) ≡ spell u) → ((u : C) (l : L) → spells (more u l) ≡ spell u ++ Mark between ∷ spells l)
+    → (u : C) (us : List C) → members_pieces between spell (u, us) ≡ spells (chain last more u us)
+chain_spelled between spell spells last more one two u [] = append-nil (spell u) ∙ sym (one u)
+chain_spelled between spell spells last more one two u (v ∷ vs) =
+    ap (λ (ps : List Piece). spell u ++ (Mark between ∷ ps)) (chain_spelled between spell spells last more one two v vs) ∙ sym (two u (chain last more v vs))
+
+-- What fits as members fits as a chain, and the other way round; and the members of both are the same.
+record Alike {C L : Type 0} (last : C → L) (more : C → L → L) (fits : C → Type 0) (fits' : L → Type 0) (tree : C → Cond) (members : L → List Cond) : Type 0 where
+  pub last_fits : (u : C) → fits u ↔ fits' (last u)
+  pub more_fits : (u : C) (l : L) → (fits u × fits' l) ↔ fits' (more u l)
+  pub last_is : (u : C) → members (last u) ≡ tree u ∷ []
+  pub more_is : (u : C) (l : L) → members (more u l) ≡ tree u ∷ members l
+
+chain_exact : {C L : Type 0} (n : ℕ) (read : ReadWords Cond) (spell : C → List Piece) (fits : C → Type 0) (tree : C → Cond) (follows : List Piece → Type 0) (all : List Cond → Cond) (between : TokenKind)
+    (last : C → L) (more : C → L → L) (parts : L → C × List C) (spells : L → List Piece) (fits' : L → Type 0) (members : L → List Cond)
+    → ((l : L) → chained last more (parts l) ≡ l) → ((c : C × List C) → members_pieces between spell c ≡ spells (chained last more c)) → Alike last more fits fits' tree members
+    → IsMark between → ((rest : List Piece) → follows (Mark between ∷ rest)) → Exact n read spell fits (Is tree) follows
+    → Exact n (members_at all between read n) spells fits' (Is (λ l. gathered all (members l))) (Ends (begins_piece between) follows)
+chain_exact {C = C} n read spell fits tree follows all between last more parts spells fits' members back spelled alike marked joins exact =
+    exact_as spells fits' (Is (λ l. gathered all (members l))) (chained last more) parts back spelled
+    (λ c h. fit c.0 c.1 h.0 h.1) (λ l h. unfit (parts l).0 (parts l).1 (subst fits' (sym (back l)) h))
+    (λ c ps y h. h ∙ gathered_is all (tree c.0) (map tree c.1) ∙ ap (gathered all) (same c.0 c.1))
+    (members_exact n read spell fits tree follows all between marked joins exact)
+  where
+    fit : (u : C) (us : List C) → fits u → AllByRecursion fits us → fits' (chain last more u us)
+    fit u [] f h = (alike.last_fits u).0 f
+    fit u (v ∷ vs) f h = (alike.more_fits u (chain last more v vs)).0 (f, fit v vs h.0 h.1)
+
+    unfit : (u : C) (us : List C) → fits' (chain last more u us) → MembersFit fits (u, us)
+    unfit u [] f = ((alike.last_fits u).1 f, tt)
+    unfit u (v ∷ vs) f = let g : fits u × fits' (chain last more v vs) = (alike.more_fits u (chain last more v vs)).1 f in (g.0, unfit v vs g.1)
+
+    same : (u : C) (us : List C) → tree u ∷ map tree us ≡ members (chain last more u us)
+    same u [] = sym (alike.last_is u)
+    same u (v ∷ vs) = ap (λ (cs : List Cond). tree u ∷ cs) (same v vs) ∙ sym (alike.more_is u (chain last more v vs))
+
 -- ---- `&&`
 
-pub conj_chain : UnaryText → List UnaryText → ConjText
-conj_chain u [] = last_unary u
-conj_chain u (v ∷ vs) = and_also u (conj_chain v vs)
+pub conj_parts : ConjText → UnaryText × List UnaryText
+conj_parts (last_unary u) = (u, [])
+conj_parts (and_also u rest) = (u, (conj_parts rest).0 ∷ (conj_parts rest).1)
 
-pub conj_first : ConjText → UnaryText
-conj_first (last_unary u) = u
-conj_first (and_also u rest) = u
-
-pub conj_rest : ConjText → List UnaryText
-conj_rest (last_unary u) = []
-conj_rest (and_also u rest) = conj_first rest ∷ conj_rest rest
-
-pub conj_back : (c : ConjText) → conj_chain (conj_first c) (conj_rest c) ≡ c
-unfolding conj_chain conj_first conj_rest
+pub conj_back : (c : ConjText) → chained last_unary and_also (conj_parts c) ≡ c
+unfolding conj_parts
 conj_back (last_unary u) = refl
 conj_back (and_also u rest) = ap (and_also u) (conj_back rest)
 
-pub conj_spelled : (u : UnaryText) (us : List UnaryText) → members_pieces kind.And unary_pieces (u, us) ≡ conj_pieces (conj_chain u us)
-unfolding conj_chain
-conj_spelled u [] = append-nil (unary_pieces u)
-conj_spelled u (v ∷ vs) = ap (λ (ps : List Piece). unary_pieces u ++ (Mark kind.And ∷ ps)) (conj_spelled v vs)
-
-conj_fit : (names : Names) (levels : ℕ) (u : UnaryText) (us : List UnaryText) → UnaryFits names levels u → AllByRecursion (UnaryFits names levels) us → ConjFits names levels (conj_chain u us)
-unfolding conj_chain
-conj_fit names levels u [] f h = f
-conj_fit names levels u (v ∷ vs) f h = (f, conj_fit names levels v vs h.0 h.1)
-
-conj_unfit : (names : Names) (levels : ℕ) (c : ConjText) → ConjFits names levels c → MembersFit (UnaryFits names levels) (conj_first c, conj_rest c)
-unfolding conj_first conj_rest
-conj_unfit names levels (last_unary u) f = (f, tt)
-conj_unfit names levels (and_also u rest) f = (f.0, conj_unfit names levels rest f.1)
-
-conj_tree_is : (names : Names) (u : UnaryText) (us : List UnaryText) → unary_tree names u ∷ map (unary_tree names) us ≡ conj_members names (conj_chain u us)
-unfolding conj_chain
-conj_tree_is names u [] = refl
-conj_tree_is names u (v ∷ vs) = ap (λ (cs : List Cond). unary_tree names u ∷ cs) (conj_tree_is names v vs)
+pub conj_spelled : (c : UnaryText × List UnaryText) → members_pieces kind.And unary_pieces c ≡ conj_pieces (chained last_unary and_also c)
+conj_spelled c = chain_spelled kind.And unary_pieces conj_pieces last_unary and_also (λ u. refl) (λ u l. refl) c.0 c.1
 
 abbrev pub conj_tree : Names → ConjText → Cond
 conj_tree names c = gathered cond.And (conj_members names c)
@@ -124,55 +146,30 @@ CondExact n names levels read = Exact n read cond_pieces (CondFits names levels)
 conj_exact : (n : ℕ) (names : Names) (levels : ℕ) (unary : ReadWords Cond) → UnaryExact n names levels unary → Exact n (conj_with unary n) conj_pieces (ConjFits names levels) (Is (conj_tree names)) ConjEnds
 unfolding conj_with
 conj_exact n names levels unary exact =
-    exact_as conj_pieces (ConjFits names levels) (Is (conj_tree names)) (λ c. conj_chain c.0 c.1) (λ c. (conj_first c, conj_rest c)) conj_back (λ c. conj_spelled c.0 c.1) (λ c h. conj_fit names levels c.0 c.1 h.0 h.1) (conj_unfit names levels)
-    (λ c ps y h. h ∙ gathered_is cond.And (unary_tree names c.0) (map (unary_tree names) c.1) ∙ ap (gathered cond.And) (conj_tree_is names c.0 c.1))
-    (members_exact n unary unary_pieces (UnaryFits names levels) (unary_tree names) SumEnds cond.And kind.And (λ t. refl) (λ rest. (refl, refl)) exact)
+    chain_exact n unary unary_pieces (UnaryFits names levels) (unary_tree names) SumEnds cond.And kind.And
+    last_unary and_also conj_parts conj_pieces (ConjFits names levels) (conj_members names) conj_back conj_spelled
+    (record { last_fits = λ u. (λ h. h, λ h. h); more_fits = λ u l. (λ h. h, λ h. h); last_is = λ u. refl; more_is = λ u l. refl }) (λ t. refl) (λ rest. (refl, refl)) exact
 
 -- ---- `||`
 
-pub cond_chain : ConjText → List ConjText → CondText
-cond_chain u [] = last_conj u
-cond_chain u (v ∷ vs) = or_else u (cond_chain v vs)
+pub cond_parts : CondText → ConjText × List ConjText
+cond_parts (last_conj u) = (u, [])
+cond_parts (or_else u rest) = (u, (cond_parts rest).0 ∷ (cond_parts rest).1)
 
-pub cond_first : CondText → ConjText
-cond_first (last_conj u) = u
-cond_first (or_else u rest) = u
-
-pub cond_rest : CondText → List ConjText
-cond_rest (last_conj u) = []
-cond_rest (or_else u rest) = cond_first rest ∷ cond_rest rest
-
-pub cond_back : (c : CondText) → cond_chain (cond_first c) (cond_rest c) ≡ c
-unfolding cond_chain cond_first cond_rest
+pub cond_back : (c : CondText) → chained last_conj or_else (cond_parts c) ≡ c
+unfolding cond_parts
 cond_back (last_conj u) = refl
 cond_back (or_else u rest) = ap (or_else u) (cond_back rest)
 
-pub cond_spelled : (u : ConjText) (us : List ConjText) → members_pieces kind.Or conj_pieces (u, us) ≡ cond_pieces (cond_chain u us)
-unfolding cond_chain
-cond_spelled u [] = append-nil (conj_pieces u)
-cond_spelled u (v ∷ vs) = ap (λ (ps : List Piece). conj_pieces u ++ (Mark kind.Or ∷ ps)) (cond_spelled v vs)
-
-cond_fit : (names : Names) (levels : ℕ) (u : ConjText) (us : List ConjText) → ConjFits names levels u → AllByRecursion (ConjFits names levels) us → CondFits names levels (cond_chain u us)
-unfolding cond_chain
-cond_fit names levels u [] f h = f
-cond_fit names levels u (v ∷ vs) f h = (f, cond_fit names levels v vs h.0 h.1)
-
-cond_unfit : (names : Names) (levels : ℕ) (c : CondText) → CondFits names levels c → MembersFit (ConjFits names levels) (cond_first c, cond_rest c)
-unfolding cond_first cond_rest
-cond_unfit names levels (last_conj u) f = (f, tt)
-cond_unfit names levels (or_else u rest) f = (f.0, cond_unfit names levels rest f.1)
-
-cond_tree_is : (names : Names) (u : ConjText) (us : List ConjText) → conj_tree names u ∷ map (conj_tree names) us ≡ cond_members names (cond_chain u us)
-unfolding cond_chain
-cond_tree_is names u [] = refl
-cond_tree_is names u (v ∷ vs) = ap (λ (cs : List Cond). conj_tree names u ∷ cs) (cond_tree_is names v vs)
+pub cond_spelled : (c : ConjText × List ConjText) → members_pieces kind.Or conj_pieces c ≡ cond_pieces (chained last_conj or_else c)
+cond_spelled c = chain_spelled kind.Or conj_pieces cond_pieces last_conj or_else (λ u. refl) (λ u l. refl) c.0 c.1
 
 cond_with_exact : (n : ℕ) (names : Names) (levels : ℕ) (unary : ReadWords Cond) → UnaryExact n names levels unary → CondExact n names levels (cond_with unary n)
 unfolding cond_with
 cond_with_exact n names levels unary exact =
-    exact_as cond_pieces (CondFits names levels) (Is (cond_tree names)) (λ c. cond_chain c.0 c.1) (λ c. (cond_first c, cond_rest c)) cond_back (λ c. cond_spelled c.0 c.1) (λ c h. cond_fit names levels c.0 c.1 h.0 h.1) (cond_unfit names levels)
-    (λ c ps y h. h ∙ gathered_is cond.Or (conj_tree names c.0) (map (conj_tree names) c.1) ∙ ap (gathered cond.Or) (cond_tree_is names c.0 c.1))
-    (members_exact n (conj_with unary n) conj_pieces (ConjFits names levels) (conj_tree names) ConjEnds cond.Or kind.Or (λ t. refl) (λ rest. (refl, (refl, refl))) (conj_exact n names levels unary exact))
+    chain_exact n (conj_with unary n) conj_pieces (ConjFits names levels) (conj_tree names) ConjEnds cond.Or kind.Or
+    last_conj or_else cond_parts cond_pieces (CondFits names levels) (cond_members names) cond_back cond_spelled
+    (record { last_fits = λ u. (λ h. h, λ h. h); more_fits = λ u l. (λ h. h, λ h. h); last_is = λ u. refl; more_is = λ u l. refl }) (λ t. refl) (λ rest. (refl, (refl, refl))) (conj_exact n names levels unary exact)
 
 -- ---- levels
 

@@ -16,13 +16,13 @@ use Rattle.ps_term.specs.declared.var.Var.{Var}
 use Rattle.ps_parse.specs.declared.read_refusal.ReadRefusal.TheVariants.{Limit, Twice}
 use Rattle.ps_grammar.specs.Grammar.{RelationText, ValueText, ItemText, global, local, init}
 use Rattle.ps_grammar.specs.Words.{Word}
-use Rattle.ps_parse.specs.Reading.{WordsAhead, ReadWords, next_is, place_at, next_word, after_word, words_while}
+use Rattle.ps_parse.specs.Inner.Reading.{WordsAhead, ReadWords, next_is, place_at, next_word, after_word, words_while}
 use Rattle.ps_grammar.specs.Names.{Names, variable_of_name}
 use Rattle.ps_grammar.specs.Numbers.{number_value}
-use Rattle.ps_parse.specs.Sums.{init_sign_of, relation_at}
-use Rattle.ps_parse.specs.Blocks.{ended_at}
+use Rattle.ps_parse.specs.Inner.Sums.{init_sign_of, relation_at}
+use Rattle.ps_parse.specs.Inner.Blocks.{ended_at}
 use Rattle.ps_grammar.specs.Declarations.{Declared, most_globals, most_locals, most_rows, nothing_declared, names_of}
-use Rattle.ps_parse.specs.Items.{is_some_variable, refused_name, new_name_at, signed_number_ahead, declared_value_ahead, global_at, local_at, init_at, item_rows, counted_item_at, with_rows, item_at, has_item}
+use Rattle.ps_parse.specs.Inner.Items.{is_some_variable, refused_name, new_name_at, signed_number_ahead, declared_value_ahead, global_at, local_at, init_at, item_rows, counted_item_at, with_rows, item_at, has_item}
 use Rattle.ps_grammar.specs.Spelling.{Piece, NamePiece, Mark, relation_pieces, value_pieces, item_pieces}
 use Rattle.ps_parse.specs.Reads.{HasInitSigns, refusal_place}
 use Rattle.ps_parse.proofs.Steps.{begins_piece, next_ahead, Not, Always, gets_bind, gets_end, gets_more}

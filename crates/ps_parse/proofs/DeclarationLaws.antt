@@ -14,12 +14,12 @@ use Rattle.ps_tree.specs.declared.relation.Relation.{Relation}
 use Rattle.ps_tree.specs.declared.relation.Sign.TheVariants as sign
 use Rattle.ps_grammar.specs.Grammar.{RelationText, ValueText, ItemText, global, local, init}
 use Rattle.ps_grammar.specs.Words.{Word}
-use Rattle.ps_parse.specs.Reading.{WordsAhead, next_is, next_word, after_word}
+use Rattle.ps_parse.specs.Inner.Reading.{WordsAhead, next_is, next_word, after_word}
 use Rattle.ps_grammar.specs.Names.{Names, variable_of_name}
 use Rattle.ps_grammar.specs.Numbers.{number_value, signed}
-use Rattle.ps_parse.specs.Sums.{init_sign_of, relation_at}
+use Rattle.ps_parse.specs.Inner.Sums.{init_sign_of, relation_at}
 use Rattle.ps_grammar.specs.Declarations.{Declared, most_globals, most_locals, names_of}
-use Rattle.ps_parse.specs.Items.{is_some_variable, refused_name, new_name_at, signed_number_ahead, declared_value_ahead, global_at, local_at, init_at, counted_item_at, with_rows}
+use Rattle.ps_parse.specs.Inner.Items.{is_some_variable, refused_name, new_name_at, signed_number_ahead, declared_value_ahead, global_at, local_at, init_at, counted_item_at, with_rows}
 use Rattle.ps_grammar.specs.Spelling.{Piece, NumberPiece, Mark, minus_pieces, relation_pieces, value_pieces, more_relations, item_pieces}
 use Rattle.ps_grammar.specs.Trees.{relation_tree, declared_value, with_item}
 use Rattle.ps_grammar.specs.Fits.{RelationFits, IsNew}

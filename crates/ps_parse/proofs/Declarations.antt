@@ -3,15 +3,16 @@ use Rattle.std.proofs.Common.{◌≡◌, ℕ, zero, suc, ◌-◌, ◌+◌, ◌�
 use Rattle.ps_token.specs.declared.token_kind.TokenKind.TheVariants as kind
 use Rattle.ps_parse.specs.declared.read_refusal.ReadRefusal.{ReadRefusal}
 use Rattle.ps_tree.specs.declared.relation.Relation.{Relation}
-use Rattle.ps_parse.specs.Reading.{WordsAhead, next_word, after_word, next_is, words_while, with_front, Refuses}
+use Rattle.ps_parse.specs.Inner.Reading.{WordsAhead, next_word, after_word, next_is, words_while, with_front}
+use Rattle.ps_parse.specs.Promises.{Refuses}
 use Rattle.ps_lines.specs.Steps.{and_then}
 use Rattle.ps_grammar.specs.Words.{Word}
 use Rattle.ps_grammar.specs.Names.{Names}
-use Rattle.ps_parse.specs.Blocks.{ended_at}
-use Rattle.ps_parse.specs.Sums.{relation_at, init_sign_of}
+use Rattle.ps_parse.specs.Inner.Blocks.{ended_at}
+use Rattle.ps_parse.specs.Inner.Sums.{relation_at, init_sign_of}
 use Rattle.ps_parse.specs.Inner.Steps.{passed, rows_then, relations_at}
 use Rattle.ps_grammar.specs.Declarations.{Declared, rows_of_sign}
-use Rattle.ps_parse.specs.Items.{item_at, items_at, has_item, rows_from, rows_counted_on}
+use Rattle.ps_parse.specs.Inner.Items.{item_at, items_at, has_item, rows_from, rows_counted_on}
 use Rattle.ps_parse.proofs.Repeated.{refuses_same}
 
 -- a step of the declarations, in a loop that may go on `left` times

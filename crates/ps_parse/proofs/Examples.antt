@@ -3,14 +3,14 @@ use Rattle.std.proofs.Common.{◌≡◌, ◌≢◌, ℕ, ◌≤◌, true, false,
 use Rattle.std.proofs.lemmas.List.Elements.{All-cons, All-nil}
 use Rattle.ps_grammar.specs.Grammar.{ProductText, RelationText, block_end, block_more, either, global, havoc, if_then, name, number_name, skip}
 use Rattle.ps_grammar.specs.Words.{Word}
-use Rattle.ps_parse.specs.Blocks.{block_at, kind_at, skip_at, stmt_at}
+use Rattle.ps_parse.specs.Inner.Blocks.{block_at, kind_at, skip_at, stmt_at}
 use Rattle.ps_parse.specs.Causes.{GivesRows}
 use Rattle.ps_parse.specs.Examples.{CausesStand, FaultStandsAtBrace, ItemsGiveNoMore, ItemsGiveRows, TextIsRead, mark, mark_at, quadratic, unequal, unfinished, valueless, x, y, zero}
-use Rattle.ps_parse.specs.Items.{item_rows, items_at, signed_number_ahead, program_at, program_in, rows_from, declared_value_ahead}
-use Rattle.ps_parse.specs.Reading.{WordsAhead, after_word, words_while, next_word}
+use Rattle.ps_parse.specs.Inner.Items.{item_rows, items_at, signed_number_ahead, program_at, program_in, rows_from, declared_value_ahead}
+use Rattle.ps_parse.specs.Inner.Reading.{WordsAhead, after_word, words_while, next_word}
 use Rattle.ps_lines.specs.Steps.{and_then}
-use Rattle.ps_parse.specs.Sums.{factor_at, first_product_at, further_product_at, name_product_at, number_product_at, product_at, relation_at, sign_ahead, sum_at}
-use Rattle.ps_parse.specs.Variables.{variable_at}
+use Rattle.ps_parse.specs.Inner.Sums.{factor_at, first_product_at, further_product_at, name_product_at, number_product_at, product_at, relation_at, sign_ahead, sum_at}
+use Rattle.ps_parse.specs.Inner.Variables.{variable_at}
 use Rattle.ps_parse.specs.declared.read_refusal.ReadRefusal.TheVariants.{Grammar}
 use Rattle.ps_term.specs.declared.var.Var.TheVariants.{Global}
 use Rattle.ps_token.specs.declared.token_kind.TokenKind.TheVariants as kind

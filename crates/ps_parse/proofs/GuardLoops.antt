@@ -6,7 +6,8 @@ use Rattle.std.proofs.lemmas.List.{append-nil}
 use Rattle.ps_token.specs.declared.place.Place.{Place}
 use Rattle.ps_parse.specs.declared.read_refusal.ReadRefusal.{ReadRefusal}
 use Rattle.ps_grammar.specs.Words.{Word}
-use Rattle.ps_parse.specs.Reading.{WordsAhead, ReadWords, place_of_next, words_while}
+use Rattle.ps_parse.specs.Inner.Reading.{WordsAhead, ReadWords, words_while}
+use Rattle.ps_parse.specs.Kinds.{place_of_next}
 use Rattle.ps_lines.specs.Steps.{◌>>=◌}
 use Rattle.ps_grammar.specs.Spelling.{Piece, pieces}
 use Rattle.ps_parse.specs.Reads.{BeginAlike}

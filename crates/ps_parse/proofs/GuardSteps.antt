@@ -6,7 +6,8 @@ use Rattle.ps_token.specs.declared.token_kind.TokenKind.{TokenKind}
 use Rattle.ps_parse.specs.declared.read_refusal.ReadRefusal.{ReadRefusal}
 use Rattle.ps_parse.specs.declared.read_refusal.ReadRefusal.TheVariants.{Grammar}
 use Rattle.ps_grammar.specs.Words.{Word}
-use Rattle.ps_parse.specs.Reading.{WordsAhead, ReadWords, next_is, place_of_next, place_at, next_word, after_word}
+use Rattle.ps_parse.specs.Inner.Reading.{WordsAhead, ReadWords, next_is, place_at, next_word, after_word}
+use Rattle.ps_parse.specs.Kinds.{place_of_next}
 use Rattle.ps_lines.specs.Steps.{and_then, ◌>>=◌}
 use Rattle.ps_grammar.specs.Spelling.{Piece, Mark, pieces}
 use Rattle.ps_parse.specs.Reads.{BeginAlike, refusal_place}
@@ -61,9 +62,11 @@ guards_as spell' okay' f g back spelled fine unfine guards = record {
   stuck = λ at room. keeps_more _ _ _ _ _ (guards.stuck at room) (λ y p. went_as spell' okay' f spelled fine at y p) (λ p q. stood_as spell' okay' f spelled fine at p q);
 }
 
-pub mapped_guards : {C A B : Type 0} {n : ℕ} {n' most : ℕ → ℕ} {read : ReadWords A} {read' : ℕ → ReadWords A} {spell : C → List Piece} {okay : C → Type 0} {alike : A → A → Type 0} {follows : List Piece → Type 0}
-    (alike' : B → B → Type 0) (of : A → B) → ((x y : A) → alike x y → alike' (of x) (of y)) → Guards n n' most read read' spell okay alike follows → Guards n n' most (mapped of read) (λ i. mapped of (read' i)) spell okay alike' follows
-mapped_guards alike' of liked g = record {
+-- a value of the place and of what was read, which may be another where less is asked
+pub placed_guards : {C A B : Type 0} {n : ℕ} {n' most : ℕ → ℕ} {read : ReadWords A} {read' : ℕ → ReadWords A} {spell : C → List Piece} {okay : C → Type 0} {alike : A → A → Type 0} {follows : List Piece → Type 0}
+    (alike' : B → B → Type 0) (of of' : WordsAhead → A → B) → ((at at' : WordsAhead) (x y : A) → alike x y → alike' (of at x) (of' at' y)) → Guards n n' most read read' spell okay alike follows
+    → Guards n n' most (λ at. read at >>= λ x. Ok (of at x.0, x.1)) (λ i at. read' i at >>= λ x. Ok (of' at x.0, x.1)) spell okay alike' follows
+placed_guards alike' of of' liked g = record {
   never = λ i at c rest fine h stop. lets_bind _ _ _ _ (g.never i at c rest fine h stop) (λ y p. lets_end _ _ p);
   stuck = λ at room.
       keeps_bind _ _ _ _ _ _ (g.stuck at room)
@@ -74,7 +77,7 @@ mapped_guards alike' of liked g = record {
         split = p.split;
         ends = p.ends;
         spelled = p.spelled;
-        same = λ i at' more room' s h. gets_bind _ _ _ _ (p.same i at' more room' s h) (λ z q. gets_end _ _ (liked y.0 z.0 q.0, q.1));
+        same = λ i at' more room' s h. gets_bind _ _ _ _ (p.same i at' more room' s h) (λ z q. gets_end _ _ (liked at at' y.0 z.0 q.0, q.1));
       }))
       (λ p q. record {
         text = q.text;
@@ -89,6 +92,16 @@ mapped_guards alike' of liked g = record {
         same = λ g i at' more room' s h. refused_bind _ _ (q.same g i at' more room' s h);
       });
 }
+
+-- a value of what was read
+pub mapped_guards : {C A B : Type 0} {n : ℕ} {n' most : ℕ → ℕ} {read : ReadWords A} {read' : ℕ → ReadWords A} {spell : C → List Piece} {okay : C → Type 0} {alike : A → A → Type 0} {follows : List Piece → Type 0}
+    (alike' : B → B → Type 0) (of : A → B) → ((x y : A) → alike x y → alike' (of x) (of y)) → Guards n n' most read read' spell okay alike follows → Guards n n' most (mapped of read) (λ i. mapped of (read' i)) spell okay alike' follows
+mapped_guards alike' of liked g = placed_guards alike' (λ at. of) (λ at. of) (λ at at'. liked) g
+
+-- any value of what was read, and another where less is asked
+pub mapped_any : {C A B : Type 0} {n : ℕ} {n' most : ℕ → ℕ} {read : ReadWords A} {read' : ℕ → ReadWords A} {spell : C → List Piece} {okay : C → Type 0} {alike : A → A → Type 0} {follows : List Piece → Type 0}
+    (of of' : A → B) → Guards n n' most read read' spell okay alike follows → Guards n n' most (mapped of read) (λ i. mapped of' (read' i)) spell okay Any follows
+mapped_any of of' g = placed_guards Any (λ at. of) (λ at. of') (λ at at' x y h. tt) g
 
 -- a refusal at the next word, which passes a test, that is no fault of the grammar
 pub refusing_guards : {C A : Type 0} (goes : WordsAhead → Bool) (n : ℕ) (n' most : ℕ → ℕ) (why : WordsAhead → ReadRefusal) (spell : C → List Piece) (okay : C → Type 0) (alike : A → A → Type 0) (follows : List Piece → Type 0)
@@ -472,66 +485,6 @@ last_guards {n = n} {n' = n'} {one = one} {one' = one'} {spell = spell} {okay = 
         same = λ g i at' other room' s h. refused_false (next_is k at') _ _ (sym ((next_test k).same at at' (subst (λ (ws : List Word). BeginAlike at.words ws) (sym h) s)) ∙ e) (record { is = tt });
       };
     }
-
--- the same with a value of the place and of what was read
-pub placed_guards : {C A B : Type 0} {n : ℕ} {n' most : ℕ → ℕ} {read : ReadWords A} {read' : ℕ → ReadWords A} {spell : C → List Piece} {okay : C → Type 0} {alike : A → A → Type 0} {follows : List Piece → Type 0}
-    (of : WordsAhead → A → B) → Guards n n' most read read' spell okay alike follows → Guards n n' most (λ at. read at >>= λ x. Ok (of at x.0, x.1)) (λ i at. read' i at >>= λ x. Ok (of at x.0, x.1)) spell okay Any follows
-placed_guards of g = record {
-  never = λ i at c rest fine h stop. lets_bind _ _ _ _ (g.never i at c rest fine h stop) (λ y p. lets_end _ _ p);
-  stuck = λ at room.
-      keeps_bind _ _ _ _ _ _ (g.stuck at room)
-      (λ y p. keeps_end _ _ _ (record {
-        text = p.text;
-        fine = p.fine;
-        front = p.front;
-        split = p.split;
-        ends = p.ends;
-        spelled = p.spelled;
-        same = λ i at' more room' s h. gets_bind _ _ _ _ (p.same i at' more room' s h) (λ z q. gets_end _ _ (tt, q.1));
-      }))
-      (λ p q. record {
-        text = q.text;
-        fine = q.fine;
-        front = q.front;
-        rest = q.rest;
-        more = q.more;
-        next = q.next;
-        split = q.split;
-        place = q.place;
-        spelled = q.spelled;
-        same = λ g i at' more room' s h. refused_bind _ _ (q.same g i at' more room' s h);
-      });
-}
-
--- another value of what was read, and any
-pub mapped_any : {C A B : Type 0} {n : ℕ} {n' most : ℕ → ℕ} {read : ReadWords A} {read' : ℕ → ReadWords A} {spell : C → List Piece} {okay : C → Type 0} {alike : A → A → Type 0} {follows : List Piece → Type 0}
-    (of of' : A → B) → Guards n n' most read read' spell okay alike follows → Guards n n' most (mapped of read) (λ i. mapped of' (read' i)) spell okay Any follows
-mapped_any of of' g = record {
-  never = λ i at c rest fine h stop. lets_bind _ _ _ _ (g.never i at c rest fine h stop) (λ y p. lets_end _ _ p);
-  stuck = λ at room.
-      keeps_bind _ _ _ _ _ _ (g.stuck at room)
-      (λ y p. keeps_end _ _ _ (record {
-        text = p.text;
-        fine = p.fine;
-        front = p.front;
-        split = p.split;
-        ends = p.ends;
-        spelled = p.spelled;
-        same = λ i at' more room' s h. gets_bind _ _ _ _ (p.same i at' more room' s h) (λ z q. gets_end _ _ (tt, q.1));
-      }))
-      (λ p q. record {
-        text = q.text;
-        fine = q.fine;
-        front = q.front;
-        rest = q.rest;
-        more = q.more;
-        next = q.next;
-        split = q.split;
-        place = q.place;
-        spelled = q.spelled;
-        same = λ g i at' more room' s h. refused_bind _ _ (q.same g i at' more room' s h);
-      });
-}
 
 pub paired : {A B X : Type 0} (of : A → B → X) (a : ReadWords A) (b : ReadWords B) (at : WordsAhead) → mapped (λ (p : A × B). of p.0 p.1) (both pair_up a b) at ≡ both of a b at
 paired of a b at = bind_bind (a at) _ _ ∙ bind_same (a at) _ _ (λ x. bind_bind (b x.1) _ _ ∙ bind_same (b x.1) _ _ (λ y. bind_end ((x.0, y.0), y.1) _))

@@ -9,7 +9,8 @@ use Rattle.ps_token.specs.declared.token_kind.TokenKind.{TokenKind}
 use Rattle.ps_parse.specs.declared.read_refusal.ReadRefusal.{ReadRefusal}
 use Rattle.ps_parse.specs.declared.read_refusal.ReadRefusal.TheVariants.{Grammar}
 use Rattle.ps_grammar.specs.Words.{Word}
-use Rattle.ps_parse.specs.Reading.{WordsAhead, ReadWords, is_kind, begins_with, next_is, place_of_next, word_from, next_word}
+use Rattle.ps_parse.specs.Inner.Reading.{WordsAhead, ReadWords, next_is, word_from, next_word}
+use Rattle.ps_parse.specs.Kinds.{is_kind, begins_with, place_of_next}
 use Rattle.ps_lines.specs.Steps.{and_then, ◌>>=◌}
 use Rattle.ps_grammar.specs.Spelling.{Piece, Mark, piece_of_kind, pieces}
 use Rattle.ps_parse.specs.Reads.{BeginAlike, PassesGrammar, refusal_place}

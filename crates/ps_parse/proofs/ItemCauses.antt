@@ -13,14 +13,15 @@ use Rattle.ps_tree.specs.declared.limit_name.LimitName.{LimitName}
 use Rattle.ps_tree.specs.declared.limit_name.LimitName.TheVariants as limit
 use Rattle.ps_parse.specs.declared.read_refusal.ReadRefusal.{ReadRefusal}
 use Rattle.ps_parse.specs.declared.read_refusal.ReadRefusal.TheVariants as refusal
-use Rattle.ps_parse.specs.Blocks.{ended_at}
+use Rattle.ps_parse.specs.Inner.Blocks.{ended_at}
 use Rattle.ps_parse.specs.Causes.{words_at, is_declaration, declared_in, is_after_factor, count_of, rows_passed, levels_with, levels, opens_level, GivesRows, IsCauseAt, rank}
 use Rattle.ps_grammar.specs.Declarations.{Declared, most_globals, most_locals, most_rows, nothing_declared, names_of}
-use Rattle.ps_parse.specs.Items.{is_some_variable, refused_name, new_name_at, signed_number_ahead, declared_value_ahead, item_rows, global_at, local_at, init_at, counted_item_at, with_rows, item_at, has_item, items_at}
+use Rattle.ps_parse.specs.Inner.Items.{is_some_variable, refused_name, new_name_at, signed_number_ahead, declared_value_ahead, item_rows, global_at, local_at, init_at, counted_item_at, with_rows, item_at, has_item, items_at}
 use Rattle.ps_grammar.specs.Names.{Names, variable_of_name}
-use Rattle.ps_parse.specs.Sums.{init_sign_of, relation_at}
+use Rattle.ps_parse.specs.Inner.Sums.{init_sign_of, relation_at}
 use Rattle.ps_grammar.specs.Words.{Word}
-use Rattle.ps_parse.specs.Reading.{WordsAhead, ReadWords, is_kind, begins_with, next_is, place_of_next, word_from, next_word, after_word, words_while}
+use Rattle.ps_parse.specs.Inner.Reading.{WordsAhead, ReadWords, next_is, word_from, next_word, after_word, words_while}
+use Rattle.ps_parse.specs.Kinds.{is_kind, begins_with, place_of_next}
 use Rattle.ps_parse.proofs.Steps.{Finds, found_if}
 use Rattle.ps_parse.proofs.RelationLaws.{init_signs}
 use Rattle.ps_parse.proofs.DeclarationLaws.{with_global}

@@ -12,11 +12,12 @@ use Rattle.ps_parse.specs.declared.read_refusal.ReadRefusal.TheVariants.{Limit}
 use Rattle.ps_parse.specs.Causes.{words_at, count_of, rows_passed}
 use Rattle.ps_grammar.specs.Grammar.{ProductText, number, name, number_name, name_number, SumText, RelationText, ValueText, ItemText, global, local, init}
 use Rattle.ps_grammar.specs.Declarations.{Declared, most_rows, rows_of_sign, rows_of_value}
-use Rattle.ps_parse.specs.Items.{item_rows, counted_item_at, with_rows, item_at}
+use Rattle.ps_parse.specs.Inner.Items.{item_rows, counted_item_at, with_rows, item_at}
 use Rattle.ps_grammar.specs.Spelling.{Piece, NumberPiece, Mark, piece_of_kind, pieces, product_pieces, minus_pieces, plus_or_minus, further_pieces, sum_pieces, sign_kind, relation_pieces, value_pieces, more_relations, item_pieces}
 use Rattle.ps_grammar.specs.Trees.{declared_value, rows_of_relations, with_item}
 use Rattle.ps_grammar.specs.Words.{Word}
-use Rattle.ps_parse.specs.Reading.{WordsAhead, is_kind, place_at}
+use Rattle.ps_parse.specs.Inner.Reading.{WordsAhead, place_at}
+use Rattle.ps_parse.specs.Kinds.{is_kind}
 use Rattle.ps_parse.proofs.Steps.{kind_of, kind_of_piece, takes_pieces, ahead_so, Finds, found_more}
 use Rattle.ps_parse.proofs.DeclarationLaws.{declaration_exact}
 use Rattle.ps_parse.proofs.ProgramLaws.{rows_of_item, item_rows_again, signs_of, room_of}

@@ -12,7 +12,6 @@ pub mod DeclarationLaws
 pub mod ProgramLaws
 pub mod WordsWithin
 pub mod TextLaws
-pub mod NoTokens
 pub mod Guards
 pub mod GuardSteps
 pub mod GuardLoops
@@ -23,7 +22,9 @@ pub mod DeclarationGuards
 pub mod ProgramGuards
 pub mod ItemRows
 pub mod NamesDeclared
+pub mod Spots
 pub mod OneAnswer
+pub mod OneRefusal
 pub mod Examples
 pub mod RowLaws
 pub mod CauseSteps

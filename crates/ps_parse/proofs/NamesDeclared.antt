@@ -7,7 +7,7 @@ use Rattle.std.proofs.lemmas.List.Elements.{All-cons, All-contains, All-nil, All
 use Rattle.std.proofs.lemmas.Slice.Eq.{bytes_eq-Decides}
 use Rattle.ps_term.specs.declared.var.Var.{Var}
 use Rattle.ps_term.specs.declared.var.Var.TheVariants.{Global, Local}
-use Rattle.ps_parse.specs.Items.{is_some_variable}
+use Rattle.ps_parse.specs.Inner.Items.{is_some_variable}
 use Rattle.ps_grammar.specs.Declarations.{names_of, nothing_declared}
 use Rattle.ps_grammar.specs.Names.{Names, first_of, position_from, variable_of_name}
 

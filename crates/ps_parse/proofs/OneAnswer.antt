@@ -1,8 +1,8 @@
 -- Words are one program at most, have one first fault at most, and not both; and no refusal stands after that fault, nor
 -- at it but for a second name of a product.
-use Rattle.std.proofs.Common.{◌≡◌, ◌≢◌, ◌⊎◌, inl, inr, List, [], ◌∷◌, ◌++◌, Result, Ok, refl, sym, ap, subst, ◌∙◌, append_assoc}
+use Rattle.std.proofs.Common.{◌≡◌, ◌≢◌, inl, inr, List, [], ◌∷◌, ◌++◌, Result, Ok, refl, sym, ap, subst, ◌∙◌, append_assoc}
 use Rattle.std.specs.List.{AllByRecursion}
-use Rattle.std.proofs.lemmas.List.{append-nil, append_cancel_left, append_cancel_right}
+use Rattle.std.proofs.lemmas.List.{append-nil, append_cancel_left}
 use Rattle.std.proofs.lemmas.List.Elements.{All-from_recursion, recursion_from_All}
 use Rattle.ps_token.specs.declared.place.Place.{Place}
 use Rattle.ps_tree.specs.declared.program.Program.{Program}
@@ -10,7 +10,7 @@ use Rattle.ps_parse.specs.declared.read_refusal.ReadRefusal.{ReadRefusal}
 use Rattle.ps_tree.specs.declared.relation.Sign.TheVariants as sign
 use Rattle.ps_grammar.specs.Grammar.{RelationText, ItemText, global, local, init}
 use Rattle.ps_grammar.specs.Words.{Word}
-use Rattle.ps_parse.specs.Reading.{place_of_next}
+use Rattle.ps_parse.specs.Kinds.{place_of_next}
 use Rattle.ps_grammar.specs.Declarations.{Declared, names_of, nothing_declared}
 use Rattle.ps_grammar.specs.Trees.{with_item}
 use Rattle.ps_grammar.specs.Fits.{RelationFits, ItemFits, ItemsFit}
@@ -18,6 +18,7 @@ use Rattle.ps_grammar.specs.Programs.{IsProgramText}
 use Rattle.ps_parse.specs.Reads.{HasInitSigns, IsText, BeginAlike, IsFirstGrammarFault, PassesGrammar, StandsInText}
 use Rattle.ps_parse.proofs.ProgramLaws.{program_of_again}
 use Rattle.ps_parse.proofs.Guards.{alike_itself}
+use Rattle.ps_parse.proofs.Spots.{Longer, compare, same_front}
 
 ok_is : (p q : Program) → ◌≡◌ {A = Result Program ReadRefusal} (Ok p) (Ok q) → p ≡ q
 ok_is p q e = cc
@@ -26,41 +27,6 @@ pub one_program : (words : List Word) (p q : Program) → IsProgramText words p 
 one_program words p q a b =
     let end : Place = record { line = 0; column = 0 } in
     ok_is p q (sym (program_of_again words end p a) ∙ program_of_again words end q b)
-
--- of two fronts of a list one goes on as the other
-record Longer (a b r s : List Word) : Type 0 where
-  pub word : Word
-  pub tail : List Word
-  pub is : b ≡ a ++ (word ∷ tail)
-  pub left : r ≡ word ∷ (tail ++ s)
-
-record Equal (a b r s : List Word) : Type 0 where
-  pub left : r ≡ s
-
-head_is : (w v : Word) (ws vs : List Word) → w ∷ ws ≡ v ∷ vs → w ≡ v
-head_is w v ws vs e = cc
-
-tail_is : (w v : Word) (ws vs : List Word) → w ∷ ws ≡ v ∷ vs → ws ≡ vs
-tail_is w v ws vs e = cc
-
-longer_after : (x y : Word) (a b r s : List Word) → x ≡ y → Longer a b r s → Longer (x ∷ a) (y ∷ b) r s
-longer_after x y a b r s e h = record { word = h.word; tail = h.tail; is = ap (λ (ws : List Word). y ∷ ws) h.is ∙ ap (λ (z : Word). z ∷ (a ++ (h.word ∷ h.tail))) (sym e); left = h.left }
-
-compare : (a b r s : List Word) → a ++ r ≡ b ++ s → Equal a b r s ⊎ (Longer a b r s ⊎ Longer b a s r)
-compare [] [] r s e = inl (record { left = e })
-compare [] (w ∷ t) r s e = inr (inl (record { word = w; tail = t; is = refl; left = e }))
-compare (w ∷ t) [] r s e = inr (inr (record { word = w; tail = t; is = refl; left = sym e }))
-compare (x ∷ a) (y ∷ b) r s e =
-    elim (compare a b r s (tail_is x y (a ++ r) (b ++ s) e)) [
-      | inl h ↦ inl (record { left = h.left })
-      | inr h ↦ elim h [
-        | inl k ↦ inr (inl (longer_after x y a b r s (head_is x y (a ++ r) (b ++ s) e) k))
-        | inr k ↦ inr (inr (longer_after y x b a s r (sym (head_is x y (a ++ r) (b ++ s) e)) k))
-      ]
-    ]
-
-same_front : (a b r s : List Word) → a ++ r ≡ b ++ s → r ≡ s → a ≡ b
-same_front a b r s e h = append_cancel_right a b s (ap (λ (ws : List Word). a ++ ws) (sym h) ∙ e)
 
 -- the words before a fault don't stop before it
 not_longer : (words : List Word) (end p q : Place) (f : IsFirstGrammarFault words end p) (g : IsFirstGrammarFault words end q) → Longer f.before g.before f.rest g.rest → ⊥

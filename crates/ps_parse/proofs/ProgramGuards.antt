@@ -13,12 +13,13 @@ use Rattle.ps_parse.specs.declared.read_refusal.ReadRefusal.{ReadRefusal}
 use Rattle.ps_parse.specs.declared.read_refusal.ReadRefusal.TheVariants.{Grammar}
 use Rattle.ps_grammar.specs.Grammar.{ItemText, BlockText, ProgramText}
 use Rattle.ps_grammar.specs.Words.{Word}
-use Rattle.ps_parse.specs.Reading.{WordsAhead, ReadWords, next_is, place_of_next, after_word, words_end_from, words_end}
+use Rattle.ps_parse.specs.Inner.Reading.{WordsAhead, ReadWords, next_is, after_word, words_end_from, words_end}
+use Rattle.ps_parse.specs.Kinds.{place_of_next}
 use Rattle.ps_lines.specs.Steps.{◌>>=◌}
 use Rattle.ps_grammar.specs.Names.{Names}
-use Rattle.ps_parse.specs.Blocks.{block_at}
+use Rattle.ps_parse.specs.Inner.Blocks.{block_at}
 use Rattle.ps_grammar.specs.Declarations.{Declared, most_levels, nothing_declared, names_of}
-use Rattle.ps_parse.specs.Items.{item_at, has_item, items_at, program_at, program_in}
+use Rattle.ps_parse.specs.Inner.Items.{item_at, has_item, items_at, program_at, program_in}
 use Rattle.ps_grammar.specs.Spelling.{Piece, Mark, piece_of_kind, pieces, item_pieces, block_pieces, program_pieces}
 use Rattle.ps_parse.specs.Reads.{HasInitSigns, IsText, BeginAlike, IsFirstGrammarFault, refusal_place, PassesGrammar, StandsInText}
 use Rattle.ps_parse.proofs.Steps.{Ahead, ahead_so, Always, Gets, gets_bind}

@@ -16,12 +16,13 @@ use Rattle.ps_parse.specs.declared.read_refusal.ReadRefusal.{ReadRefusal}
 use Rattle.ps_parse.specs.declared.read_refusal.ReadRefusal.TheVariants.{Limit}
 use Rattle.ps_grammar.specs.Grammar.{RelationText, ItemText, global, local, init, BlockText, ProgramText}
 use Rattle.ps_grammar.specs.Words.{Word}
-use Rattle.ps_parse.specs.Reading.{WordsAhead, begins_with, next_is, place_at, word_from, next_word, after_word, words_end_from, words_end}
+use Rattle.ps_parse.specs.Inner.Reading.{WordsAhead, next_is, place_at, word_from, next_word, after_word, words_end_from, words_end}
+use Rattle.ps_parse.specs.Kinds.{begins_with}
 use Rattle.ps_grammar.specs.Names.{Names}
-use Rattle.ps_parse.specs.Sums.{init_sign_of}
-use Rattle.ps_parse.specs.Blocks.{block_at}
+use Rattle.ps_parse.specs.Inner.Sums.{init_sign_of}
+use Rattle.ps_parse.specs.Inner.Blocks.{block_at}
 use Rattle.ps_grammar.specs.Declarations.{Declared, most_rows, most_levels, nothing_declared, names_of, rows_of_sign, rows_of_value}
-use Rattle.ps_parse.specs.Items.{rows_counted_on, rows_from, item_rows, counted_item_at, with_rows, item_at, has_item, items_at, program_at, program_in}
+use Rattle.ps_parse.specs.Inner.Items.{rows_counted_on, rows_from, item_rows, counted_item_at, with_rows, item_at, has_item, items_at, program_at, program_in}
 use Rattle.ps_grammar.specs.Spelling.{Piece, NamePiece, Mark, piece_of_kind, pieces, relation_pieces, value_pieces, more_relations, item_pieces, block_pieces, program_pieces}
 use Rattle.ps_grammar.specs.Trees.{block_trees, declared_value, rows_of_relations, with_item, with_items, program_tree}
 use Rattle.ps_grammar.specs.Fits.{RelationFits, RestFits, ItemFits, ItemsFit, ProgramFits}

@@ -12,9 +12,9 @@ use Rattle.ps_tree.specs.declared.relation.Sign.TheVariants as sign
 use Rattle.ps_tree.specs.declared.sum.Sum.{Sum}
 use Rattle.ps_grammar.specs.Grammar.{RelationText}
 use Rattle.ps_grammar.specs.Words.{Word}
-use Rattle.ps_parse.specs.Reading.{is_kind}
+use Rattle.ps_parse.specs.Kinds.{is_kind}
 use Rattle.ps_grammar.specs.Names.{Names}
-use Rattle.ps_parse.specs.Sums.{sign_of, init_sign_of, sign_from, sign_ahead, relation_at}
+use Rattle.ps_parse.specs.Inner.Sums.{sign_of, init_sign_of, sign_from, sign_ahead, relation_at}
 use Rattle.ps_grammar.specs.Spelling.{Piece, Mark, piece_of_kind, pieces, minus_pieces, product_pieces, further_pieces, sum_pieces, sign_kind, relation_pieces}
 use Rattle.ps_grammar.specs.Trees.{sum_tree, relation_tree}
 use Rattle.ps_grammar.specs.Fits.{SumTextFits, RelationFits}

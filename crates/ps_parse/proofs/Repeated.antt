@@ -4,7 +4,8 @@ use Rattle.std.proofs.lemmas.List.{append-nil}
 use Rattle.ps_token.specs.declared.token_kind.TokenKind.{TokenKind}
 use Rattle.ps_parse.specs.declared.read_refusal.ReadRefusal.{ReadRefusal}
 use Rattle.ps_parse.specs.declared.read_refusal.ReadRefusal.TheVariants as refusal
-use Rattle.ps_parse.specs.Reading.{WordsAhead, next_word, after_word, ReadWords, words_while, with_front, Refuses}
+use Rattle.ps_parse.specs.Inner.Reading.{WordsAhead, next_word, after_word, ReadWords, words_while, with_front}
+use Rattle.ps_parse.specs.Promises.{Refuses}
 use Rattle.ps_lines.specs.Steps.{and_then, ◌>>=◌}
 use Rattle.ps_grammar.specs.Words.{Word}
 

@@ -14,12 +14,13 @@ use Rattle.ps_tree.specs.declared.relation.Sign.TheVariants as sign
 use Rattle.ps_parse.specs.Causes.{last_of, last_product, is_alone, relation_goes_on, BeginsGlobal, BeginsInit, GivesRows}
 use Rattle.ps_grammar.specs.Grammar.{ProductText, number, name, number_name, name_number, SumText, RelationText, ValueText}
 use Rattle.ps_grammar.specs.Declarations.{rows_of_sign, rows_of_value}
-use Rattle.ps_parse.specs.Items.{rows_counted_on, rows_from, declared_value_ahead, item_rows}
+use Rattle.ps_parse.specs.Inner.Items.{rows_counted_on, rows_from, declared_value_ahead, item_rows}
 use Rattle.ps_grammar.specs.Spelling.{Piece, NamePiece, Mark, piece_of_kind, pieces, product_pieces, minus_pieces, further_pieces, sum_pieces, sign_kind, relation_pieces, value_pieces, more_relations}
-use Rattle.ps_parse.specs.Sums.{init_sign_of, number_product_at, name_product_at, product_at, first_product_at, further_product_at, adds, sum_at, relation_at}
+use Rattle.ps_parse.specs.Inner.Sums.{init_sign_of, number_product_at, name_product_at, product_at, first_product_at, further_product_at, adds, sum_at, relation_at}
 use Rattle.ps_grammar.specs.Trees.{declared_value, rows_of_relations}
 use Rattle.ps_grammar.specs.Words.{Word}
-use Rattle.ps_parse.specs.Reading.{WordsAhead, begins_with, next_is, next_word, after_word, words_while}
+use Rattle.ps_parse.specs.Inner.Reading.{WordsAhead, next_is, next_word, after_word, words_while}
+use Rattle.ps_parse.specs.Kinds.{begins_with}
 use Rattle.ps_parse.proofs.Steps.{Takes, takes_none, takes_then, takes_so, takes_pieces, Ahead, ahead_so, begins_piece, begins_pieces, next_ahead, Finds, Gets, found_bind, found_end, found_more, gets_bind, gets_end, gets_true, gets_false, gets_more}
 use Rattle.ps_parse.proofs.Sequences.{word_exact, IsMark, mark_found, mark_again, after_exact, few}
 use Rattle.ps_parse.proofs.Scopes.{variable_exact}

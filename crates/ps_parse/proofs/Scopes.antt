@@ -9,7 +9,7 @@ use Rattle.ps_term.specs.declared.var.Var.TheVariants.{Global}
 use Rattle.ps_parse.specs.declared.read_refusal.ReadRefusal.{ReadRefusal}
 use Rattle.ps_parse.specs.declared.read_refusal.ReadRefusal.TheVariants.{UnknownName}
 use Rattle.ps_grammar.specs.Names.{Names, variable_of_name}
-use Rattle.ps_parse.specs.Variables.{variable_in, variable_at}
+use Rattle.ps_parse.specs.Inner.Variables.{variable_in, variable_at}
 use Rattle.ps_grammar.specs.Spelling.{Piece, NamePiece}
 use Rattle.ps_grammar.specs.Trees.{variable_or_first, variable_named}
 use Rattle.ps_grammar.specs.Fits.{IsKnownName}

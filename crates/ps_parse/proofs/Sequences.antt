@@ -7,7 +7,8 @@ use Rattle.ps_token.specs.declared.place.Place.{Place}
 use Rattle.ps_token.specs.declared.token_kind.TokenKind.{TokenKind}
 use Rattle.ps_parse.specs.declared.read_refusal.ReadRefusal.TheVariants.{Grammar}
 use Rattle.ps_grammar.specs.Words.{Word}
-use Rattle.ps_parse.specs.Reading.{WordsAhead, ReadWords, is_kind, word_from, next_word, after_word, words_while}
+use Rattle.ps_parse.specs.Inner.Reading.{WordsAhead, ReadWords, word_from, next_word, after_word, words_while}
+use Rattle.ps_parse.specs.Kinds.{is_kind}
 use Rattle.ps_lines.specs.Steps.{◌>>=◌}
 use Rattle.ps_grammar.specs.Spelling.{Piece, Mark, piece_of_kind, pieces}
 use Rattle.ps_parse.proofs.Steps.{one_kind, same_kind, kind_of, text_of, kind_of_piece, places, Takes, takes_none, takes_then, takes_so, takes_pieces, takes_places, Ahead, ahead_so, Always, Finds, Gets, found_bind, found_end, found_if, found_more, gets_bind, gets_end, gets_true, gets_more, gets_found, Spelled, Exact}

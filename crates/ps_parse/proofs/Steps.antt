@@ -8,7 +8,8 @@ use Rattle.ps_token.specs.declared.token_kind.TokenKind.{TokenKind}
 use Rattle.ps_token.specs.declared.token_kind.TokenKind.TheVariants as kind
 use Rattle.ps_parse.specs.declared.read_refusal.ReadRefusal.{ReadRefusal}
 use Rattle.ps_grammar.specs.Words.{Word}
-use Rattle.ps_parse.specs.Reading.{WordsAhead, ReadWords, kind_number, is_kind, begins_with, next_is}
+use Rattle.ps_parse.specs.Inner.Reading.{WordsAhead, ReadWords, next_is}
+use Rattle.ps_parse.specs.Kinds.{kind_number, is_kind, begins_with}
 use Rattle.ps_lines.specs.Steps.{and_then, ◌>>=◌}
 use Rattle.ps_grammar.specs.Spelling.{Piece, NamePiece, NumberPiece, Mark, piece_of_kind, pieces}
 

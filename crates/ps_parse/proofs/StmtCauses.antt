@@ -8,15 +8,16 @@ use Rattle.ps_token.specs.declared.token_kind.TokenKind.TheVariants as kind
 use Rattle.ps_parse.specs.declared.read_refusal.ReadRefusal.TheVariants.{LoopInAtomic}
 use Rattle.ps_tree.specs.declared.stmt.Stmt.{Stmt}
 use Rattle.ps_tree.specs.declared.stmt.StmtKind.TheVariants as stmt
-use Rattle.ps_parse.specs.Blocks.{ended_at, assign_at, havoc_at, cond_stmt_at, skip_at, atomic_at, else_at, if_at, while_stmt_at, kind_at, stmt_at, has_more, block_at}
+use Rattle.ps_parse.specs.Inner.Blocks.{ended_at, assign_at, havoc_at, cond_stmt_at, skip_at, atomic_at, else_at, if_at, while_stmt_at, kind_at, stmt_at, has_more, block_at}
 use Rattle.ps_parse.specs.Causes.{Level, block, atomic_block, without_negations, block_level, levels}
-use Rattle.ps_parse.specs.Conds.{cond_at, parens_at}
+use Rattle.ps_parse.specs.Inner.Conds.{cond_at, parens_at}
 use Rattle.ps_grammar.specs.Declarations.{most_levels}
 use Rattle.ps_grammar.specs.Names.{Names}
-use Rattle.ps_parse.specs.Variables.{variable_at}
-use Rattle.ps_parse.specs.Sums.{sum_at}
+use Rattle.ps_parse.specs.Inner.Variables.{variable_at}
+use Rattle.ps_parse.specs.Inner.Sums.{sum_at}
 use Rattle.ps_grammar.specs.Words.{Word}
-use Rattle.ps_parse.specs.Reading.{WordsAhead, ReadWords, begins_with, next_is, place_of_next, next_word}
+use Rattle.ps_parse.specs.Inner.Reading.{WordsAhead, ReadWords, next_is, next_word}
+use Rattle.ps_parse.specs.Kinds.{begins_with, place_of_next}
 use Rattle.ps_parse.proofs.Steps.{one_kind}
 use Rattle.ps_parse.proofs.Guards.{Keeps, keeps_end, keeps_more}
 use Rattle.ps_parse.proofs.CauseSteps.{Whole, In, Blamed, plain, looping, Fresh, fresh_word, level_word, fresh_linear, grammar_blamed, loop_blamed, then_keeps, if_keeps, after_keeps, word_keeps}

@@ -11,9 +11,9 @@ use Rattle.ps_tree.specs.declared.stmt.StmtKind.TheVariants as stmt
 use Rattle.ps_parse.specs.declared.read_refusal.ReadRefusal.TheVariants.{Limit, LoopInAtomic}
 use Rattle.ps_grammar.specs.Grammar.{SumText, TestText, StmtText, assign, havoc, assume, assert, skip, atomic, if_then, if_else, while_do, BlockText, block_end}
 use Rattle.ps_grammar.specs.Words.{Word}
-use Rattle.ps_parse.specs.Reading.{ReadWords, next_is, place_at, after_word}
-use Rattle.ps_parse.specs.Conds.{parens_at}
-use Rattle.ps_parse.specs.Blocks.{ended_at, assign_at, havoc_at, cond_stmt_at, skip_at, atomic_at, else_at, if_at, while_stmt_at, kind_at, stmt_at, has_more, block_at}
+use Rattle.ps_parse.specs.Inner.Reading.{ReadWords, next_is, place_at, after_word}
+use Rattle.ps_parse.specs.Inner.Conds.{parens_at}
+use Rattle.ps_parse.specs.Inner.Blocks.{ended_at, assign_at, havoc_at, cond_stmt_at, skip_at, atomic_at, else_at, if_at, while_stmt_at, kind_at, stmt_at, has_more, block_at}
 use Rattle.ps_grammar.specs.Spelling.{Piece, Mark, cond_pieces, test_pieces, stmt_pieces, rest_pieces, block_pieces}
 use Rattle.ps_parse.proofs.Steps.{begins_piece, next_ahead, Not, Always}
 use Rattle.ps_parse.proofs.Sequences.{IsMark}
@@ -187,7 +187,7 @@ kind_guards t levels block block' g inside =
 stmt_guards : (t : Two) (levels : ℕ) (block : Bool → ReadWords (List Stmt)) (block' : ℕ → Bool → ReadWords (List Stmt)) → ((inside : Bool) → BlockGuards t (block inside) (λ i. block' i inside)) → (inside : Bool)
     → GuardsIn t (stmt_at block inside t.scope t.most levels) (λ i. stmt_at (block' i) inside t.scope' (t.most' i) levels) stmt_pieces Any (Not kind.Else)
 unfolding stmt_at
-stmt_guards t levels block block' g inside = placed_guards (λ at k. record { place = place_at at; kind = k }) (kind_guards t levels block block' g inside)
+stmt_guards t levels block block' g inside = placed_guards Any (λ at k. record { place = place_at at; kind = k }) (λ at k. record { place = place_at at; kind = k }) (λ at at' x y h. tt) (kind_guards t levels block block' g inside)
 
 -- ---- blocks
 

@@ -12,10 +12,10 @@ use Rattle.ps_tree.specs.declared.stmt.StmtKind.{StmtKind}
 use Rattle.ps_tree.specs.declared.stmt.StmtKind.TheVariants as stmt
 use Rattle.ps_parse.specs.declared.read_refusal.ReadRefusal.{ReadRefusal}
 use Rattle.ps_grammar.specs.Grammar.{SumText, TestText, StmtText, assign, havoc, atomic, if_then, if_else, while_do, BlockText}
-use Rattle.ps_parse.specs.Reading.{WordsAhead, ReadWords, next_is, after_word}
+use Rattle.ps_parse.specs.Inner.Reading.{WordsAhead, ReadWords, next_is, after_word}
 use Rattle.ps_grammar.specs.Names.{Names}
-use Rattle.ps_parse.specs.Conds.{parens_at}
-use Rattle.ps_parse.specs.Blocks.{ended_at, assign_at, havoc_at, cond_stmt_at, skip_at, atomic_at, else_at, if_at}
+use Rattle.ps_parse.specs.Inner.Conds.{parens_at}
+use Rattle.ps_parse.specs.Inner.Blocks.{ended_at, assign_at, havoc_at, cond_stmt_at, skip_at, atomic_at, else_at, if_at}
 use Rattle.ps_grammar.specs.Spelling.{Piece, Mark, cond_pieces, test_pieces, stmt_pieces, rest_pieces, block_pieces}
 use Rattle.ps_grammar.specs.Trees.{variable_named, cond_tree, test_tree, stmt_tree, block_trees}
 use Rattle.ps_grammar.specs.Fits.{IsKnownName, SumTextFits, CondFits, TestFits, StmtFits, RestFits}

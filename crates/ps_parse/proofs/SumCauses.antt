@@ -12,11 +12,12 @@ use Rattle.ps_tree.specs.declared.relation.Sign.{Sign}
 use Rattle.ps_tree.specs.declared.relation.Sign.TheVariants as sign
 use Rattle.ps_parse.specs.Causes.{declared_in, is_declaration, is_after_factor, Level, levels, levels_with}
 use Rattle.ps_grammar.specs.Names.{Names}
-use Rattle.ps_parse.specs.Variables.{variable_in, variable_at}
+use Rattle.ps_parse.specs.Inner.Variables.{variable_in, variable_at}
 use Rattle.ps_grammar.specs.Spelling.{sign_kind}
-use Rattle.ps_parse.specs.Sums.{factor_at, number_product_at, name_product_at, product_at, first_product_at, further_product_at, adds, sum_at, sign_from, sign_ahead, relation_at}
+use Rattle.ps_parse.specs.Inner.Sums.{factor_at, number_product_at, name_product_at, product_at, first_product_at, further_product_at, adds, sum_at, sign_from, sign_ahead, relation_at}
 use Rattle.ps_grammar.specs.Words.{Word}
-use Rattle.ps_parse.specs.Reading.{WordsAhead, ReadWords, is_kind, begins_with, next_is, place_of_next, next_word, after_word, words_while}
+use Rattle.ps_parse.specs.Inner.Reading.{WordsAhead, ReadWords, next_is, next_word, after_word, words_while}
+use Rattle.ps_parse.specs.Kinds.{is_kind, begins_with, place_of_next}
 use Rattle.ps_parse.proofs.Steps.{one_kind, same_kind}
 use Rattle.ps_parse.proofs.Guards.{Keeps, keeps_end, keeps_more}
 use Rattle.ps_parse.proofs.RelationLaws.{AreSigns}

@@ -14,12 +14,12 @@ use Rattle.ps_tree.specs.declared.relation.Sign.TheVariants as sign
 use Rattle.ps_tree.specs.declared.sum.Sum.{Sum}
 use Rattle.ps_grammar.specs.Grammar.{ProductText, number, name, number_name, name_number, SumText}
 use Rattle.ps_grammar.specs.Words.{Word}
-use Rattle.ps_parse.specs.Reading.{WordsAhead, ReadWords, next_is, place_at, next_word, after_word}
+use Rattle.ps_parse.specs.Inner.Reading.{WordsAhead, ReadWords, next_is, place_at, next_word, after_word}
 use Rattle.ps_lines.specs.Steps.{◌>>=◌}
 use Rattle.ps_grammar.specs.Names.{Names}
-use Rattle.ps_parse.specs.Variables.{variable_in, variable_at}
+use Rattle.ps_parse.specs.Inner.Variables.{variable_in, variable_at}
 use Rattle.ps_grammar.specs.Numbers.{number_value, signed}
-use Rattle.ps_parse.specs.Sums.{factor_at, number_product_at, name_product_at, product_at, first_product_at, further_product_at, adds, sum_at, sign_from, sign_ahead, relation_at}
+use Rattle.ps_parse.specs.Inner.Sums.{factor_at, number_product_at, name_product_at, product_at, first_product_at, further_product_at, adds, sum_at, sign_from, sign_ahead, relation_at}
 use Rattle.ps_grammar.specs.Spelling.{Piece, NamePiece, Mark, piece_of_kind, product_pieces, minus_pieces, sum_pieces, relation_pieces}
 use Rattle.ps_parse.specs.Reads.{BeginAlike, PassesGrammar, refusal_place}
 use Rattle.ps_parse.proofs.Steps.{same_kind, kind_of, kind_of_piece, begins_piece, next_ahead, Not, Always, Gets, gets_bind, gets_end}

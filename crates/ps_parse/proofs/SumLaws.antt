@@ -8,10 +8,11 @@ use Rattle.ps_token.specs.declared.token_kind.TokenKind.TheVariants as kind
 use Rattle.ps_term.specs.declared.var.Var.{Var}
 use Rattle.ps_tree.specs.declared.sum.Sum.{Sum}
 use Rattle.ps_grammar.specs.Grammar.{ProductText, number, name, number_name, name_number, SumText}
-use Rattle.ps_parse.specs.Reading.{WordsAhead, is_kind, next_is, after_word}
+use Rattle.ps_parse.specs.Inner.Reading.{WordsAhead, next_is, after_word}
+use Rattle.ps_parse.specs.Kinds.{is_kind}
 use Rattle.ps_grammar.specs.Names.{Names}
 use Rattle.ps_grammar.specs.Numbers.{number_value, signed}
-use Rattle.ps_parse.specs.Sums.{factor_at, number_product_at, name_product_at, product_at, first_product_at, further_product_at, adds, sum_at}
+use Rattle.ps_parse.specs.Inner.Sums.{factor_at, number_product_at, name_product_at, product_at, first_product_at, further_product_at, adds, sum_at}
 use Rattle.ps_grammar.specs.Spelling.{Piece, NamePiece, NumberPiece, Mark, product_pieces, minus_pieces, plus_or_minus, further_pieces, sum_pieces}
 use Rattle.ps_grammar.specs.Trees.{variable_named, product_tree, sum_tree}
 use Rattle.ps_grammar.specs.Fits.{ProductFits, SumTextFits}

@@ -1,5 +1,5 @@
 -- What a text is read as, from what its words are.
-use Rattle.std.proofs.Common.{◌≡◌, ℕ, List, Result, Ok, Err, IfOk, IfErr, ap, subst}
+use Rattle.std.proofs.Common.{◌≡◌, ℕ, List, [], ◌∷◌, Result, Ok, Err, IfOk, IfErr, ap, subst}
 use Rattle.ps_token.specs.declared.place.Place.{Place}
 use Rattle.ps_token.specs.declared.token.Token.{Token}
 use Rattle.ps_token.specs.declared.token_end.TokenEnd.{TokenEnd}
@@ -9,14 +9,14 @@ use Rattle.ps_token.proofs.OneCut.{one_list, not_both, one_place}
 use Rattle.ps_tree.specs.declared.program.Program.{Program}
 use Rattle.ps_parse.specs.declared.read_refusal.ReadRefusal.{ReadRefusal}
 use Rattle.ps_parse.specs.declared.read_refusal.ReadRefusal.TheVariants as refusal
-use Rattle.ps_parse.specs.Reading.{ReadsWhole}
-use Rattle.ps_grammar.specs.Words.{words_of}
-use Rattle.ps_parse.specs.Items.{program_in}
+use Rattle.ps_parse.specs.Causes.{HasCauseOf, IsFirstCause}
+use Rattle.ps_parse.specs.Promises.{ReadsWhole}
+use Rattle.ps_grammar.specs.Words.{Word, words_of}
+use Rattle.ps_parse.specs.Inner.Items.{program_in}
 use Rattle.ps_grammar.specs.Programs.{IsProgram}
 use Rattle.ps_parse.specs.Texts.{TokenIsBad, GrammarIsFault, IsInText, RefusalIsInText, IsFirstRefusal, RefusalIsFirst, end_of, uncut}
 use Rattle.ps_parse.proofs.ProgramGuards.{program_of_grammar, program_of_refused}
 use Rattle.ps_parse.proofs.ProgramCauses.{program_of_first}
-use Rattle.ps_parse.proofs.NoTokens.{program_never}
 use Rattle.ps_parse.proofs.ProgramLaws.{program_of_found, program_of_again}
 
 -- the answer is this one, unless memory runs out
@@ -29,7 +29,7 @@ pub cut_found : (bytes : List ℕ) (ts : List Token) (result : Result Program Re
 cut_found bytes ts (Ok p) cut tells = record { tokens = ts; cut = cut; is = program_of_found (words_of bytes ts) (end_of bytes) p tells }
 cut_found bytes ts (Err e) cut tells = tt
 
-pub cut_exact : (bytes : List ℕ) (ts us : List Token) (result : Result Program ReadRefusal) → AreTokens bytes ts → ReadsWhole (λ (p : Program). p) result (program_in (words_of bytes ts) (end_of bytes)) → AreTokens bytes us → ReadsWhole (λ (p : Program). p) result (program_in (words_of bytes us) (end_of bytes))
+cut_exact : (bytes : List ℕ) (ts us : List Token) (result : Result Program ReadRefusal) → AreTokens bytes ts → ReadsWhole (λ (p : Program). p) result (program_in (words_of bytes ts) (end_of bytes)) → AreTokens bytes us → ReadsWhole (λ (p : Program). p) result (program_in (words_of bytes us) (end_of bytes))
 cut_exact bytes ts us result cut tells other = subst (λ (vs : List Token). Answers result (program_in (words_of bytes vs) (end_of bytes))) (one_list bytes ts us cut other) tells
 
 pub cut_only : (bytes : List ℕ) (ts : List Token) (result : Result Program ReadRefusal) (p : Program) → AreTokens bytes ts → ReadsWhole (λ (p : Program). p) result (program_in (words_of bytes ts) (end_of bytes)) → IsProgram bytes p → ReadsWhole (λ (p : Program). p) result (Ok p)
@@ -56,9 +56,17 @@ pub uncut_token : (bytes : List ℕ) (end : TokenEnd) → IsBadText bytes end �
 uncut_token bytes (token.BadToken place) is = is
 uncut_token bytes (token.Memory e) is = tt
 
+-- no word has a cause of that refusal
+no_token : (words : List Word) (end place : Place) → program_in words end ≡ Err (refusal.Token place) → ⊥
+no_token words end place tells = let f : IsFirstCause words end (refusal.Token place) = program_of_first words end (refusal.Token place) tells in none f.back f.ahead f.cause
+  where
+    none : (back ahead : List Word) → HasCauseOf back ahead (refusal.Token place) → ⊥
+    none back [] c = c
+    none back (w ∷ ahead) c = c
+
 pub cut_token : (bytes : List ℕ) (ts : List Token) (result : Result Program ReadRefusal) → ReadsWhole (λ (p : Program). p) result (program_in (words_of bytes ts) (end_of bytes)) → IfErr result (TokenIsBad bytes)
 cut_token bytes ts (Ok p) tells = tt
-cut_token bytes ts (Err (refusal.Token place)) tells = absurd ((program_never (words_of bytes ts) (end_of bytes)).is place tells)
+cut_token bytes ts (Err (refusal.Token place)) tells = absurd (no_token (words_of bytes ts) (end_of bytes) place tells)
 cut_token bytes ts (Err (refusal.Grammar place)) tells = tt
 cut_token bytes ts (Err (refusal.UnknownName place)) tells = tt
 cut_token bytes ts (Err (refusal.Twice place)) tells = tt

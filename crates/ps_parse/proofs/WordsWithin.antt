@@ -6,7 +6,7 @@ use Rattle.ps_token.specs.declared.token_kind.TokenKind.{TokenKind}
 use Rattle.ps_token.specs.declared.token_kind.TokenKind.TheVariants as kind
 use Rattle.ps_token.specs.Lexing.{AreTokens, AreUpTo, IsInside, IsNumber, IsSpelled}
 use Rattle.ps_parse.specs.Inner.Within.{AreWithin}
-use Rattle.ps_parse.specs.Reading.{is_kind}
+use Rattle.ps_parse.specs.Kinds.{is_kind}
 
 is_number : (k : TokenKind) (text : List ℕ) → IsSpelled k text → is_kind k kind.Number ≡ true → IsNumber text
 is_number kind.Number text h e = h

@@ -11,11 +11,11 @@ use Rattle.ps_parse.specs.declared.read_refusal.ReadRefusal.TheVariants as refus
 use Rattle.ps_tree.specs.declared.relation.Sign.TheVariants as sign
 use Rattle.ps_grammar.specs.Grammar.{ProductText, number, name, number_name, name_number, SumText, RelationText, ValueText}
 use Rattle.ps_grammar.specs.Declarations.{most_globals, most_levels, most_locals, most_rows}
-use Rattle.ps_parse.specs.Reads.{refusal_place}
+use Rattle.ps_parse.specs.Reads.{IsFirstGrammarFault, StandsInText, refusal_place}
 use Rattle.ps_grammar.specs.Spelling.{NamePiece, Mark, pieces, relation_pieces, value_pieces, more_relations}
 use Rattle.ps_grammar.specs.Trees.{rows_of_relations}
 use Rattle.ps_grammar.specs.Words.{Word}
-use Rattle.ps_parse.specs.Reading.{begins_with, is_kind, place_of_next}
+use Rattle.ps_parse.specs.Kinds.{begins_with, is_kind, place_of_next}
 
 -- The words of a text, from those that were passed, the nearest first, and those ahead.
 abbrev pub words_at : List Word → List Word → List Word
@@ -170,6 +170,10 @@ abbrev pub IsClean : List Word → List Word → Type 0
 IsClean [] ahead = Unit {0}
 IsClean (w ∷ back) ahead = ((other : ReadRefusal) → ¬ IsCause back (w ∷ ahead) other) × IsClean back (w ∷ ahead)
 
+-- No word of a text has a cause of a refusal.
+abbrev pub HasNoCause : List Word → Type 0
+HasNoCause words = (back ahead : List Word) → words ≡ words_at back ahead → (refused : ReadRefusal) → ¬ IsCause back ahead refused
+
 -- the order of refusals at one place
 abbrev pub rank : ReadRefusal → ℕ
 rank (refusal.NotLinear p) = 0
@@ -190,3 +194,17 @@ pub record IsFirstCause (words : List Word) (end : Place) (refused : ReadRefusal
   pub cause : HasCauseOf back ahead refused
   pub first_here : (other : ReadRefusal) → IsCause back ahead other → rank refused ≤ rank other
   pub first : IsClean back ahead
+
+-- ---- what words are refused by
+
+-- where a fault of the grammar is said, it is the first one
+abbrev pub IsFaultIfSaid : List Word → Place → ReadRefusal → Type 0
+IsFaultIfSaid words end (refusal.Grammar p) = IsFirstGrammarFault words end p
+IsFaultIfSaid words end refused = Unit {0}
+
+-- The refusal stands at the first word that has a cause of one, not after the first fault of the grammar, and it says that
+-- fault nowhere else.
+pub record AreRefused (words : List Word) (end : Place) (refused : ReadRefusal) : Type 0 where
+  pub first : IsFirstCause words end refused
+  pub in_text : StandsInText words end refused
+  pub fault : IsFaultIfSaid words end refused

@@ -1,3 +1,9 @@
+pub mod Reading
+pub mod Variables
+pub mod Sums
+pub mod Conds
+pub mod Blocks
+pub mod Items
 pub mod Scoped
 pub mod Seen
 pub mod Signed

@@ -1,9 +1,5 @@
-pub mod Reading
-pub mod Variables
-pub mod Sums
-pub mod Conds
-pub mod Blocks
-pub mod Items
+pub mod Kinds
+pub mod Promises
 pub mod Reads
 pub mod Causes
 pub mod Texts

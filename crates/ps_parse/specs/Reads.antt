@@ -7,7 +7,7 @@ use Rattle.ps_tree.specs.declared.relation.Sign.TheVariants as sign
 use Rattle.ps_grammar.specs.Grammar.{RelationText, ItemText, global, local, init, ProgramText}
 use Rattle.ps_grammar.specs.Spelling.{pieces, piece_of_kind, program_pieces}
 use Rattle.ps_grammar.specs.Words.{Word}
-use Rattle.ps_parse.specs.Reading.{place_of_next}
+use Rattle.ps_parse.specs.Kinds.{place_of_next}
 
 -- ---- where no text of the grammar goes on
 

@@ -1,5 +1,5 @@
 -- Why a text of bytes is no program.
-use Rattle.std.specs.Prelude.{◌≡◌, ℕ, List, length}
+use Rattle.std.specs.Prelude.{◌⊎◌, ℕ, List, length}
 use Rattle.ps_token.specs.declared.place.Place.{Place}
 use Rattle.ps_token.specs.declared.token.Token.{Token}
 use Rattle.ps_token.specs.Lexing.{AreTokens, IsBadAt, place_of}
@@ -7,8 +7,9 @@ use Rattle.ps_token.specs.declared.token_end.TokenEnd.{TokenEnd}
 use Rattle.ps_token.specs.declared.token_end.TokenEnd.TheVariants as token
 use Rattle.ps_parse.specs.declared.read_refusal.ReadRefusal.{ReadRefusal}
 use Rattle.ps_parse.specs.declared.read_refusal.ReadRefusal.TheVariants as refusal
-use Rattle.ps_parse.specs.Causes.{IsFirstCause}
-use Rattle.ps_grammar.specs.Programs.{IsProgramText}
+use Rattle.ps_parse.specs.Causes.{AreRefused, IsFirstCause}
+use Rattle.ps_grammar.specs.Programs.{IsProgram}
+use Rattle.ps_tree.specs.declared.program.Program.{Program}
 use Rattle.ps_parse.specs.Reads.{IsFirstGrammarFault, StandsInText}
 use Rattle.ps_grammar.specs.Words.{words_of}
 
@@ -61,3 +62,13 @@ abbrev pub RefusalIsFirst : List ℕ → ReadRefusal → Type 0
 RefusalIsFirst bytes (refusal.Token place) = Unit {0}
 RefusalIsFirst bytes (refusal.Memory e) = Unit {0}
 RefusalIsFirst bytes refused = IsFirstRefusal bytes refused
+
+-- The text has tokens, and its words are refused by this.
+pub record IsRefused (bytes : List ℕ) (refused : ReadRefusal) : Type 0 where
+  pub tokens : List Token
+  pub cut : AreTokens bytes tokens
+  pub are : AreRefused (words_of bytes tokens) (end_of bytes) refused
+
+-- The text is a program, or its words are refused.
+abbrev pub IsAnswered : List ℕ → Type 0
+IsAnswered bytes = ((program : Program) × IsProgram bytes program) ⊎ ((refused : ReadRefusal) × IsRefused bytes refused)

@@ -2,19 +2,19 @@
 
 ghost use Rattle.std.specs.Prelude.{◌≡◌, ℕ, suc, [], ◌∷◌, List, true};
 ghost use Rattle.ps_token.specs.declared.token_kind.TokenKind.TheVariants as kind;
-ghost use Rattle.ps_tree.specs.declared.stmt.StmtKind.TheVariants as stmt;
-ghost use Rattle.ps_parse.specs.Reading.{ReadsTo, with_front, words_while, next_is, after_word, next_word};
+ghost use Rattle.ps_parse.specs.Inner.Reading.{ReadsTo, with_front, words_while, next_is, after_word, next_word};
 ghost use Rattle.ps_parse.specs.Inner.Scoped.{names_in};
-ghost use Rattle.ps_parse.specs.Blocks.{assign_at, havoc_at, cond_stmt_at, skip_at, atomic_at, else_at, if_at, while_stmt_at, kind_at, stmt_at, has_more, block_at};
+ghost use Rattle.ps_parse.specs.Inner.Conds.{cond_at};
+ghost use Rattle.ps_parse.specs.Inner.Blocks.{assign_at, ended_at, havoc_at, skip_at, atomic_at, else_at, if_at, while_stmt_at, kind_at, stmt_at, has_more, block_at};
 
 use crate::cursor::Cursor;
 use crate::parser::Parser;
 use crate::read_refusal::ReadRefusal;
 use ps_token::TokenKind;
-use ps_tree::{LimitName, Stmt, StmtKind};
+use ps_tree::{Cond, LimitName, Stmt, StmtKind};
 use sqlite_items::Items;
 
-#[tactic(auto, unfolding(crate::specs::Blocks::skip_at, crate::specs::Reading::after_word, ps_lines::specs::Steps::and_then))]
+#[tactic(auto, unfolding(crate::specs::Inner::Blocks::skip_at, crate::specs::Inner::Reading::after_word, ps_lines::specs::Steps::and_then))]
 fn skip<'b>(cursor: &mut Cursor<'b>) -> Result<StmtKind, ReadRefusal>
     ensures { ReadsTo (λ x. x) result cursor.new (skip_at cursor.old) }
 {
@@ -24,7 +24,7 @@ fn skip<'b>(cursor: &mut Cursor<'b>) -> Result<StmtKind, ReadRefusal>
 }
 
 impl<'a> Parser<'a> {
-    #[tactic(auto, unfolding(crate::specs::Blocks::assign_at, crate::specs::Blocks::ended_at, crate::specs::Reading::after_word, ps_lines::specs::Steps::and_then))]
+    #[tactic(auto, unfolding(crate::specs::Inner::Blocks::assign_at, crate::specs::Inner::Blocks::ended_at, crate::specs::Inner::Reading::after_word, ps_lines::specs::Steps::and_then))]
     fn assign<'b>(&self, cursor: &mut Cursor<'b>) -> Result<StmtKind, ReadRefusal>
         ensures { ReadsTo (λ x. x) result cursor.new
             (assign_at (names_in self.now.scope) self.now.most cursor.old) }
@@ -36,7 +36,7 @@ impl<'a> Parser<'a> {
         Ok(StmtKind::Assign(variable, sum))
     }
 
-    #[tactic(auto, unfolding(crate::specs::Blocks::havoc_at, crate::specs::Blocks::ended_at, crate::specs::Reading::after_word, ps_lines::specs::Steps::and_then))]
+    #[tactic(auto, unfolding(crate::specs::Inner::Blocks::havoc_at, crate::specs::Inner::Blocks::ended_at, crate::specs::Inner::Reading::after_word, ps_lines::specs::Steps::and_then))]
     fn havoc<'b>(&self, cursor: &mut Cursor<'b>) -> Result<StmtKind, ReadRefusal>
         ensures { ReadsTo (λ x. x) result cursor.new
             (havoc_at (names_in self.now.scope) cursor.old) }
@@ -47,32 +47,26 @@ impl<'a> Parser<'a> {
         Ok(StmtKind::Havoc(variable))
     }
 
-    #[tactic(auto, unfolding(crate::specs::Blocks::cond_stmt_at, crate::specs::Blocks::ended_at, crate::specs::Reading::after_word, ps_lines::specs::Steps::and_then))]
-    fn assume<'b>(&self, levels: u32, cursor: &mut Cursor<'b>) -> Result<StmtKind, ReadRefusal>
+    // The condition after `assume` or `assert`, up to `;`.
+    #[tactic(auto, unfolding(crate::specs::Inner::Blocks::ended_at, crate::specs::Inner::Reading::after_word, ps_lines::specs::Steps::and_then))]
+    fn claim<'b>(
+        &self,
+        word: TokenKind,
+        levels: u32,
+        cursor: &mut Cursor<'b>,
+    ) -> Result<Cond, ReadRefusal>
         ensures { ReadsTo (λ x. x) result cursor.new
-            (cond_stmt_at kind.Assume stmt.Assume
-            (names_in self.now.scope) self.now.most levels cursor.old) }
+            (after_word word (ended_at
+            (cond_at (names_in self.now.scope) self.now.most levels)) cursor.old) }
     {
-        cursor.word(TokenKind::Assume)?;
+        cursor.word(word)?;
         let cond = self.cond(levels, cursor)?;
         cursor.word(TokenKind::Semicolon)?;
-        Ok(StmtKind::Assume(cond))
-    }
-
-    #[tactic(auto, unfolding(crate::specs::Blocks::cond_stmt_at, crate::specs::Blocks::ended_at, crate::specs::Reading::after_word, ps_lines::specs::Steps::and_then))]
-    fn assertion<'b>(&self, levels: u32, cursor: &mut Cursor<'b>) -> Result<StmtKind, ReadRefusal>
-        ensures { ReadsTo (λ x. x) result cursor.new
-            (cond_stmt_at kind.Assert stmt.Assert
-            (names_in self.now.scope) self.now.most levels cursor.old) }
-    {
-        cursor.word(TokenKind::Assert)?;
-        let cond = self.cond(levels, cursor)?;
-        cursor.word(TokenKind::Semicolon)?;
-        Ok(StmtKind::Assert(cond))
+        Ok(cond)
     }
 
     #[cycle(block)]
-    #[tactic(auto, unfolding(crate::specs::Blocks::atomic_at, crate::specs::Reading::after_word, ps_lines::specs::Steps::and_then))]
+    #[tactic(auto, unfolding(crate::specs::Inner::Blocks::atomic_at, crate::specs::Inner::Reading::after_word, ps_lines::specs::Steps::and_then))]
     fn atomic<'b>(&self, levels: u32, cursor: &mut Cursor<'b>) -> Result<StmtKind, ReadRefusal>
         ensures { ReadsTo (λ x. x) result cursor.new
             (atomic_at (block_at (names_in self.now.scope) self.now.most levels true) cursor.old) }
@@ -84,7 +78,7 @@ impl<'a> Parser<'a> {
 
     // `else` and its block, or nothing.
     #[cycle(block)]
-    #[tactic(auto, unfolding(crate::specs::Blocks::else_at, crate::specs::Reading::after_word, ps_lines::specs::Steps::and_then))]
+    #[tactic(auto, unfolding(crate::specs::Inner::Blocks::else_at, crate::specs::Inner::Reading::after_word, ps_lines::specs::Steps::and_then))]
     fn otherwise<'b>(
         &self,
         levels: u32,
@@ -102,7 +96,7 @@ impl<'a> Parser<'a> {
     }
 
     #[cycle(block)]
-    #[tactic(auto, unfolding(crate::specs::Blocks::if_at, crate::specs::Reading::after_word, ps_lines::specs::Steps::and_then))]
+    #[tactic(auto, unfolding(crate::specs::Inner::Blocks::if_at, crate::specs::Inner::Reading::after_word, ps_lines::specs::Steps::and_then))]
     fn choice<'b>(
         &self,
         levels: u32,
@@ -121,7 +115,7 @@ impl<'a> Parser<'a> {
     }
 
     #[cycle(block)]
-    #[tactic(auto, unfolding(crate::specs::Blocks::while_stmt_at, crate::specs::Reading::after_word, ps_lines::specs::Steps::and_then))]
+    #[tactic(auto, unfolding(crate::specs::Inner::Blocks::while_stmt_at, crate::specs::Inner::Reading::after_word, ps_lines::specs::Steps::and_then))]
     fn repetition<'b>(
         &self,
         levels: u32,
@@ -143,7 +137,7 @@ impl<'a> Parser<'a> {
 
     // What a statement does, told by its first word.
     #[cycle(block)]
-    #[tactic(auto, unfolding(crate::specs::Blocks::kind_at))]
+    #[tactic(auto, unfolding(crate::specs::Inner::Blocks::kind_at, crate::specs::Inner::Blocks::cond_stmt_at, ps_lines::specs::Steps::and_then))]
     fn kind<'b>(
         &self,
         levels: u32,
@@ -159,9 +153,9 @@ impl<'a> Parser<'a> {
         } else if cursor.next_is(TokenKind::Havoc) {
             self.havoc(cursor)
         } else if cursor.next_is(TokenKind::Assume) {
-            self.assume(levels, cursor)
+            Ok(StmtKind::Assume(self.claim(TokenKind::Assume, levels, cursor)?))
         } else if cursor.next_is(TokenKind::Assert) {
-            self.assertion(levels, cursor)
+            Ok(StmtKind::Assert(self.claim(TokenKind::Assert, levels, cursor)?))
         } else if cursor.next_is(TokenKind::Skip) {
             skip(cursor)
         } else if cursor.next_is(TokenKind::Atomic) {
@@ -176,7 +170,7 @@ impl<'a> Parser<'a> {
     }
 
     #[cycle(block)]
-    #[tactic(auto, unfolding(crate::specs::Blocks::stmt_at, ps_lines::specs::Steps::and_then))]
+    #[tactic(auto, unfolding(crate::specs::Inner::Blocks::stmt_at, ps_lines::specs::Steps::and_then))]
     fn stmt<'b>(
         &self,
         levels: u32,
@@ -218,7 +212,7 @@ impl<'a> Parser<'a> {
 
     // A block, where so many levels may be opened in it.
     #[cycle(block)]
-    #[tactic(auto, unfolding(crate::specs::Blocks::block_at, ps_lines::specs::Steps::and_then))]
+    #[tactic(auto, unfolding(crate::specs::Inner::Blocks::block_at, ps_lines::specs::Steps::and_then))]
     fn nested_block<'b>(
         &self,
         levels: u32,
@@ -236,7 +230,7 @@ impl<'a> Parser<'a> {
 
     /// Takes a block, where so many levels may still be opened. No `while` stands in an atomic one.
     #[cycle(block)]
-    #[tactic(auto, unfolding(crate::specs::Blocks::block_at, ps_lines::specs::Steps::and_then))]
+    #[tactic(auto, unfolding(crate::specs::Inner::Blocks::block_at, ps_lines::specs::Steps::and_then))]
     pub(crate) fn block<'b>(
         &self,
         levels: u32,

@@ -4,9 +4,9 @@ ghost use Rattle.std.specs.Prelude.{◌≡◌, ℕ, suc, [], ◌∷◌, List};
 ghost use Rattle.ps_token.specs.declared.token_kind.TokenKind.TheVariants as kind;
 ghost use Rattle.ps_tree.specs.declared.cond.Cond.{Cond};
 ghost use Rattle.ps_tree.specs.declared.cond.Cond.TheVariants as cond;
-ghost use Rattle.ps_parse.specs.Reading.{ReadsTo, with_front, words_while, next_is, after_word};
+ghost use Rattle.ps_parse.specs.Inner.Reading.{ReadsTo, with_front, words_while, next_is, after_word};
 ghost use Rattle.ps_parse.specs.Inner.Scoped.{names_in};
-ghost use Rattle.ps_parse.specs.Conds.{one_or_all, conj_with, opens_at, unary_at, cond_at, test_at, parens_at};
+ghost use Rattle.ps_parse.specs.Inner.Conds.{one_or_all, conj_with, opens_at, unary_at, cond_at, test_at, parens_at};
 
 use crate::cursor::Cursor;
 use crate::parser::Parser;
@@ -41,7 +41,7 @@ fn any_of(mut members: Vec<Cond>) -> Cond
 }
 
 // Whether a condition opens a level.
-#[tactic(auto, unfolding(crate::specs::Conds::opens_at))]
+#[tactic(auto, unfolding(crate::specs::Inner::Conds::opens_at))]
 fn opens<'b>(cursor: &Cursor<'b>) -> bool
     ensures { result ≡ opens_at cursor.now }
 {
@@ -50,7 +50,7 @@ fn opens<'b>(cursor: &Cursor<'b>) -> bool
 
 impl<'a> Parser<'a> {
     // A condition without `&&` and `||`, where no level may be opened.
-    #[tactic(auto, unfolding(crate::specs::Conds::unary_at, ps_lines::specs::Steps::and_then))]
+    #[tactic(auto, unfolding(crate::specs::Inner::Conds::unary_at, ps_lines::specs::Steps::and_then))]
     fn flat_unary<'b>(&self, cursor: &mut Cursor<'b>) -> Result<Cond, ReadRefusal>
         ensures { ReadsTo (λ x. x) result cursor.new
             (unary_at (names_in self.now.scope) self.now.most 0 cursor.old) }
@@ -64,7 +64,7 @@ impl<'a> Parser<'a> {
 
     // The same, where one level may be opened, and so many more in it.
     #[cycle(cond)]
-    #[tactic(auto, unfolding(crate::specs::Conds::unary_at, crate::specs::Conds::cond_at, crate::specs::Reading::after_word, ps_lines::specs::Steps::and_then))]
+    #[tactic(auto, unfolding(crate::specs::Inner::Conds::unary_at, crate::specs::Inner::Conds::cond_at, crate::specs::Inner::Reading::after_word, ps_lines::specs::Steps::and_then))]
     fn nested_unary<'b>(&self, levels: u32, cursor: &mut Cursor<'b>) -> Result<Cond, ReadRefusal>
         ensures { ReadsTo (λ x. x) result cursor.new
             (unary_at (names_in self.now.scope) self.now.most (suc levels) cursor.old) }
@@ -98,7 +98,7 @@ impl<'a> Parser<'a> {
 
     // The further members of an `And`, after those that were read.
     #[cycle(cond)]
-    #[tactic(auto, using(crate::proofs::Repeated::repeats_none, crate::proofs::Repeated::repeats_more, crate::proofs::Repeated::repeats_stop, crate::proofs::Repeated::repeats_all), unfolding(crate::specs::Reading::after_word, ps_lines::specs::Steps::and_then))]
+    #[tactic(auto, using(crate::proofs::Repeated::repeats_none, crate::proofs::Repeated::repeats_more, crate::proofs::Repeated::repeats_stop, crate::proofs::Repeated::repeats_all), unfolding(crate::specs::Inner::Reading::after_word, ps_lines::specs::Steps::and_then))]
     fn further_unaries<'b>(
         &self,
         levels: u32,
@@ -123,7 +123,7 @@ impl<'a> Parser<'a> {
 
     // Conditions with `&&` between them.
     #[cycle(cond)]
-    #[tactic(auto, unfolding(crate::specs::Conds::conj_with, crate::specs::Conds::members_at, ps_lines::specs::Steps::and_then))]
+    #[tactic(auto, unfolding(crate::specs::Inner::Conds::conj_with, crate::specs::Inner::Conds::members_at, ps_lines::specs::Steps::and_then))]
     fn conj<'b>(&self, levels: u32, cursor: &mut Cursor<'b>) -> Result<Cond, ReadRefusal>
         ensures { ReadsTo (λ x. x) result cursor.new
             (conj_with (unary_at
@@ -138,7 +138,7 @@ impl<'a> Parser<'a> {
 
     // The further members of an `Or`, after those that were read.
     #[cycle(cond)]
-    #[tactic(auto, using(crate::proofs::Repeated::repeats_none, crate::proofs::Repeated::repeats_more, crate::proofs::Repeated::repeats_stop, crate::proofs::Repeated::repeats_all), unfolding(crate::specs::Reading::after_word, ps_lines::specs::Steps::and_then))]
+    #[tactic(auto, using(crate::proofs::Repeated::repeats_none, crate::proofs::Repeated::repeats_more, crate::proofs::Repeated::repeats_stop, crate::proofs::Repeated::repeats_all), unfolding(crate::specs::Inner::Reading::after_word, ps_lines::specs::Steps::and_then))]
     fn further_conjs<'b>(
         &self,
         levels: u32,
@@ -164,7 +164,7 @@ impl<'a> Parser<'a> {
 
     /// Takes a condition, where so many levels may still be opened.
     #[cycle(cond)]
-    #[tactic(auto, unfolding(crate::specs::Conds::cond_at, crate::specs::Conds::cond_with, crate::specs::Conds::members_at, ps_lines::specs::Steps::and_then))]
+    #[tactic(auto, unfolding(crate::specs::Inner::Conds::cond_at, crate::specs::Inner::Conds::cond_with, crate::specs::Inner::Conds::members_at, ps_lines::specs::Steps::and_then))]
     pub(crate) fn cond<'b>(&self, levels: u32, cursor: &mut Cursor<'b>) -> Result<Cond, ReadRefusal>
         ensures { ReadsTo (λ x. x) result cursor.new
             (cond_at (names_in self.now.scope) self.now.most levels cursor.old) }
@@ -177,7 +177,7 @@ impl<'a> Parser<'a> {
     }
 
     // What stands in the parentheses after `if` and `while`.
-    #[tactic(auto, unfolding(crate::specs::Conds::test_at, ps_lines::specs::Steps::and_then))]
+    #[tactic(auto, unfolding(crate::specs::Inner::Conds::test_at, ps_lines::specs::Steps::and_then))]
     fn test<'b>(&self, levels: u32, cursor: &mut Cursor<'b>) -> Result<Test, ReadRefusal>
         ensures { ReadsTo (λ x. x) result cursor.new
             (test_at (names_in self.now.scope) self.now.most levels cursor.old) }
@@ -191,7 +191,7 @@ impl<'a> Parser<'a> {
     }
 
     // A test in its parentheses, where so many levels may be opened in them.
-    #[tactic(auto, unfolding(crate::specs::Conds::parens_at, ps_lines::specs::Steps::and_then))]
+    #[tactic(auto, unfolding(crate::specs::Inner::Conds::parens_at, ps_lines::specs::Steps::and_then))]
     fn nested_parens<'b>(&self, levels: u32, cursor: &mut Cursor<'b>) -> Result<Test, ReadRefusal>
         ensures { ReadsTo (λ x. x) result cursor.new
             (parens_at (names_in self.now.scope) self.now.most (suc levels) cursor.old) }
@@ -203,7 +203,7 @@ impl<'a> Parser<'a> {
     }
 
     /// Takes a test in its parentheses, which open a level, where so many may still be opened.
-    #[tactic(auto, unfolding(crate::specs::Conds::parens_at, ps_lines::specs::Steps::and_then))]
+    #[tactic(auto, unfolding(crate::specs::Inner::Conds::parens_at, ps_lines::specs::Steps::and_then))]
     pub(crate) fn parens<'b>(
         &self,
         levels: u32,

@@ -3,7 +3,9 @@
 ghost use Rattle.std.specs.Prelude.{◌≡◌, ℕ, Ok, IfOk, if◌then◌else◌};
 ghost use Rattle.ps_token.specs.declared.token_kind.TokenKind.TheVariants.{Number};
 ghost use Rattle.ps_token.specs.Lexing.{IsNumber};
-ghost use Rattle.ps_parse.specs.Reading.{WordsAhead, is_kind, place_at, next_is, next_word, words_end, ReadsTo, ReadsWhole};
+ghost use Rattle.ps_parse.specs.Inner.Reading.{WordsAhead, place_at, next_is, next_word, words_end, ReadsTo};
+ghost use Rattle.ps_parse.specs.Kinds.{is_kind};
+ghost use Rattle.ps_parse.specs.Promises.{ReadsWhole};
 ghost use Rattle.ps_lines.specs.Steps.{and_then};
 ghost use Rattle.ps_grammar.specs.Words.{words_of};
 ghost use Rattle.ps_parse.specs.Inner.Seen.{seen_word};
@@ -11,7 +13,7 @@ ghost use Rattle.ps_parse.specs.Inner.Steps.{passed};
 ghost use Rattle.ps_parse.specs.Inner.Within.{AreWithin};
 ghost use Rattle.ps_parse.specs.Inner.Signed.{signs_of};
 ghost use Rattle.ps_grammar.specs.Numbers.{number_value};
-ghost use Rattle.ps_parse.specs.Sums.{sign_ahead};
+ghost use Rattle.ps_parse.specs.Inner.Sums.{sign_ahead};
 
 use crate::read_refusal::ReadRefusal;
 use crate::signs::Signs;
@@ -29,7 +31,7 @@ pub(crate) struct Cursor<'a> {
 }
 
 impl<'a> Model for Cursor<'a> {
-    ghost use Rattle.ps_parse.specs.Reading.{WordsAhead};
+    ghost use Rattle.ps_parse.specs.Inner.Reading.{WordsAhead};
     ghost use Rattle.ps_grammar.specs.Words.{words_of};
     ghost use Rattle.ps_parse.specs.Inner.Within.{AreWithin};
 
@@ -74,7 +76,7 @@ impl<'a> Cursor<'a> {
     }
 
     /// Takes the next word, which is of the kind.
-    #[tactic(auto, unfolding(crate::specs::Reading::next_word))]
+    #[tactic(auto, unfolding(crate::specs::Inner::Reading::next_word))]
     pub(crate) fn word(&mut self, kind: TokenKind) -> Result<Word<'a>, ReadRefusal>
         ensures gives { ReadsTo seen_word result self.new (next_word kind self.old) }
         ensures number { kind ≡ Number → IfOk result (λ word. IsNumber word.text.now) }
@@ -107,7 +109,7 @@ impl<'a> Cursor<'a> {
     }
 
     /// Takes the next word, which is a sign.
-    #[tactic(auto, unfolding(crate::specs::Sums::sign_ahead, ps_lines::specs::Steps::and_then))]
+    #[tactic(auto, unfolding(crate::specs::Inner::Sums::sign_ahead, ps_lines::specs::Steps::and_then))]
     pub(crate) fn sign(&mut self, signs: Signs) -> Result<Sign, ReadRefusal>
         ensures { ReadsTo (λ sign. sign) result self.new (sign_ahead (signs_of signs) self.old) }
     {
@@ -126,7 +128,7 @@ impl<'a> Cursor<'a> {
     }
 
     /// Takes the next word if it is of the kind, and says whether it was.
-    #[tactic(auto, unfolding(crate::specs::Reading::next_word))]
+    #[tactic(auto, unfolding(crate::specs::Inner::Reading::next_word))]
     pub(crate) fn passes(&mut self, kind: TokenKind) -> bool
         ensures { (rest : WordsAhead → ℕ)
             → passed rest (next_word kind self.old) ≡ (if result then rest self.new else 0) }

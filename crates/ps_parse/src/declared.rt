@@ -3,7 +3,7 @@
 ghost use Rattle.std.specs.Prelude.{◌≡◌, ◌<◌, ◌≤◌, [], ◌∷◌, ◌++◌, map, length, IfOk};
 ghost use Rattle.ps_grammar.specs.Names.{variable_of_name, position_from};
 ghost use Rattle.ps_grammar.specs.Declarations.{most_globals, most_locals, most_rows, names_of, nothing_declared};
-ghost use Rattle.ps_parse.specs.Items.{with_rows};
+ghost use Rattle.ps_parse.specs.Inner.Items.{with_rows};
 ghost use Rattle.ps_tree.specs.declared.global_decl.GlobalDecl.{GlobalDecl};
 
 use ps_term::Var;

@@ -3,11 +3,11 @@
 ghost use Rattle.std.specs.Prelude.{◌≡◌, ℕ, ◌+◌, ◌*◌, ◌<◌, ◌≤◌, ℤ, None, Some, Option, [], ◌∷◌, length, IfOk};
 ghost use Rattle.ps_token.specs.declared.token_kind.TokenKind.TheVariants as kind;
 ghost use Rattle.ps_tree.specs.declared.relation.Relation.{Relation};
-ghost use Rattle.ps_parse.specs.Reading.{WordsAhead, ReadsTo, with_front, words_while, next_is, after_word};
+ghost use Rattle.ps_parse.specs.Inner.Reading.{WordsAhead, ReadsTo, with_front, words_while, next_is, after_word};
 ghost use Rattle.ps_parse.specs.Inner.Scoped.{names_in};
-ghost use Rattle.ps_parse.specs.Sums.{init_sign_of, relation_at};
+ghost use Rattle.ps_parse.specs.Inner.Sums.{init_sign_of, relation_at};
 ghost use Rattle.ps_parse.specs.Inner.Steps.{declared_value_at, relations_at, rows_then};
-ghost use Rattle.ps_parse.specs.Items.{new_name_at, signed_number_ahead, declared_value_ahead, rows_counted_on, rows_from, item_rows, global_at, local_at, init_at, counted_item_at, item_at, has_item, items_at};
+ghost use Rattle.ps_parse.specs.Inner.Items.{new_name_at, signed_number_ahead, declared_value_ahead, rows_counted_on, rows_from, item_rows, global_at, local_at, init_at, counted_item_at, item_at, has_item, items_at};
 ghost use Rattle.ps_grammar.specs.Declarations.{rows_of_sign, rows_of_value, nothing_declared};
 
 use crate::cursor::Cursor;
@@ -22,7 +22,7 @@ use ps_tree::{GlobalDecl, LimitName, Name, Relation, Sign};
 use std::alloc::{AllocError, Global};
 
 // A number, which may have a `-` before it.
-#[tactic(auto, unfolding(crate::specs::Items::signed_number_ahead, crate::specs::Reading::after_word, ps_lines::specs::Steps::and_then))]
+#[tactic(auto, unfolding(crate::specs::Inner::Items::signed_number_ahead, crate::specs::Inner::Reading::after_word, ps_lines::specs::Steps::and_then))]
 fn number<'b>(cursor: &mut Cursor<'b>) -> Result<i128, ReadRefusal>
     ensures { ReadsTo (λ x. x) result cursor.new (signed_number_ahead cursor.old) }
 {
@@ -36,7 +36,7 @@ fn number<'b>(cursor: &mut Cursor<'b>) -> Result<i128, ReadRefusal>
 }
 
 // `=` and a number, or nothing.
-#[tactic(auto, unfolding(crate::specs::Items::declared_value_ahead, crate::specs::Reading::after_word, ps_lines::specs::Steps::and_then))]
+#[tactic(auto, unfolding(crate::specs::Inner::Items::declared_value_ahead, crate::specs::Inner::Reading::after_word, ps_lines::specs::Steps::and_then))]
 fn value<'b>(cursor: &mut Cursor<'b>) -> Result<Option<i128>, ReadRefusal>
     ensures { ReadsTo (λ x. x) result cursor.new (declared_value_ahead cursor.old) }
 {
@@ -49,7 +49,7 @@ fn value<'b>(cursor: &mut Cursor<'b>) -> Result<Option<i128>, ReadRefusal>
 }
 
 // A name that isn't declared yet, and that isn't one too many.
-#[tactic(auto, unfolding(crate::specs::Items::new_name_at, ps_lines::specs::Steps::and_then))]
+#[tactic(auto, unfolding(crate::specs::Inner::Items::new_name_at, ps_lines::specs::Steps::and_then))]
 fn new_name<'b>(
     alloc: Global,
     declared: &Declared,
@@ -127,7 +127,7 @@ fn init_rows<'b>(alloc: Global, most: u32, cursor: &mut Cursor<'b>) -> Result<u6
 }
 
 // The value of a global, which stands after its name.
-#[tactic(auto, unfolding(crate::specs::Inner::Steps::declared_value_at, crate::specs::Reading::after_word, ps_lines::specs::Steps::and_then))]
+#[tactic(auto, unfolding(crate::specs::Inner::Steps::declared_value_at, crate::specs::Inner::Reading::after_word, ps_lines::specs::Steps::and_then))]
 fn declared_value<'b>(cursor: &mut Cursor<'b>) -> Result<Option<i128>, ReadRefusal>
     ensures { ReadsTo (λ x. x) result cursor.new (declared_value_at cursor.old) }
 {
@@ -152,7 +152,7 @@ fn value_rows<'b>(cursor: &mut Cursor<'b>) -> Result<u64, AllocError>
 }
 
 // How many rows an item gives, as far as it is of the grammar.
-#[tactic(auto, unfolding(crate::specs::Items::item_rows, crate::specs::Inner::Steps::declared_value_at))]
+#[tactic(auto, unfolding(crate::specs::Inner::Items::item_rows, crate::specs::Inner::Steps::declared_value_at))]
 fn item_rows<'b>(alloc: Global, most: u32, cursor: &mut Cursor<'b>) -> Result<u64, AllocError>
     ensures is { IfOk result (λ rows. rows ≡ item_rows most cursor.old) }
     ensures few { IfOk result (λ rows. rows ≤ 2 * most + 2) }
@@ -172,7 +172,7 @@ fn item_rows<'b>(alloc: Global, most: u32, cursor: &mut Cursor<'b>) -> Result<u6
 // ---- items
 
 // `global NAME (= number)? ;`
-#[tactic(auto, unfolding(crate::specs::Items::global_at, crate::specs::Blocks::ended_at, crate::specs::Reading::after_word, ps_lines::specs::Steps::and_then))]
+#[tactic(auto, unfolding(crate::specs::Inner::Items::global_at, crate::specs::Inner::Blocks::ended_at, crate::specs::Inner::Reading::after_word, ps_lines::specs::Steps::and_then))]
 fn global<'b>(
     alloc: Global,
     declared: Declared,
@@ -196,7 +196,7 @@ fn global<'b>(
 }
 
 // `local NAME ;`
-#[tactic(auto, unfolding(crate::specs::Items::local_at, crate::specs::Blocks::ended_at, crate::specs::Reading::after_word, ps_lines::specs::Steps::and_then))]
+#[tactic(auto, unfolding(crate::specs::Inner::Items::local_at, crate::specs::Inner::Blocks::ended_at, crate::specs::Inner::Reading::after_word, ps_lines::specs::Steps::and_then))]
 fn local<'b>(
     alloc: Global,
     declared: Declared,
@@ -220,7 +220,7 @@ fn local<'b>(
 
 impl<'a> Parser<'a> {
     // The further relations of an `init` item, after those that were read.
-    #[tactic(auto, using(crate::proofs::Repeated::repeats_none, crate::proofs::Repeated::repeats_more, crate::proofs::Repeated::repeats_stop, crate::proofs::Repeated::repeats_all), unfolding(crate::specs::Reading::after_word, ps_lines::specs::Steps::and_then))]
+    #[tactic(auto, using(crate::proofs::Repeated::repeats_none, crate::proofs::Repeated::repeats_more, crate::proofs::Repeated::repeats_stop, crate::proofs::Repeated::repeats_all), unfolding(crate::specs::Inner::Reading::after_word, ps_lines::specs::Steps::and_then))]
     fn further_relations<'b>(
         &self,
         mut relations: Vec<Relation>,
@@ -244,7 +244,7 @@ impl<'a> Parser<'a> {
     }
 
     // The relations of an `init` item.
-    #[tactic(auto, unfolding(crate::specs::Inner::Steps::relations_at, crate::specs::Blocks::ended_at, crate::specs::Reading::after_word, ps_lines::specs::Steps::and_then))]
+    #[tactic(auto, unfolding(crate::specs::Inner::Steps::relations_at, crate::specs::Inner::Blocks::ended_at, crate::specs::Inner::Reading::after_word, ps_lines::specs::Steps::and_then))]
     fn relations<'b>(&self, cursor: &mut Cursor<'b>) -> Result<Vec<Relation>, ReadRefusal>
         ensures { ReadsTo (λ v. v.items) result cursor.new
             (relations_at (names_in self.now.scope) self.now.most cursor.old) }
@@ -260,7 +260,7 @@ impl<'a> Parser<'a> {
 }
 
 // `init rel (&& rel)* ;`
-#[tactic(auto, unfolding(crate::specs::Items::init_at, crate::specs::Inner::Steps::relations_at, ps_lines::specs::Steps::and_then))]
+#[tactic(auto, unfolding(crate::specs::Inner::Items::init_at, crate::specs::Inner::Steps::relations_at, ps_lines::specs::Steps::and_then))]
 fn init<'b>(
     alloc: Global,
     most: u32,
@@ -279,7 +279,7 @@ fn init<'b>(
 }
 
 // An item, whose rows are counted.
-#[tactic(auto, unfolding(crate::specs::Items::counted_item_at))]
+#[tactic(auto, unfolding(crate::specs::Inner::Items::counted_item_at))]
 fn counted_item<'b>(
     alloc: Global,
     most: u32,
@@ -298,7 +298,7 @@ fn counted_item<'b>(
 }
 
 // An item.
-#[tactic(auto, unfolding(crate::specs::Items::item_at))]
+#[tactic(auto, unfolding(crate::specs::Inner::Items::item_at))]
 fn item<'b>(
     alloc: Global,
     most: u32,

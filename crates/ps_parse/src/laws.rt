@@ -1,11 +1,15 @@
 //! Facts about the texts of programs and their faults: each function does no work, and its clause is the fact.
 
 ghost use Rattle.std.specs.Prelude.{◌≡◌, ◌++◌, ℕ, List};
+ghost use Rattle.ps_token.specs.Lexing.{AreTokens};
 ghost use Rattle.ps_token.specs.declared.place.Place.{Place};
+ghost use Rattle.ps_token.specs.declared.token.Token.{Token};
 ghost use Rattle.ps_tree.specs.declared.program.Program.{Program};
 ghost use Rattle.ps_grammar.specs.Programs.{IsProgram, IsProgramText};
 ghost use Rattle.ps_grammar.specs.Words.{Word};
-ghost use Rattle.ps_parse.specs.Reads.{IsFirstGrammarFault, PassesGrammar, StandsInText};
+ghost use Rattle.ps_parse.specs.Causes.{HasNoCause};
+ghost use Rattle.ps_parse.specs.Reads.{IsFirstGrammarFault, IsText, PassesGrammar, StandsInText};
+ghost use Rattle.ps_parse.specs.Texts.{GrammarIsFault, IsAnswered, IsFirstRefusal, IsInText, IsRefused};
 ghost use Rattle.ps_parse.specs.declared.read_refusal.ReadRefusal.{ReadRefusal};
 
 /// Words are one program at most.
@@ -35,4 +39,25 @@ pub fn faults_go_first()
 /// Bytes spell at most one program.
 pub fn one_program_of_bytes()
     ensures { (bytes : List ℕ) (p q : Program) → IsProgram bytes p → IsProgram bytes q → p ≡ q }
+{}
+
+/// Words are a program exactly where they are a text of the grammar and none of them has a cause of a refusal.
+pub fn programs_have_no_cause()
+    ensures text { (words : List Word) (program : Program) → IsProgramText words program
+        → IsText words × HasNoCause words }
+    ensures program { (words : List Word) → IsText words → HasNoCause words
+        → (program : Program) × IsProgramText words program }
+{}
+
+/// A text is refused in one way at most, and not where it is a program; one that has tokens is a program or refused.
+pub fn one_answer()
+    ensures one { (bytes : List ℕ) (e f : ReadRefusal) → IsRefused bytes e → IsRefused bytes f
+        → e ≡ f }
+    ensures none { (bytes : List ℕ) (program : Program) (e : ReadRefusal)
+        → IsProgram bytes program → ¬ IsRefused bytes e }
+    ensures some { (bytes : List ℕ) (list : List Token) → AreTokens bytes list
+        → IsAnswered bytes }
+    // What `read_program` promises of a refusal of the words is that it refuses them.
+    ensures promised { (bytes : List ℕ) (e : ReadRefusal) → IsFirstRefusal bytes e
+        → IsInText bytes e → GrammarIsFault bytes e → IsRefused bytes e }
 {}

@@ -1,8 +1,8 @@
 //! Reading programs, with the first refusal.
 //!
-//! Its definitions, in the order to read them: `Reads` (where no text of the grammar goes on), `Causes` (why each other
-//! refusal stands at a word) and `Texts` (both of bytes); `Reading`, `Variables`, `Sums`, `Conds`, `Blocks` and `Items` (a
-//! reading function for each rule); `Refusals` (the lines that tell refusals). `Inner` is for private clauses alone.
+//! Its definitions, in the order to read them: `Kinds` (of words), `Reads` (where no text of the grammar goes on), `Causes`
+//! (why each other refusal stands at a word, and what refuses words), `Texts` (both of bytes), `Promises` (what a call answers)
+//! and `Refusals` (the lines that tell refusals). `Inner` is for private clauses alone: a reading function for each rule.
 #![tactic(auto)]
 
 mod blocks;

@@ -1,15 +1,14 @@
 //! Reading a program, or its first refusal.
 
-ghost use Rattle.std.specs.Prelude.{◌≡◌, ◌+◌, ◌<◌, ◌^◌, List, length, IfOk, IfErr, Ok, Err};
+ghost use Rattle.std.specs.Prelude.{◌≡◌, ◌+◌, ◌<◌, ◌^◌, length, IfOk, IfErr, Ok, Err};
 ghost use Rattle.ps_token.specs.declared.place.Place.{Place};
-ghost use Rattle.ps_token.specs.declared.token.Token.{Token};
-ghost use Rattle.ps_token.specs.Lexing.{AreTokens, IsBadAt};
+ghost use Rattle.ps_token.specs.Lexing.{IsBadAt};
 ghost use Rattle.ps_tree.specs.declared.program.Program.{Program};
 ghost use Rattle.ps_parse.specs.declared.read_refusal.ReadRefusal.TheVariants as refusal;
 ghost use Rattle.ps_parse.specs.Inner.Within.{AreWithin};
-ghost use Rattle.ps_parse.specs.Reading.{ReadsWhole};
+ghost use Rattle.ps_parse.specs.Promises.{ReadsWhole};
 ghost use Rattle.ps_grammar.specs.Words.{words_of};
-ghost use Rattle.ps_parse.specs.Items.{program_at, program_in};
+ghost use Rattle.ps_parse.specs.Inner.Items.{program_at, program_in};
 ghost use Rattle.ps_parse.specs.Texts.{end_of, uncut, TokenIsBad, GrammarIsFault, RefusalIsInText, RefusalIsFirst};
 ghost use Rattle.ps_grammar.specs.Programs.{IsProgram};
 
@@ -24,7 +23,7 @@ use ps_tree::Program;
 use std::alloc::Global;
 
 // The whole text, of at most so many words.
-#[tactic(auto, unfolding(crate::specs::Items::program_at, crate::specs::Reading::after_word, ps_lines::specs::Steps::and_then))]
+#[tactic(auto, unfolding(crate::specs::Inner::Items::program_at, crate::specs::Inner::Reading::after_word, ps_lines::specs::Steps::and_then))]
 fn program<'b>(alloc: Global, most: u32, cursor: &mut Cursor<'b>) -> Result<Program, ReadRefusal>
     ensures { ReadsWhole (λ x. x) result (program_at most cursor.old) }
 {
@@ -71,9 +70,6 @@ pub fn read_program(alloc: Global, bytes: &[u8]) -> Result<Program, ReadRefusal>
     // A text of the grammar that fits is read as its tree, unless memory runs out.
     ensures only { (program : Program) → IsProgram bytes.now program
         → ReadsWhole (λ x. x) result (Ok program) }
-    // Which refusal it is.
-    ensures exact { (list : List Token) → AreTokens bytes.now list
-        → ReadsWhole (λ x. x) result (program_in (words_of bytes.now list) (end_of bytes.now)) }
     // A bad byte goes before all other refusals, and `Token` is said of nothing else.
     ensures bad { (place : Place) → IsBadAt bytes.now place
         → ReadsWhole {A = Program} (λ x. x) result (Err (refusal.Token place)) }

@@ -1,7 +1,7 @@
 //! Which names stand for variables.
 
 ghost use Rattle.std.specs.Prelude.{◌≡◌};
-ghost use Rattle.ps_parse.specs.Variables.{variable_in};
+ghost use Rattle.ps_parse.specs.Inner.Variables.{variable_in};
 ghost use Rattle.ps_parse.specs.Inner.Scoped.{names_in};
 
 use crate::declared::Declared;

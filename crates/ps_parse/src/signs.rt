@@ -2,7 +2,7 @@
 
 ghost use Rattle.std.specs.Prelude.{◌≡◌};
 ghost use Rattle.ps_parse.specs.Inner.Signed.{signs_of};
-ghost use Rattle.ps_parse.specs.Sums.{sign_of};
+ghost use Rattle.ps_parse.specs.Inner.Sums.{sign_of};
 
 use ps_token::TokenKind;
 use ps_tree::Sign;

@@ -3,11 +3,11 @@
 ghost use Rattle.std.specs.Prelude.{◌≡◌, ℤ, neg_ℤ, [], ◌∷◌, Option, Some, None, ◌≤ℤ◌, ◌<ℤ◌, pos};
 ghost use Rattle.ps_term.specs.declared.var.Var.{Var};
 ghost use Rattle.ps_token.specs.declared.token_kind.TokenKind.TheVariants as kind;
-ghost use Rattle.ps_parse.specs.Reading.{ReadsTo, with_front, words_while, place_at, next_is};
-ghost use Rattle.ps_parse.specs.Variables.{variable_at};
+ghost use Rattle.ps_parse.specs.Inner.Reading.{ReadsTo, with_front, words_while, place_at, next_is};
+ghost use Rattle.ps_parse.specs.Inner.Variables.{variable_at};
 ghost use Rattle.ps_parse.specs.Inner.Scoped.{names_in};
 ghost use Rattle.ps_parse.specs.Inner.Signed.{signs_of};
-ghost use Rattle.ps_parse.specs.Sums.{factor_at, number_product_at, name_product_at, product_at, first_product_at, further_product_at, adds, sum_at, sign_ahead, sign_of, relation_at};
+ghost use Rattle.ps_parse.specs.Inner.Sums.{factor_at, number_product_at, name_product_at, product_at, first_product_at, further_product_at, adds, sum_at, sign_ahead, sign_of, relation_at};
 ghost use Rattle.ps_grammar.specs.Numbers.{signed};
 
 use crate::cursor::Cursor;
@@ -20,7 +20,7 @@ use ps_tree::{Relation, Sign, Sum};
 use sqlite_items::Items;
 
 // The number in a product after a name: a second name there isn't linear.
-#[tactic(auto, unfolding(crate::specs::Sums::factor_at))]
+#[tactic(auto, unfolding(crate::specs::Inner::Sums::factor_at))]
 fn factor<'b>(cursor: &mut Cursor<'b>) -> Result<i64, ReadRefusal>
     ensures { ReadsTo (λ x. x) result cursor.new (factor_at cursor.old) }
 {
@@ -39,7 +39,7 @@ fn adds<'b>(cursor: &Cursor<'b>) -> bool
 
 impl<'a> Parser<'a> {
     /// Takes a declared name.
-    #[tactic(auto, unfolding(crate::specs::Variables::variable_at, ps_lines::specs::Steps::and_then))]
+    #[tactic(auto, unfolding(crate::specs::Inner::Variables::variable_at, ps_lines::specs::Steps::and_then))]
     pub(crate) fn variable<'b>(&self, cursor: &mut Cursor<'b>) -> Result<Var, ReadRefusal>
         ensures { ReadsTo (λ x. x) result cursor.new
             (variable_at (names_in self.now.scope) cursor.old) }
@@ -52,7 +52,7 @@ impl<'a> Parser<'a> {
     }
 
     // A number, and the name that follows it and `*`.
-    #[tactic(auto, unfolding(crate::specs::Sums::number_product_at, crate::specs::Reading::after_word, ps_lines::specs::Steps::and_then))]
+    #[tactic(auto, unfolding(crate::specs::Inner::Sums::number_product_at, crate::specs::Inner::Reading::after_word, ps_lines::specs::Steps::and_then))]
     fn number_product<'b>(&self, cursor: &mut Cursor<'b>) -> Result<(i64, Option<Var>), ReadRefusal>
         ensures { ReadsTo (λ x. x) result cursor.new
             (number_product_at (names_in self.now.scope) cursor.old) }
@@ -67,7 +67,7 @@ impl<'a> Parser<'a> {
     }
 
     // A name, and the number that follows it and `*`.
-    #[tactic(auto, unfolding(crate::specs::Sums::name_product_at, crate::specs::Reading::after_word, ps_lines::specs::Steps::and_then))]
+    #[tactic(auto, unfolding(crate::specs::Inner::Sums::name_product_at, crate::specs::Inner::Reading::after_word, ps_lines::specs::Steps::and_then))]
     fn name_product<'b>(&self, cursor: &mut Cursor<'b>) -> Result<(i64, Option<Var>), ReadRefusal>
         ensures { ReadsTo (λ x. x) result cursor.new
             (name_product_at (names_in self.now.scope) cursor.old) }
@@ -81,7 +81,7 @@ impl<'a> Parser<'a> {
         Ok((number, Some(variable)))
     }
 
-    #[tactic(auto, unfolding(crate::specs::Sums::product_at))]
+    #[tactic(auto, unfolding(crate::specs::Inner::Sums::product_at))]
     fn product<'b>(&self, cursor: &mut Cursor<'b>) -> Result<(i64, Option<Var>), ReadRefusal>
         ensures { ReadsTo (λ x. x) result cursor.new
             (product_at (names_in self.now.scope) cursor.old) }
@@ -94,7 +94,7 @@ impl<'a> Parser<'a> {
     }
 
     // The first product of a sum, which may have a `-` before it.
-    #[tactic(auto, unfolding(crate::specs::Sums::first_product_at, crate::specs::Reading::after_word, ps_lines::specs::Steps::and_then))]
+    #[tactic(auto, unfolding(crate::specs::Inner::Sums::first_product_at, crate::specs::Inner::Reading::after_word, ps_lines::specs::Steps::and_then))]
     fn first_product<'b>(&self, cursor: &mut Cursor<'b>) -> Result<(i128, Option<Var>), ReadRefusal>
         ensures { ReadsTo (λ x. x) result cursor.new
             (first_product_at (names_in self.now.scope) cursor.old) }
@@ -109,7 +109,7 @@ impl<'a> Parser<'a> {
     }
 
     // A further product with its `+` or `-`.
-    #[tactic(auto, unfolding(crate::specs::Sums::further_product_at, crate::specs::Reading::after_word, ps_lines::specs::Steps::and_then))]
+    #[tactic(auto, unfolding(crate::specs::Inner::Sums::further_product_at, crate::specs::Inner::Reading::after_word, ps_lines::specs::Steps::and_then))]
     fn further_product<'b>(
         &self,
         cursor: &mut Cursor<'b>,
@@ -149,7 +149,7 @@ impl<'a> Parser<'a> {
     }
 
     /// Takes a sum.
-    #[tactic(auto, unfolding(crate::specs::Sums::sum_at, ps_lines::specs::Steps::and_then))]
+    #[tactic(auto, unfolding(crate::specs::Inner::Sums::sum_at, ps_lines::specs::Steps::and_then))]
     pub(crate) fn sum<'b>(&self, cursor: &mut Cursor<'b>) -> Result<Sum, ReadRefusal>
         ensures { ReadsTo (λ x. x) result cursor.new
             (sum_at (names_in self.now.scope) self.now.most cursor.old) }
@@ -164,7 +164,7 @@ impl<'a> Parser<'a> {
     }
 
     /// Takes a relation.
-    #[tactic(auto, unfolding(crate::specs::Sums::relation_at, ps_lines::specs::Steps::and_then))]
+    #[tactic(auto, unfolding(crate::specs::Inner::Sums::relation_at, ps_lines::specs::Steps::and_then))]
     pub(crate) fn relation<'b>(
         &self,
         signs: Signs,

@@ -3,11 +3,11 @@ use Rattle.std.specs.Prelude.{ℕ, ◌+◌, List, ◌∷◌, ℤ, Option, Some, 
 use Rattle.ps_token.specs.declared.token_kind.TokenKind.TheVariants as kind
 use Rattle.ps_parse.specs.declared.read_refusal.ReadRefusal.{ReadRefusal}
 use Rattle.ps_tree.specs.declared.relation.Relation.{Relation}
-use Rattle.ps_parse.specs.Blocks.{ended_at}
-use Rattle.ps_parse.specs.Items.{rows_counted_on, declared_value_ahead}
+use Rattle.ps_parse.specs.Inner.Blocks.{ended_at}
+use Rattle.ps_parse.specs.Inner.Items.{rows_counted_on, declared_value_ahead}
 use Rattle.ps_grammar.specs.Names.{Names}
-use Rattle.ps_parse.specs.Sums.{init_sign_of, relation_at}
-use Rattle.ps_parse.specs.Reading.{WordsAhead, ReadWords, after_word, next_is, words_while}
+use Rattle.ps_parse.specs.Inner.Sums.{init_sign_of, relation_at}
+use Rattle.ps_parse.specs.Inner.Reading.{WordsAhead, ReadWords, after_word, next_is, words_while}
 use Rattle.ps_lines.specs.Steps.{◌>>=◌}
 use Rattle.ps_grammar.specs.Words.{Word}
 

@@ -3,7 +3,7 @@ use Rattle.std.specs.Prelude.{◌≡◌, ℕ, ◌≤◌, true, List, [], ◌∷�
 use Rattle.ps_token.specs.declared.token.Token.{Token}
 use Rattle.ps_token.specs.declared.token_kind.TokenKind.TheVariants.{Number}
 use Rattle.ps_token.specs.Lexing.{IsNumber}
-use Rattle.ps_parse.specs.Reading.{is_kind}
+use Rattle.ps_parse.specs.Kinds.{is_kind}
 
 -- The token's bytes are within the text, and those of a number are 1 to 18 digits.
 pub record IsTokenWithin (bytes : List ℕ) (token : Token) : Type 0 where

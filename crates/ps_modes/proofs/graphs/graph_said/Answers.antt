@@ -16,5 +16,5 @@ returns-in-Ok-clause-refused c = c.graph_of.ensures.refused c.args.text.now c.in
 pub returns-in-Err-clause-refused : goal.returns-in-Err-clause-refused
 returns-in-Err-clause-refused c =
     IfRefused-weaker c.refused.result _ _
-    (λ line t. read_refused c.args.text.now line c.in-Err.refusal c.in-Err.ensures.token c.in-Err.ensures.first c.in-Err.ensures.exact t)
+    (λ line t. read_refused c.args.text.now line c.in-Err.refusal c.in-Err.ensures.token c.in-Err.ensures.first c.in-Err.ensures.in_text c.in-Err.ensures.grammar t)
     c.refused.ensures

@@ -1,5 +1,5 @@
 use Rattle.std.proofs.Common.{arith}
-use Rattle.ps_parse.specs.Items.{rows_from}
+use Rattle.ps_parse.specs.Inner.Items.{rows_from}
 use Rattle.ps_parse.proofs.Declarations.{counts_none, counts_stop, counts_more, counts_all}
 use Rattle.ps_parse.proofs.items.init_rows.Goals as goal
 

@@ -1,5 +1,5 @@
 use Rattle.std.proofs.Common.{◌≤◌, ◌*◌, ◌-◌}
-use Rattle.ps_parse.specs.Items.{rows_from}
+use Rattle.ps_parse.specs.Inner.Items.{rows_from}
 use Rattle.ps_parse.proofs.Declarations.{Counts}
 use Rattle.ps_parse.proofs.items.init_rows.Given as goal
 

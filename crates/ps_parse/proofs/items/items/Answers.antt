@@ -1,6 +1,6 @@
 use Rattle.std.proofs.Common.{sym, ◌∙◌}
 use Rattle.std.proofs.lemmas.Result.{err_from_is_err_and}
-use Rattle.ps_parse.specs.Items.{items_at}
+use Rattle.ps_parse.specs.Inner.Items.{items_at}
 use Rattle.ps_grammar.specs.Declarations.{nothing_declared}
 use Rattle.ps_parse.proofs.Declarations.{items_fails}
 use Rattle.ps_parse.proofs.items.items.Goals as goal

@@ -1,5 +1,5 @@
 use Rattle.std.proofs.Common.{◌-◌}
-use Rattle.ps_parse.specs.Items.{items_at}
+use Rattle.ps_parse.specs.Inner.Items.{items_at}
 use Rattle.ps_grammar.specs.Declarations.{nothing_declared}
 use Rattle.ps_parse.proofs.Declarations.{Declares}
 use Rattle.ps_parse.proofs.items.items.Given as goal

@@ -1,8 +1,5 @@
 use Rattle.std.proofs.Common.{arith, Ok}
-use Rattle.ps_parse.specs.Items.{program_in}
-use Rattle.ps_grammar.specs.Words.{words_of}
-use Rattle.ps_parse.specs.Texts.{end_of}
-use Rattle.ps_parse.proofs.TextLaws.{cut_found, cut_only, cut_exact, cut_not_bad, cut_token, cut_grammar, cut_in_text, cut_first, uncut_exact, uncut_bad, uncut_token, uncut_grammar, uncut_in_text, uncut_first}
+use Rattle.ps_parse.proofs.TextLaws.{cut_found, cut_only, cut_not_bad, cut_token, cut_grammar, cut_in_text, cut_first, uncut_exact, uncut_bad, uncut_token, uncut_grammar, uncut_in_text, uncut_first}
 use Rattle.ps_parse.proofs.WordsWithin.{tokens_within, tokens_few}
 use Rattle.ps_parse.proofs.reading.read_program.Goals as goal
 
@@ -18,17 +15,11 @@ returns-in-Ok-clause-found c = cut_found c.args.bytes.now c.in-Ok.list.items c.p
 pub returns-in-Ok-clause-only : goal.returns-in-Ok-clause-only
 returns-in-Ok-clause-only c = λ program is. cut_only c.args.bytes.now c.in-Ok.list.items c.program_of.result program c.in-Ok.ensures.tokens (rw c.deref.ensures.value at c.program_of.ensures) is
 
-pub returns-in-Ok-clause-exact : goal.returns-in-Ok-clause-exact
-returns-in-Ok-clause-exact c = λ list other. cut_exact c.args.bytes.now c.in-Ok.list.items list c.program_of.result c.in-Ok.ensures.tokens (rw c.deref.ensures.value at c.program_of.ensures) other
-
 pub returns-in-Ok-clause-bad : goal.returns-in-Ok-clause-bad
 returns-in-Ok-clause-bad c = λ place bad. absurd (cut_not_bad c.args.bytes.now c.in-Ok.list.items place c.in-Ok.ensures.tokens bad)
 
 pub returns-in-Err-clause-only : goal.returns-in-Err-clause-only
 returns-in-Err-clause-only c = λ program is. rw c.uncut.ensures (uncut_exact c.args.bytes.now c.in-Err.end (is.tokens) (Ok program) c.in-Err.ensures.bad is.cut)
-
-pub returns-in-Err-clause-exact : goal.returns-in-Err-clause-exact
-returns-in-Err-clause-exact c = λ list cut. rw c.uncut.ensures (uncut_exact c.args.bytes.now c.in-Err.end list (program_in (words_of c.args.bytes.now list) (end_of c.args.bytes.now)) c.in-Err.ensures.bad cut)
 
 pub returns-in-Err-clause-bad : goal.returns-in-Err-clause-bad
 returns-in-Err-clause-bad c = λ place bad. rw c.uncut.ensures (uncut_bad c.args.bytes.now c.in-Err.end place c.in-Err.ensures.bad bad)

@@ -1,8 +1,8 @@
 use Rattle.std.proofs.Common.{sym, ap, ◌∙◌, not}
 use Rattle.std.proofs.lemmas.Result.{err_from_is_err_and}
-use Rattle.ps_parse.specs.Reading.{words_while}
+use Rattle.ps_parse.specs.Inner.Reading.{words_while}
 use Rattle.ps_parse.specs.Inner.Scoped.{names_in}
-use Rattle.ps_parse.specs.Blocks.{has_more, stmt_at, block_at}
+use Rattle.ps_parse.specs.Inner.Blocks.{has_more, stmt_at, block_at}
 use Rattle.ps_parse.proofs.Repeated.{repeats_fails}
 use Rattle.ps_parse.proofs.parser.Parser.+block.Goals as goal
 

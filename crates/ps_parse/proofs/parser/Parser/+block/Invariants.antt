@@ -1,7 +1,7 @@
 use Rattle.std.proofs.Common.{◌+◌, ◌-◌, ◌*◌}
-use Rattle.ps_parse.specs.Reading.{words_while}
+use Rattle.ps_parse.specs.Inner.Reading.{words_while}
 use Rattle.ps_parse.specs.Inner.Scoped.{names_in}
-use Rattle.ps_parse.specs.Blocks.{has_more, stmt_at, block_at}
+use Rattle.ps_parse.specs.Inner.Blocks.{has_more, stmt_at, block_at}
 use Rattle.ps_parse.proofs.Repeated.{Repeats}
 use Rattle.ps_parse.proofs.parser.Parser.+block.Given as goal
 

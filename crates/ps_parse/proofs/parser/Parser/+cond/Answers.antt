@@ -1,10 +1,10 @@
 use Rattle.std.proofs.Common.{sym, ◌∙◌}
 use Rattle.std.proofs.lemmas.Result.{err_from_is_err_and}
 use Rattle.ps_token.specs.declared.token_kind.TokenKind.TheVariants as kind
-use Rattle.ps_parse.specs.Reading.{with_front, words_while, next_is, after_word}
+use Rattle.ps_parse.specs.Inner.Reading.{with_front, words_while, next_is, after_word}
 use Rattle.ps_parse.specs.Inner.Seen.{seen_word}
 use Rattle.ps_parse.specs.Inner.Scoped.{names_in}
-use Rattle.ps_parse.specs.Conds.{conj_with, unary_at}
+use Rattle.ps_parse.specs.Inner.Conds.{conj_with, unary_at}
 use Rattle.ps_parse.proofs.Repeated.{repeats_fails, word_refuses, then_refuses}
 use Rattle.ps_parse.proofs.parser.Parser.+cond.Goals as goal
 

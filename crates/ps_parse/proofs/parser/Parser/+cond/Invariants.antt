@@ -1,8 +1,8 @@
 use Rattle.std.proofs.Common.{◌+◌, ◌-◌, ◌*◌}
 use Rattle.ps_token.specs.declared.token_kind.TokenKind.TheVariants as kind
-use Rattle.ps_parse.specs.Reading.{with_front, words_while, next_is, after_word}
+use Rattle.ps_parse.specs.Inner.Reading.{with_front, words_while, next_is, after_word}
 use Rattle.ps_parse.specs.Inner.Scoped.{names_in}
-use Rattle.ps_parse.specs.Conds.{conj_with, unary_at}
+use Rattle.ps_parse.specs.Inner.Conds.{conj_with, unary_at}
 use Rattle.ps_parse.proofs.Repeated.{Repeats}
 use Rattle.ps_parse.proofs.parser.Parser.+cond.Given as goal
 

@@ -1,8 +1,8 @@
 use Rattle.std.proofs.Common.{sym, ◌∙◌}
 use Rattle.std.proofs.lemmas.Result.{err_from_is_err_and}
-use Rattle.ps_parse.specs.Reading.{words_while, with_front}
+use Rattle.ps_parse.specs.Inner.Reading.{words_while, with_front}
 use Rattle.ps_parse.specs.Inner.Scoped.{names_in}
-use Rattle.ps_parse.specs.Sums.{adds, further_product_at}
+use Rattle.ps_parse.specs.Inner.Sums.{adds, further_product_at}
 use Rattle.ps_parse.proofs.Repeated.{repeats_fails}
 use Rattle.ps_parse.proofs.parser.Parser.further_products.Goals as goal
 

@@ -1,7 +1,7 @@
 use Rattle.std.proofs.Common.{◌-◌}
-use Rattle.ps_parse.specs.Reading.{words_while, with_front}
+use Rattle.ps_parse.specs.Inner.Reading.{words_while, with_front}
 use Rattle.ps_parse.specs.Inner.Scoped.{names_in}
-use Rattle.ps_parse.specs.Sums.{adds, further_product_at}
+use Rattle.ps_parse.specs.Inner.Sums.{adds, further_product_at}
 use Rattle.ps_parse.proofs.Repeated.{Repeats}
 use Rattle.ps_parse.proofs.parser.Parser.further_products.Given as goal
 

@@ -1,10 +1,10 @@
 use Rattle.std.proofs.Common.{sym, ◌∙◌}
 use Rattle.std.proofs.lemmas.Result.{err_from_is_err_and}
 use Rattle.ps_token.specs.declared.token_kind.TokenKind.TheVariants as kind
-use Rattle.ps_parse.specs.Reading.{after_word, next_is, words_while, with_front}
+use Rattle.ps_parse.specs.Inner.Reading.{after_word, next_is, words_while, with_front}
 use Rattle.ps_parse.specs.Inner.Seen.{seen_word}
 use Rattle.ps_parse.specs.Inner.Scoped.{names_in}
-use Rattle.ps_parse.specs.Sums.{init_sign_of, relation_at}
+use Rattle.ps_parse.specs.Inner.Sums.{init_sign_of, relation_at}
 use Rattle.ps_parse.proofs.Repeated.{repeats_fails, then_refuses, word_refuses}
 use Rattle.ps_parse.proofs.parser.Parser.further_relations.Goals as goal
 

@@ -1,8 +1,8 @@
 use Rattle.std.proofs.Common.{◌-◌}
 use Rattle.ps_token.specs.declared.token_kind.TokenKind.TheVariants as kind
-use Rattle.ps_parse.specs.Reading.{after_word, next_is, words_while, with_front}
+use Rattle.ps_parse.specs.Inner.Reading.{after_word, next_is, words_while, with_front}
 use Rattle.ps_parse.specs.Inner.Scoped.{names_in}
-use Rattle.ps_parse.specs.Sums.{init_sign_of, relation_at}
+use Rattle.ps_parse.specs.Inner.Sums.{init_sign_of, relation_at}
 use Rattle.ps_parse.proofs.Repeated.{Repeats}
 use Rattle.ps_parse.proofs.parser.Parser.further_relations.Given as goal
 

@@ -9,8 +9,8 @@ use Rattle.ps_tree.specs.declared.cond.Test.TheVariants as test
 use Rattle.ps_tree.specs.declared.limit_name.LimitName.TheVariants as limit
 use Rattle.ps_parse.specs.declared.read_refusal.ReadRefusal.TheVariants.{Limit}
 use Rattle.ps_grammar.specs.Names.{Names}
-use Rattle.ps_parse.specs.Sums.{relation_at, sign_of}
-use Rattle.ps_parse.specs.Reading.{WordsAhead, ReadWords, after_word, next_is, place_at, words_while, next_word}
+use Rattle.ps_parse.specs.Inner.Sums.{relation_at, sign_of}
+use Rattle.ps_parse.specs.Inner.Reading.{WordsAhead, ReadWords, after_word, next_is, place_at, words_while, next_word}
 use Rattle.ps_lines.specs.Steps.{◌>>=◌}
 
 -- one member is itself, several are a condition of them

@@ -8,11 +8,11 @@ use Rattle.ps_parse.specs.declared.read_refusal.ReadRefusal.TheVariants.{Grammar
 use Rattle.ps_tree.specs.declared.stmt.Stmt.{Stmt}
 use Rattle.ps_tree.specs.declared.stmt.StmtKind.{StmtKind}
 use Rattle.ps_tree.specs.declared.stmt.StmtKind.TheVariants as stmt
-use Rattle.ps_parse.specs.Conds.{cond_at, parens_at}
+use Rattle.ps_parse.specs.Inner.Conds.{cond_at, parens_at}
 use Rattle.ps_grammar.specs.Names.{Names}
-use Rattle.ps_parse.specs.Variables.{variable_at}
-use Rattle.ps_parse.specs.Sums.{sum_at}
-use Rattle.ps_parse.specs.Reading.{WordsAhead, ReadWords, after_word, next_is, place_at, words_while, next_word}
+use Rattle.ps_parse.specs.Inner.Variables.{variable_at}
+use Rattle.ps_parse.specs.Inner.Sums.{sum_at}
+use Rattle.ps_parse.specs.Inner.Reading.{WordsAhead, ReadWords, after_word, next_is, place_at, words_while, next_word}
 use Rattle.ps_lines.specs.Steps.{◌>>=◌}
 
 -- What is read, and the `;` after it.

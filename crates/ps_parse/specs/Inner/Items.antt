@@ -1,22 +1,19 @@
 -- Reading declarations and whole programs.
-use Rattle.std.specs.Prelude.{ℕ, zero, suc, ◌+◌, ℤ, Bool, true, false, ◌||◌, List, [], ◌∷◌, ◌++◌, length, map, Option, Some, None, Result, Ok, Err, nat_le, nat_lt, if◌then◌else◌}
+use Rattle.std.specs.Prelude.{ℕ, zero, suc, ◌+◌, ℤ, Bool, true, false, ◌||◌, List, [], ◌∷◌, ◌++◌, length, Option, Some, None, Result, Ok, Err, nat_le, nat_lt, if◌then◌else◌}
 use Rattle.ps_token.specs.declared.token_kind.TokenKind.TheVariants as kind
 use Rattle.ps_token.specs.declared.place.Place.{Place}
-use Rattle.ps_tree.specs.declared.global_decl.GlobalDecl.{GlobalDecl}
 use Rattle.ps_tree.specs.declared.limit_name.LimitName.{LimitName}
 use Rattle.ps_tree.specs.declared.limit_name.LimitName.TheVariants as limit
 use Rattle.ps_tree.specs.declared.program.Program.{Program}
 use Rattle.ps_parse.specs.declared.read_refusal.ReadRefusal.{ReadRefusal}
 use Rattle.ps_parse.specs.declared.read_refusal.ReadRefusal.TheVariants.{Limit, Twice}
 use Rattle.ps_tree.specs.declared.relation.Relation.{Relation}
-use Rattle.ps_tree.specs.declared.relation.Sign.{Sign}
-use Rattle.ps_tree.specs.declared.relation.Sign.TheVariants as sign
 use Rattle.ps_term.specs.declared.var.Var.{Var}
-use Rattle.ps_parse.specs.Blocks.{block_at, ended_at}
-use Rattle.ps_grammar.specs.Names.{Names, variable_of_name}
-use Rattle.ps_parse.specs.Sums.{init_sign_of, relation_at}
+use Rattle.ps_parse.specs.Inner.Blocks.{block_at, ended_at}
+use Rattle.ps_grammar.specs.Names.{variable_of_name}
+use Rattle.ps_parse.specs.Inner.Sums.{init_sign_of, relation_at}
 use Rattle.ps_grammar.specs.Numbers.{number_value, signed}
-use Rattle.ps_parse.specs.Reading.{WordsAhead, ReadWords, after_word, words_end, next_is, place_at, words_while, next_word}
+use Rattle.ps_parse.specs.Inner.Reading.{WordsAhead, ReadWords, after_word, words_end, next_is, place_at, words_while, next_word}
 use Rattle.ps_lines.specs.Steps.{◌>>=◌}
 use Rattle.ps_grammar.specs.Words.{Word}
 use Rattle.ps_grammar.specs.Declarations.{Declared, most_globals, most_levels, most_locals, most_rows, names_of, nothing_declared, rows_of_sign, rows_of_value}

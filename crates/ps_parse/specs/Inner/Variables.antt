@@ -5,7 +5,7 @@ use Rattle.ps_term.specs.declared.var.Var.TheVariants.{Global}
 use Rattle.ps_token.specs.declared.token_kind.TokenKind.TheVariants as kind
 use Rattle.ps_grammar.specs.Names.{Names, variable_of_name}
 use Rattle.ps_parse.specs.declared.read_refusal.ReadRefusal.TheVariants.{UnknownName}
-use Rattle.ps_parse.specs.Reading.{ReadWords, next_word}
+use Rattle.ps_parse.specs.Inner.Reading.{ReadWords, next_word}
 use Rattle.ps_lines.specs.Steps.{◌>>=◌}
 
 -- the variable of a declared name, or, where any name passes, a variable for each
