@@ -1,0 +1,5 @@
+pub mod Spelling
+pub mod Growing
+pub mod Forms
+pub mod Reading
+pub mod inner
