@@ -78,7 +78,7 @@ tested true None Q h = tt
 tested true (Some x) Q h = h x refl
 
 pub passes : {A : Type 0} (t : Bool) (o : Option A) (x : A) → t ≡ true → o ≡ Some x → (if t then ok_or o name.Number else Err name.Field) ≡ Ok x
-passes t o x test is = cond-true _ _ _ test ∙ ap (λ (p : Option A). ok_or p name.Number) is
+passes {A = A} t o x test is = cond-true _ _ _ test ∙ ap (λ (p : Option A). ok_or p name.Number) is
 
 -- ---- atoms
 

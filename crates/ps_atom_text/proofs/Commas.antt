@@ -1,5 +1,5 @@
 -- What stands between commas.
-use Rattle.std.proofs.Common.{◌≡◌, ℕ, ◌+◌, ◌^◌, ◌<◌, ◌==◌, Bool, true, false, cond, List, [], ◌∷◌, ◌++◌, map, length, Option, Some, None, refl, sym, ap, ◌∙◌, arith}
+use Rattle.std.proofs.Common.{◌≡◌, ℕ, ◌+◌, ◌^◌, ◌<◌, ◌≤◌, ◌==◌, Bool, true, false, cond, List, [], ◌∷◌, ◌++◌, map, length, Option, Some, None, refl, sym, ap, ◌∙◌, arith}
 use Rattle.std.specs.Prelude.{decimal, option_map, if◌then◌else◌}
 use Rattle.std.specs.Char.{digit_value}
 use Rattle.std.specs.List.{flat_map, join_with_byte, onto_first, slice_split, AllByRecursion, count_by}
@@ -66,3 +66,10 @@ commas_some bs e =
     let long : length (between_commas bs) ≡ count_by (λ (b : ℕ). b == 44) bs + 1 = length-slice_split (λ (b : ℕ). b == 44) bs in
     let none : length (between_commas bs) ≡ 0 = ap length e in
     omega (arith, long, none)
+
+-- the part before the first comma, and what follows it
+pub first_of : (list first rest : List ℕ) → Some (first, rest) ≡ cut_at 44 list → between_commas list ≡ first ∷ between_commas rest
+first_of list first rest e = commas_cut list ∙ ap (λ (r : Option (List ℕ × List ℕ)). cut_off r list) (sym e)
+
+pub only_part : (list : List ℕ) → None ≡ cut_at 44 list → between_commas list ≡ list ∷ []
+only_part list e = commas_cut list ∙ ap (λ (r : Option (List ℕ × List ℕ)). cut_off r list) (sym e)

@@ -30,32 +30,32 @@ lacks_to xs n lacks = false_from_ne_true (has xs n) (λ h. lacks (has_from xs n 
 
 pub different_within : (xs : List ℕ) (t : ℕ) → Contains (different xs) t → Contains xs t
 different_within [] t h = h
-different_within (x ∷ xs) t h = by_test (has xs x) h
+different_within (x ∷ xs) t h = by_test (has xs x) (λ later. different_within xs t later) h
   where
-    by_test : (b : Bool) → Contains (cond b (different xs) (x ∷ different xs)) t → Contains (x ∷ xs) t
-    by_test true h = there x xs t (different_within xs t h)
-    by_test false h = elim (cons_cases x (different xs) t h) [
+    by_test : (b : Bool) → (Contains (different xs) t → Contains xs t) → Contains (cond b (different xs) (x ∷ different xs)) t → Contains (x ∷ xs) t
+    by_test true rest h = there x xs t (rest h)
+    by_test false rest h = elim (cons_cases x (different xs) t h) [
       | inl is ↦ subst (λ (y : ℕ). Contains (x ∷ xs) y) is (here x xs)
-      | inr later ↦ there x xs t (different_within xs t later)
+      | inr later ↦ there x xs t (rest later)
     ]
 
 pub within_different : (xs : List ℕ) (t : ℕ) → Contains xs t → Contains (different xs) t
 within_different [] t h = h
-within_different (x ∷ xs) t h = by_test (has xs x) refl (cons_cases x xs t h)
+within_different (x ∷ xs) t h = by_test (has xs x) refl (λ later. within_different xs t later) (cons_cases x xs t h)
   where
-    by_test : (b : Bool) → has xs x ≡ b → (x ≡ t) ⊎ Contains xs t → Contains (cond b (different xs) (x ∷ different xs)) t
-    by_test true e (inl is) = within_different xs t (subst (λ (y : ℕ). Contains xs y) is (has_from xs x e))
-    by_test true e (inr later) = within_different xs t later
-    by_test false e (inl is) = subst (λ (y : ℕ). Contains (x ∷ different xs) y) is (here x (different xs))
-    by_test false e (inr later) = there x (different xs) t (within_different xs t later)
+    by_test : (b : Bool) → has xs x ≡ b → (Contains xs t → Contains (different xs) t) → (x ≡ t) ⊎ Contains xs t → Contains (cond b (different xs) (x ∷ different xs)) t
+    by_test true e rest (inl is) = rest (subst (λ (y : ℕ). Contains xs y) is (has_from xs x e))
+    by_test true e rest (inr later) = rest later
+    by_test false e rest (inl is) = subst (λ (y : ℕ). Contains (x ∷ different xs) y) is (here x (different xs))
+    by_test false e rest (inr later) = there x (different xs) t (rest later)
 
 pub different_once : (xs : List ℕ) → IsOnce (different xs)
 different_once [] = tt
-different_once (x ∷ xs) = by_test (has xs x) refl
+different_once (x ∷ xs) = by_test (has xs x) refl (different_once xs)
   where
-    by_test : (b : Bool) → has xs x ≡ b → IsOnce (cond b (different xs) (x ∷ different xs))
-    by_test true e = different_once xs
-    by_test false e = (λ h. lacks_from xs x e (different_within xs x h), different_once xs)
+    by_test : (b : Bool) → has xs x ≡ b → IsOnce (different xs) → IsOnce (cond b (different xs) (x ∷ different xs))
+    by_test true e rest = rest
+    by_test false e rest = (λ h. lacks_from xs x e (different_within xs x h), rest)
 
 -- ---- how many there are
 
@@ -90,7 +90,9 @@ in_range : (n t : ℕ) → t < n → Contains (range_with_len 0 n) t
 in_range n t lt =
     let long : length (range_with_len 0 n) ≡ n = length-range_with_len 0 n in
     let inside : t < length (range_with_len 0 n) = omega (arith, lt, long) in
-    (t, inside, get_or-range_with_len 0 n t t lt)
+    let is : get_or (range_with_len 0 n) t t ≡ 0 + t = get_or-range_with_len 0 n t t lt in
+    let none : 0 + t ≡ t = omega arith in
+    (t, inside, is ∙ none)
 
 -- the numbers in ascending order, each once
 abbrev pub listing : List ℕ → List ℕ

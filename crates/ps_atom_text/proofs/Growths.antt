@@ -3,6 +3,7 @@ use Rattle.std.proofs.Common.{◌≡◌, ℕ, suc, ◌+◌, ◌<◌, Bool, true,
 use Rattle.std.specs.Prelude.{IfOk, if◌then◌else◌}
 use Rattle.std.proofs.lemmas.Bool.{cond-true, cond-false}
 use Rattle.ps_atom_text.specs.Growing.{grow_at, grow_from}
+use Rattle.ps_atom_text.proofs.Fields.{found_as}
 use Rattle.ps_lines.specs.declared.form_end.FormEnd.{FormEnd}
 use Rattle.ps_lines.specs.declared.form_end.FormEnd.TheVariants.{Fault, Memory}
 use Rattle.ps_lines.specs.declared.form_fault.FormFault.{FormFault}
@@ -22,7 +23,10 @@ abbrev here : ℕ → ℕ → List LinePart → Position
 here line field ts = record { line = line; field = field; tokens = ts }
 
 -- with the next field, and then with those after it
-abbrev grown_further : {S : Type 0} (goes : List ℕ → Bool) (grown : S → List ℕ → Result S FormName) (line field : ℕ) (ts : List LinePart) (r : Result S FormName) →
+abbrev grown_further : {S : Type 0} → (List ℕ → Bool) → (S → List ℕ → Result S FormName) → S → Position → Result (S × Position) FormFault
+grown_further goes grown state at = leaf_at (grown state) at >>= λ more. grow_at goes grown more.0 more.1
+
+further : {S : Type 0} (goes : List ℕ → Bool) (grown : S → List ℕ → Result S FormName) (line field : ℕ) (ts : List LinePart) (r : Result S FormName) →
     and_then (fault_placed line field r) (λ more. grow_from goes grown more line (field + 1) ts)
     ≡ and_then {A = S × Position} (and_then (fault_placed line field r) (λ x. Ok (x, here line (field + 1) ts))) (λ more. grow_at goes grown more.0 more.1)
 unfolding and_then
@@ -99,10 +103,6 @@ Steps {S} step s (x ∷ xs) t = (u : S) × step s x u × Steps step u xs t
 -- what fields made of a state
 abbrev pub GrewBy : {S A : Type 0} → (A → List ℕ) → (S → A → S → Type 0) → S → List LinePart → S × Position → Type 0
 GrewBy {S} {A} text step s ts y = (xs : List A) × (ts ≡ member_tokens text xs ++ y.1.tokens) × Steps step s xs y.0
-
-found_as : {A : Type 0} (r : Result A FormFault) (Q R : A → Type 0) → Finds r Q → ((x : A) → Q x → R x) → Finds r R
-found_as (Ok x) Q R h f = record { is = f x h.is }
-found_as (Err e) Q R h f = record { is = tt }
 
 pub grow_found : {S A : Type 0} (goes : List ℕ → Bool) (grown : S → List ℕ → Result S FormName) (text : A → List ℕ) (step : S → A → S → Type 0) → IsGrowth goes grown text step →
     (ts : List LinePart) (s : S) (line field : ℕ) → Finds (grow_from goes grown s line field ts) (GrewBy text step s ts)

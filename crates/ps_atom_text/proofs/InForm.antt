@@ -1,6 +1,6 @@
 -- Configurations that are in form, and with one more thread or atom.
 use Rattle.std.proofs.Common.{◌≡◌, ℕ, ◌+◌, ◌-◌, ◌<◌, ◌≤◌, ◌&&◌, Bool, true, false, List, [], ◌∷◌, ◌++◌, length, map, Result, Ok, Err, refl, sym, ap, ◌∙◌, subst, inl, inr, ◌⊎◌, Contains, arith}
-use Rattle.std.specs.Prelude.{◌↔◌, nat_le, slice_get, if◌then◌else◌}
+use Rattle.std.specs.Prelude.{◌↔◌, IsTrue, nat_le, slice_get, if◌then◌else◌}
 use Rattle.std.proofs.lemmas.Bool.{and_parts, and_from, cond-true, cond-false, leb-true, le-leb, false_from_ne_true}
 use Rattle.std.proofs.lemmas.Grind.{flat_map-append}
 use Rattle.std.proofs.lemmas.List.{append-nil, length-append, length_push, map-append, map_push}
@@ -202,6 +202,47 @@ atom_fits met c q is after few room =
       occurring = atom_met met c q is;
     }
 
+-- the same, of the lists that code has: a slice of those before, the threads met, and the list after
+place_test : (c : Configuration) (p : ℕ × ℕ) (slice : List (ℕ × ℕ)) (t : Bool) → slice ≡ c.at → t ≡ is_thread_after (slice_get slice (length slice - 1)) p.0 → is_thread_after (slice_get c.at (length c.at - 1)) p.0 ≡ t
+place_test c p slice t same test = sym (subst (λ (ps : List (ℕ × ℕ)). t ≡ is_thread_after (slice_get ps (length ps - 1)) p.0) same test)
+
+atom_test : (c : Configuration) (q : Atom) (slice : List Atom) (t : Bool) → slice ≡ c.atoms → t ≡ is_atom_after (slice_get slice (length slice - 1)) q → is_atom_after (slice_get c.atoms (length c.atoms - 1)) q ≡ t
+atom_test c q slice t same test = sym (subst (λ (qs : List Atom). t ≡ is_atom_after (slice_get qs (length qs - 1)) q) same test)
+
+pub place_refused_by : (met : List ℕ) (c : Configuration) (p : ℕ × ℕ) (slice : List (ℕ × ℕ)) → IsMet met c → slice ≡ c.at → false ≡ is_thread_after (slice_get slice (length slice - 1)) p.0 → in_form (placed c p) ≡ Err name.Order
+place_refused_by met c p slice is same test = place_refused met c p is (place_test c p slice false same test)
+
+pub atom_refused_by : (met : List ℕ) (c : Configuration) (q : Atom) (slice : List Atom) → IsMet met c → slice ≡ c.atoms → false ≡ is_atom_after (slice_get slice (length slice - 1)) q → in_form (held c q) ≡ Err name.Order
+atom_refused_by met c q slice is same test = atom_refused met c q is (atom_test c q slice false same test)
+
+pub place_too_many_by : (met new : List ℕ) (c : Configuration) (p : ℕ × ℕ) (slice : List (ℕ × ℕ)) → IsMet met c → slice ≡ c.at → true ≡ is_thread_after (slice_get slice (length slice - 1)) p.0 → new ≡ met_with met p.0 → MOST_THREADS < length new → in_form (placed c p) ≡ Err name.Limit
+place_too_many_by met new c p slice is same test e many = place_too_many met c p is (place_test c p slice true same test) (subst (λ (ts : List ℕ). MOST_THREADS < length ts) e many)
+
+all_met : (met new threads : List ℕ) (q : Atom) → new ≡ met_with_all met threads → threads ≡ q.threads → new ≡ met_with_all met q.threads
+all_met met new threads q e same = e ∙ ap (met_with_all met) same
+
+pub atom_too_many_by : (met new threads : List ℕ) (c : Configuration) (q : Atom) (slice : List Atom) → IsMet met c → slice ≡ c.atoms → true ≡ is_atom_after (slice_get slice (length slice - 1)) q → new ≡ met_with_all met threads → threads ≡ q.threads → (MOST_THREADS < length new) ⊎ (MOST_ATOMS ≤ length c.atoms) → in_form (held c q) ≡ Err name.Limit
+atom_too_many_by met new threads c q slice is same test e named many =
+    atom_too_many met c q is (atom_test c q slice true same test) (subst (λ (ts : List ℕ). (MOST_THREADS < length ts) ⊎ (MOST_ATOMS ≤ length c.atoms)) (all_met met new threads q e named) many)
+
+pub place_fits_by : (met new : List ℕ) (c : Configuration) (p : ℕ × ℕ) (slice at : List (ℕ × ℕ)) → IsMet met c → slice ≡ c.at → true ≡ is_thread_after (slice_get slice (length slice - 1)) p.0 → new ≡ met_with met p.0 → length new ≤ MOST_THREADS → at ≡ c.at ++ p ∷ [] → IsMet new (record { at = at; atoms = c.atoms })
+place_fits_by met new c p slice at is same test e few long =
+    subst (λ (ps : List (ℕ × ℕ)). IsMet new (record { at = ps; atoms = c.atoms })) (sym long)
+    (subst (λ (ts : List ℕ). IsMet ts (placed c p)) (sym e) (place_fits met c p is (place_test c p slice true same test) (subst (λ (ts : List ℕ). length ts ≤ MOST_THREADS) e few)))
+
+pub atom_fits_by : (met new threads : List ℕ) (c : Configuration) (q : Atom) (slice atoms : List Atom) → IsMet met c → slice ≡ c.atoms → true ≡ is_atom_after (slice_get slice (length slice - 1)) q → new ≡ met_with_all met threads → threads ≡ q.threads → length new ≤ MOST_THREADS → length c.atoms < MOST_ATOMS → atoms ≡ c.atoms ++ q ∷ [] → IsMet new (record { at = c.at; atoms = atoms })
+atom_fits_by met new threads c q slice atoms is same test e named few room long =
+    let all : new ≡ met_with_all met q.threads = all_met met new threads q e named in
+    subst (λ (qs : List Atom). IsMet new (record { at = c.at; atoms = qs })) (sym long)
+    (subst (λ (ts : List ℕ). IsMet ts (held c q)) (sym all) (atom_fits met c q is (atom_test c q slice true same test) (subst (λ (ts : List ℕ). length ts ≤ MOST_THREADS) all few) room))
+
+-- what is in form is its own answer, however its lists are called
+pub place_is_formed : (met : List ℕ) (c : Configuration) (p : ℕ × ℕ) (at : List (ℕ × ℕ)) → IsMet met (record { at = at; atoms = c.atoms }) → at ≡ c.at ++ p ∷ [] → in_form (placed c p) ≡ Ok (record { at = at; atoms = c.atoms })
+place_is_formed met c p at is long = subst (λ (ps : List (ℕ × ℕ)). in_form (record { at = ps; atoms = c.atoms }) ≡ Ok (record { at = at; atoms = c.atoms })) long is.form
+
+pub atom_is_formed : (met : List ℕ) (c : Configuration) (q : Atom) (atoms : List Atom) → IsMet met (record { at = c.at; atoms = atoms }) → atoms ≡ c.atoms ++ q ∷ [] → in_form (held c q) ≡ Ok (record { at = c.at; atoms = atoms })
+atom_is_formed met c q atoms is long = subst (λ (qs : List Atom). in_form (record { at = c.at; atoms = qs }) ≡ Ok (record { at = c.at; atoms = atoms })) long is.form
+
 pub none_met : IsMet [] (record { at = []; atoms = [] })
 none_met = record { form = refl; once = refl; occurring = λ t. ((λ h. h), (λ h. h)) }
 
@@ -245,3 +286,11 @@ held_front c d qs is at atoms =
       | inl located ↦ Contains-append_left (map thread d.at) (threads_of c.atoms ++ threads_of qs) t (subst (λ (ps : List (ℕ × ℕ)). Contains (map thread ps) t) at located)
       | inr named ↦ Contains-append_right (map thread d.at) (threads_of c.atoms ++ threads_of qs) t (Contains-append_left (threads_of c.atoms) (threads_of qs) t named)
     ])
+
+-- ---- the law
+
+pub tests_say_form : (c : Configuration) → IsTrue (is_ordered c && is_small c) ↔ IsConfig c
+tests_say_form c = (
+  λ h. (let p = and_parts (is_ordered c) (is_small c) h in config_from c (record { ordered = p.0; small = p.1 })),
+  λ is. (let f = config_to c is in and_from (is_ordered c) (is_small c) f.ordered f.small),
+)

@@ -1,18 +1,19 @@
 -- Lists that ascend: with one more member, and as sorted lists.
-use Rattle.std.proofs.Common.{◌≡◌, ℕ, zero, suc, ◌+◌, ◌-◌, ◌<◌, Bool, true, false, ◌&&◌, List, [], ◌∷◌, ◌++◌, map, length, get_or, Option, Some, None, refl, sym, ap, ◌∙◌, arith}
-use Rattle.std.specs.Prelude.{slice_get, nat_lt}
+use Rattle.std.proofs.Common.{◌≡◌, ℕ, zero, suc, ◌+◌, ◌-◌, ◌<◌, Bool, true, false, ◌&&◌, List, [], ◌∷◌, ◌++◌, map, length, get_or, Option, Some, None, refl, sym, ap, subst, ◌∙◌, arith}
+use Rattle.std.specs.Prelude.{slice_get, slice_index, nat_lt}
 use Rattle.std.specs.List.{AllByRecursion}
 use Rattle.std.specs.List.Sorted.{IsStrictlyIncreasing, IsStrictlySortedBy}
 use Rattle.std.specs.Ordering.{is_lt}
 use Rattle.std.specs.declared.cmp.Ordering.{Ordering}
 use Rattle.std.specs.declared.cmp.Ordering.TheVariants.{Less, Equal, Greater}
 use Rattle.std.proofs.lemmas.Bool.{and_parts, and_from, lt-ltb, ltb-true}
+use Rattle.std.specs.Cmp.{IsTotalOrder}
+use Rattle.std.proofs.lemmas.Cmp.{nat_cmp_total, nat_list_cmp_total, on_total, then_total}
 use Rattle.std.proofs.lemmas.Map.Keys.{sorted_from_all_adjacent, sorted_head, sorted_tail}
 use Rattle.ps_atom.specs.Atoms.{atom_cmp}
 use Rattle.ps_atom.specs.declared.atom.Atom.{Atom}
 use Rattle.ps_atom_text.specs.Forms.{is_before_places, places_ascend}
 use Rattle.ps_atom_text.specs.inner.Last.{is_atom_after, is_thread_after}
-use Rattle.ps_config.proofs.Forming.{atom_total}
 use Rattle.ps_triple.specs.Ascending.{ascend, atom_is_before_all}
 
 -- ---- one more member
@@ -70,11 +71,17 @@ less_from Less e = refl
 less_from Equal e = absurd cc
 less_from Greater e = absurd cc
 
+atom_total : IsTotalOrder atom_cmp
+atom_total = then_total (on_total (λ (q : Atom). q.predicate) nat_cmp_total) (on_total (λ (q : Atom). q.threads) nat_list_cmp_total)
+
 ascends_at : (qs : List Atom) (k : ℕ) (d : Atom) → ascend qs ≡ true → k + 1 < length qs → atom_cmp (get_or qs k d) (get_or qs (k + 1) d) ≡ Less
 ascends_at [] k d up h = absurd (omega (arith, h))
 ascends_at (q ∷ []) k d up h = absurd (omega (arith, h))
 ascends_at (q ∷ r ∷ qs) zero d up h = less_from (atom_cmp q r) (and_parts _ _ up).0
-ascends_at (q ∷ r ∷ qs) (suc k) d up h = ascends_at (r ∷ qs) k d (and_parts _ _ up).1 (omega (arith, h))
+ascends_at (q ∷ r ∷ qs) (suc k) d up h =
+    let rest : atom_cmp (get_or (r ∷ qs) k d) (get_or (r ∷ qs) (k + 1) d) ≡ Less = ascends_at (r ∷ qs) k d (and_parts _ _ up).1 (omega (arith, h)) in
+    let same : suc k + 1 ≡ suc (k + 1) = omega arith in
+    rw same rest
 
 pub ascend_sorted : (qs : List Atom) → ascend qs ≡ true → IsStrictlySortedBy atom_cmp qs
 ascend_sorted qs up =
@@ -93,10 +100,17 @@ pub places_increase : (ps : List (ℕ × ℕ)) → places_ascend ps ≡ true →
 places_increase [] up k h = absurd (omega (arith, h))
 places_increase (p ∷ []) up k h = absurd (omega (arith, h))
 places_increase (p ∷ r ∷ ps) up zero h = ltb-true _ _ (and_parts _ _ up).0
-places_increase (p ∷ r ∷ ps) up (suc k) h = places_increase (r ∷ ps) (and_parts _ _ up).1 k (omega (arith, h))
+places_increase (p ∷ r ∷ ps) up (suc k) h =
+    let ts : List ℕ = map (λ (q : ℕ × ℕ). q.0) (r ∷ ps) in
+    let rest : slice_index ts k < slice_index ts (k + 1) = places_increase (r ∷ ps) (and_parts _ _ up).1 k (omega (arith, h)) in
+    let same : suc k + 1 ≡ suc (k + 1) = omega arith in
+    rw same rest
 
 increasing_tail : (n : ℕ) (ns : List ℕ) → IsStrictlyIncreasing (n ∷ ns) → IsStrictlyIncreasing ns
-increasing_tail n ns up k h = up (suc k) (omega (arith, h))
+increasing_tail n ns up k h =
+    let all : slice_index (n ∷ ns) (suc k) < slice_index (n ∷ ns) (suc k + 1) = up (suc k) (omega (arith, h)) in
+    let same : suc k + 1 ≡ suc (k + 1) = omega arith in
+    subst (λ (j : ℕ). slice_index ns k < slice_index (n ∷ ns) j) same all
 
 pub increasing_places : (ps : List (ℕ × ℕ)) → IsStrictlyIncreasing (map (λ (p : ℕ × ℕ). p.0) ps) → places_ascend ps ≡ true
 increasing_places [] up = refl

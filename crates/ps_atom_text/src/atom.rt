@@ -1,6 +1,7 @@
 //! Atoms as fields: `P`, or `P:T,T` with threads.
-ghost use Rattle.std.specs.Prelude.{◌≡◌, ◌∷◌, [], IfOk, option_map, option_map_or};
+ghost use Rattle.std.specs.Prelude.{◌≡◌, ◌∷◌, [], IfOk, ℕ, option_map};
 ghost use Rattle.std.specs.List.{list_all};
+ghost use Rattle.std.specs.Option.{option_map_or};
 ghost use Rattle.ps_atom_text.specs.Reading.{atom_from, atom_in_field, between_commas, number_up_to, numbers_up_to};
 ghost use Rattle.ps_atom_text.specs.inner.Ends.{IsRead};
 ghost use Rattle.ps_lines.specs.Decimal.{counts_as_decimal};
@@ -38,8 +39,8 @@ fn are_decimals(list: &[u8]) -> bool
     ensures { result ≡ list_all counts_as_decimal (between_commas list.now) }
 {
     let mut left = Some(list);
-    'looking: while let Some(list) = left {
-        let (first, rest) = first_part(list);
+    'looking: while let Some(parts) = left {
+        let (first, rest) = first_part(parts);
         if !counts_as_decimal(first) {
             return false;
         }
@@ -55,8 +56,8 @@ fn read_threads(alloc: Global, most: u32, list: &[u8]) -> Result<Option<Vec<u32>
 {
     let mut threads = Vec::new(alloc);
     let mut left = Some(list);
-    'reading: while let Some(list) = left {
-        let (first, rest) = first_part(list);
+    'reading: while let Some(parts) = left {
+        let (first, rest) = first_part(parts);
         match number_up_to(most, first) {
             Some(thread) => threads.push(thread)?,
             None => return Ok(None),
@@ -91,10 +92,9 @@ fn with_threads(
 }
 
 // The atom of a predicate without threads.
-fn without_threads(alloc: Global, most: u32, field: &[u8]) -> Result<Atom, FieldEnd>
-    ensures { IsRead result (atom_from most (field.now, [])) }
+fn without_threads(alloc: Global, field: &[u8]) -> Result<Atom, FieldEnd>
+    ensures { (most : ℕ) → IsRead result (atom_from most (field.now, [])) }
 {
-    let _ = most;
     match <Natural32 as Leaf>::read(None, field) {
         Ok(predicate) => Ok(Atom {
             predicate,
@@ -110,7 +110,7 @@ pub(crate) fn read_atom(alloc: Global, most: u32, field: &[u8]) -> Result<Atom, 
 {
     match cut(field, b':') {
         Some((predicate, threads)) => with_threads(alloc, most, predicate, threads),
-        None => without_threads(alloc, most, field),
+        None => without_threads(alloc, field),
     }
 }
 

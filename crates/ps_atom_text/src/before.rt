@@ -1,66 +1,13 @@
-//! The atoms before the command of a triple, as they are read.
-ghost use Rattle.std.specs.Prelude.{◌≡◌, ◌-◌, ◌∷◌, [], ◌++◌, IsTrue, length, slice_get, refl};
-ghost use Rattle.ps_atom_text.specs.Reading.{before_of, before_with};
-ghost use Rattle.ps_atom_text.specs.inner.Ends.{IsRead};
-ghost use Rattle.ps_atom_text.specs.inner.Last.{is_atom_after};
+//! The atoms before the command of a triple.
+ghost use Rattle.std.specs.Prelude.{IsTrue};
 ghost use Rattle.ps_triple.specs.Ascending.{ascend};
 
-use crate::atom::read_atom;
-use crate::field_end::FieldEnd;
-use crate::growth::Growth;
-use crate::limits::{ANY_THREAD, MOST_BEFORE};
 use ps_atom::Atom;
 use ps_list::Sequence;
-use ps_text::FormName;
-use std::alloc::Global;
 
 /// Atoms that strictly ascend.
 #[derive(Debug, Drop)]
 pub struct Before {
     pub atoms: Sequence<Atom>,
     pub ghost ascends: { IsTrue (ascend atoms) },
-}
-
-/// Whether the atom comes after the last of these, if there is one.
-pub(crate) fn comes_last(atoms: &[Atom], atom: &Atom) -> bool
-    ensures { result ≡ is_atom_after (slice_get atoms.now (length atoms.now - 1)) atom.now }
-{
-    match atoms.last() {
-        Some(last) => last.compare(atom).is_lt(),
-        None => true,
-    }
-}
-
-// One more atom, where it comes last and there is room.
-fn with_atom(before: Before, atom: Atom) -> Result<Before, FieldEnd>
-    ensures { IsRead result
-        (before_of (before.atoms ++ atom ∷ []) (ascend (before.atoms ++ atom ∷ [])) refl) }
-{
-    let Before { atoms } = before;
-    let mut atoms = atoms.into_list();
-    if !comes_last(&atoms, &atom) {
-        return Err(FieldEnd::Fault(FormName::Order));
-    }
-    if atoms.len() >= MOST_BEFORE {
-        return Err(FieldEnd::Fault(FormName::Limit));
-    }
-    atoms.push(atom)?;
-    Ok(Before {
-        atoms: Sequence::from_list(atoms),
-    })
-}
-
-/// Atoms before a command, one by one.
-pub(crate) struct BeforeGrowth;
-
-impl Growth for BeforeGrowth {
-    type State = Before;
-
-    ghost grown = { before_with };
-
-    #[tactic(auto, unfolding(crate::specs::Reading::before_with, ps_lines::specs::Steps::and_then))]
-    fn grow(alloc: Global, state: Before, field: &[u8]) -> Result<Before, FieldEnd> {
-        let atom = read_atom(alloc, ANY_THREAD, field)?;
-        with_atom(state, atom)
-    }
 }

@@ -3,10 +3,9 @@ ghost use Rattle.std.specs.Prelude.{◌≡◌};
 ghost use Rattle.ps_atom_text.specs.Reading.{config_at, configuration_at};
 ghost use Rattle.ps_lines.specs.Reading.{Gives};
 
-use crate::draft::{AtomGrowth, Draft, PlaceGrowth};
-use crate::growth::grow_fields;
+use crate::draft::{take_atoms, take_places};
 use ps_config::Config;
-use ps_text::{Form, FormEnd, Reader, Until};
+use ps_text::{Form, FormEnd, Reader};
 use std::alloc::Global;
 
 /// Takes a configuration, the last fields of a line: `at T:L T:L has ATOM ATOM`.
@@ -15,10 +14,9 @@ pub fn take_config<'a>(alloc: Global, reader: &mut Reader<'a>) -> Result<Config,
     ensures { Gives (λ x. x) result reader.new (configuration_at reader.old) }
 {
     reader.word(b"at")?;
-    let none = Draft::new(alloc);
-    let located = grow_fields::<PlaceGrowth>(alloc, &Until::Word(b"has"), none, reader)?;
+    let located = take_places(alloc, reader)?;
     reader.word(b"has")?;
-    let draft = grow_fields::<AtomGrowth>(alloc, &Until::LineEnd, located, reader)?;
+    let draft = take_atoms(alloc, located, reader)?;
     Ok(draft.into_config())
 }
 

@@ -1,21 +1,23 @@
 //! Configurations, as they are read.
-ghost use Rattle.std.specs.Prelude.{◌≡◌, ◌-◌, ◌∷◌, [], ◌++◌, length, slice_get};
+ghost use Rattle.std.specs.Prelude.{◌≡◌, ◌-◌, ◌∷◌, [], ◌++◌, codes, length, slice_get, true};
 ghost use Rattle.ps_atom_text.specs.Forms.{in_form};
+ghost use Rattle.ps_atom_text.specs.Growing.{goes_to, grow_at};
 ghost use Rattle.ps_atom_text.specs.Reading.{empty_configuration, with_atom, with_place};
 ghost use Rattle.ps_atom_text.specs.inner.Ends.{IsRead};
 ghost use Rattle.ps_atom_text.specs.inner.Last.{is_thread_after};
 ghost use Rattle.ps_config.specs.Configurations.{Configuration};
+ghost use Rattle.ps_lines.specs.Reading.{Gives};
 
 use crate::atom::read_atom;
-use crate::before::comes_last;
 use crate::field_end::FieldEnd;
-use crate::growth::Growth;
+use crate::growth::{Growth, grow_fields};
+use crate::joining::comes_last;
 use crate::limits::MOST_THREAD;
 use crate::met::{meet, meet_all};
 use crate::place::read_place;
 use ps_atom::Atom;
 use ps_config::{Config, MOST_ATOMS, MOST_THREADS};
-use ps_text::FormName;
+use ps_text::{FormEnd, FormName, Reader, Until};
 use std::alloc::Global;
 use std::marker::Model;
 
@@ -50,8 +52,8 @@ fn thread_comes_last(at: &[(u32, u32)], thread: u32) -> bool
 }
 
 impl Draft {
-    /// No thread and no atom.
-    pub(crate) fn new(alloc: Global) -> Draft
+    // No thread and no atom.
+    fn new(alloc: Global) -> Draft
         ensures { result ≡ empty_configuration }
     {
         Draft {
@@ -65,7 +67,11 @@ impl Draft {
     pub(crate) fn into_config(self) -> Config
         ensures { result ≡ self }
     {
-        let Draft { at, atoms, .. } = self;
+        let Draft {
+            at,
+            atoms,
+            met: _met,
+        } = self;
         Config::new(at, atoms)
     }
 
@@ -104,7 +110,10 @@ impl Draft {
             return Err(FieldEnd::Fault(FormName::Order));
         }
         meet_all(&mut met, atom.threads.as_slice())?;
-        if met.len() > MOST_THREADS || atoms.len() >= MOST_ATOMS {
+        if met.len() > MOST_THREADS {
+            return Err(FieldEnd::Fault(FormName::Limit));
+        }
+        if atoms.len() >= MOST_ATOMS {
             return Err(FieldEnd::Fault(FormName::Limit));
         }
         atoms.push(atom)?;
@@ -112,8 +121,8 @@ impl Draft {
     }
 }
 
-/// Threads with their locations, one by one.
-pub(crate) struct PlaceGrowth;
+// Threads with their locations, one by one.
+struct PlaceGrowth;
 
 impl Growth for PlaceGrowth {
     type State = Draft;
@@ -129,8 +138,8 @@ impl Growth for PlaceGrowth {
     }
 }
 
-/// Atoms of a configuration, one by one.
-pub(crate) struct AtomGrowth;
+// Atoms of a configuration, one by one.
+struct AtomGrowth;
 
 impl Growth for AtomGrowth {
     type State = Draft;
@@ -142,4 +151,23 @@ impl Growth for AtomGrowth {
         let atom = read_atom(alloc, MOST_THREAD, field)?;
         state.with_atom(atom)
     }
+}
+
+/// Takes the threads with their locations of a configuration that has no atoms yet: the fields up to `has`.
+pub(crate) fn take_places<'a>(alloc: Global, reader: &mut Reader<'a>) -> Result<Draft, FormEnd>
+    ensures { Gives (λ x. x) result reader.new
+        (grow_at (goes_to (codes "has")) with_place empty_configuration reader.old) }
+{
+    grow_fields::<PlaceGrowth>(alloc, &Until::Word(b"has"), Draft::new(alloc), reader)
+}
+
+/// Takes the atoms of a configuration: the fields up to the end of the line.
+pub(crate) fn take_atoms<'a>(
+    alloc: Global,
+    located: Draft,
+    reader: &mut Reader<'a>,
+) -> Result<Draft, FormEnd>
+    ensures { Gives (λ x. x) result reader.new (grow_at (λ _. true) with_atom located reader.old) }
+{
+    grow_fields::<AtomGrowth>(alloc, &Until::LineEnd, located, reader)
 }

@@ -1,11 +1,10 @@
 //! Entries as lines.
 ghost use Rattle.std.specs.Prelude.{◌≡◌};
-ghost use Rattle.ps_atom_text.specs.Reading.{entry_at, initial_at, lambda_at, none_before, triple_at};
+ghost use Rattle.ps_atom_text.specs.Reading.{entry_at, initial_at, lambda_at, triple_at};
 ghost use Rattle.ps_lines.specs.Reading.{Gives};
 
 use crate::atom::take_atom;
-use crate::before::{Before, BeforeGrowth};
-use crate::growth::grow_fields;
+use crate::joining::take_before;
 use crate::limits::ANY_THREAD;
 use ps_list::Sequence;
 use ps_text::{Form, FormEnd, Natural, Reader, Until, list};
@@ -42,10 +41,7 @@ fn take_triple<'a>(alloc: Global, reader: &mut Reader<'a>) -> Result<Entry, Form
     reader.word(b"post")?;
     let post = take_atom(alloc, ANY_THREAD, reader)?;
     reader.word(b"pre")?;
-    let none = Before {
-        atoms: Sequence::from_list(Vec::new(alloc)),
-    };
-    let before = grow_fields::<BeforeGrowth>(alloc, &Until::Word(b"by"), none, reader)?;
+    let before = take_before(alloc, reader)?;
     let lambda = take_lambda(alloc, reader)?;
     Ok(Entry::Triple(Triple {
         pre: before.atoms,

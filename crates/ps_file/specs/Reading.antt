@@ -1,5 +1,5 @@
 -- Reading proofs, with the first fault.
-use Rattle.std.specs.Prelude.{Result, Ok, codes}
+use Rattle.std.specs.Prelude.{ℕ, List, Result, Ok, codes}
 use Rattle.ps_atom_text.specs.Reading.{config_at, entry_at, predicate_at}
 use Rattle.ps_file.specs.declared.limits.TheConstants.{MOST_CONFIGS, MOST_ENTRIES, MOST_PREDICATES}
 use Rattle.ps_file.specs.declared.proof.Proof.{Proof}
@@ -14,16 +14,19 @@ version_at at = do
   v ← word_at (codes "1") w.1
   end_at v.1
 
+-- A line of a word and a count, at most `limit`, and so many members.
+unfoldable pub listed_at : {A : Type 0} → List ℕ → ℕ → Read A → Read (List A)
+listed_at word limit read at = do
+  n ← header_at word limit at
+  times_at read n.0 n.1
+
 -- The whole text, and nothing after it.
 unfoldable pub proof_at : Position → Result Proof FormFault
 proof_at at = do
   v ← version_at at
-  p ← header_at (codes "preds") MOST_PREDICATES v.1
-  predicates ← times_at predicate_at p.0 p.1
-  e ← header_at (codes "entries") MOST_ENTRIES predicates.1
-  entries ← times_at entry_at e.0 e.1
-  c ← header_at (codes "configs") MOST_CONFIGS entries.1
-  configs ← times_at config_at c.0 c.1
-  o ← only_at (codes "end") configs.1
-  d ← done_at o.1
+  predicates ← listed_at (codes "preds") MOST_PREDICATES predicate_at v.1
+  entries ← listed_at (codes "entries") MOST_ENTRIES entry_at predicates.1
+  configs ← listed_at (codes "configs") MOST_CONFIGS config_at entries.1
+  e ← only_at (codes "end") configs.1
+  d ← done_at e.1
   Ok (record { predicates = predicates.0; entries = entries.0; configs = configs.0 })

@@ -5,21 +5,18 @@ use Rattle.ps_atom_text.specs.Spelling.{predicate_line, entry_line, config_line,
 use Rattle.ps_file.specs.declared.limits.TheConstants.{MOST_CONFIGS, MOST_ENTRIES, MOST_PREDICATES}
 use Rattle.ps_file.specs.declared.proof.Proof.{Proof}
 
--- A word and a count.
-abbrev pub count_line : List ℕ → ℕ → List ℕ × List (List ℕ)
-count_line word n = (word, decimal n ∷ [])
+-- A word and how many there are, and a line for each.
+abbrev pub listed : {A : Type 0} → List ℕ → (A → List ℕ × List (List ℕ)) → List A → List (List ℕ × List (List ℕ))
+listed word line xs = (word, decimal (length xs) ∷ []) ∷ map line xs
 
--- `configs` and their number, a line for each, and `end`.
-abbrev pub config_lines : Proof → List (List ℕ × List (List ℕ))
-config_lines p = count_line (codes "configs") (length p.configs) ∷ (map config_line p.configs ++ ((codes "end", []) ∷ []))
-
--- `entries` and their number, a line for each, and the configurations.
-abbrev pub entry_lines : Proof → List (List ℕ × List (List ℕ))
-entry_lines p = count_line (codes "entries") (length p.entries) ∷ (map entry_line p.entries ++ config_lines p)
-
--- `proof 1`, `preds` and the number of predicates, a line for each, the entries, and the configurations.
+-- `proof 1`, the predicates, the entries, the configurations, and `end`.
 abbrev pub proof_lines : Proof → List (List ℕ × List (List ℕ))
-proof_lines p = (codes "proof", codes "1" ∷ []) ∷ count_line (codes "preds") (length p.predicates) ∷ (map predicate_line p.predicates ++ entry_lines p)
+proof_lines p =
+    (codes "proof", codes "1" ∷ [])
+    ∷ (listed (codes "preds") predicate_line p.predicates
+    ++ (listed (codes "entries") entry_line p.entries
+    ++ (listed (codes "configs") config_line p.configs
+    ++ ((codes "end", []) ∷ []))))
 
 -- Each of the lists is within its limit, and each member has a spelling.
 pub record ProofFits (p : Proof) : Type 0 where
