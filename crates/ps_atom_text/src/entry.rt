@@ -2,10 +2,13 @@
 ghost use Rattle.std.specs.Prelude.{◌≡◌};
 ghost use Rattle.ps_atom_text.specs.Reading.{entry_at, initial_at, lambda_at, triple_at};
 ghost use Rattle.ps_lines.specs.Reading.{Gives};
+ghost use Rattle.ps_triple.specs.declared.entry.Entry.TheVariants.{Triple as OfTriple};
 
 use crate::atom::take_atom;
+use crate::before::Before;
 use crate::joining::take_before;
 use crate::limits::ANY_THREAD;
+use ps_atom::Atom;
 use ps_list::Sequence;
 use ps_text::{Form, FormEnd, Natural, Reader, Until, list};
 use ps_triple::{Entry, Initial, Triple};
@@ -32,6 +35,24 @@ fn take_initial<'a>(alloc: Global, reader: &mut Reader<'a>) -> Result<Entry, For
     Ok(Entry::Initial(Initial { predicate, lambda }))
 }
 
+// The entry of a triple.
+fn triple(command: u32, post: Atom, before: Before, lambda: Sequence<u128>) -> Entry
+    ensures { result ≡ OfTriple (record {
+      pre = before.atoms;
+      command = command;
+      post = post;
+      lambda = lambda;
+      ascends = before.ascends;
+    }) }
+{
+    Entry::Triple(Triple {
+        pre: before.atoms,
+        command,
+        post,
+        lambda,
+    })
+}
+
 #[tactic(auto, unfolding(crate::specs::Reading::triple_at, ps_lines::specs::Steps::and_then))]
 fn take_triple<'a>(alloc: Global, reader: &mut Reader<'a>) -> Result<Entry, FormEnd>
     ensures { Gives (λ x. x) result reader.new (triple_at reader.old) }
@@ -43,12 +64,7 @@ fn take_triple<'a>(alloc: Global, reader: &mut Reader<'a>) -> Result<Entry, Form
     reader.word(b"pre")?;
     let before = take_before(alloc, reader)?;
     let lambda = take_lambda(alloc, reader)?;
-    Ok(Entry::Triple(Triple {
-        pre: before.atoms,
-        command,
-        post,
-        lambda,
-    }))
+    Ok(triple(command, post, before, lambda))
 }
 
 /// A line of an entry: `init P by NUM NUM` or `triple C post ATOM pre ATOM ATOM by NUM NUM`.
