@@ -60,8 +60,7 @@ listed_found : {A : Type 0} (word : List ℕ) (limit : ℕ) (read : Read A) (spe
 unfolding listed_at
 listed_found {A = A} word limit read spell fits plain small exact at =
     found_bind _ _ _ _ ((header_exact word limit plain small).found at) (λ n p.
-    found_as (times_at read n.0 n.1) _ _ ((times_exact read spell fits exact n.0).found n.1) (λ y q.
-    (
+    found_as (times_at read n.0 n.1) _ _ ((times_exact read spell fits exact n.0).found n.1) (λ y q. (
       p.0 ∙ ap (λ (ts : List LinePart). header_tokens word n.0 ++ ts) q.0 ∙ ap (λ (k : ℕ). header_tokens word k ++ (flat_map spell y.0 ++ y.1.tokens)) (sym q.1.0),
       record { few = omega (arith, q.1.0, p.1); all = q.1.1 },
     )))

@@ -46,8 +46,7 @@ fn whole(alloc: Global, bytes: &[u8], first: u32) -> Result<Proof, FormEnd>
 {
     let mut reader = Reader::new(bytes, first);
     take_version(&mut reader)?;
-    let predicates =
-        take_listed::<PredicateLine>(alloc, b"preds", MOST_PREDICATES, &mut reader)?;
+    let predicates = take_listed::<PredicateLine>(alloc, b"preds", MOST_PREDICATES, &mut reader)?;
     let entries = take_listed::<EntryLine>(alloc, b"entries", MOST_ENTRIES, &mut reader)?;
     let configs = take_listed::<ConfigLine>(alloc, b"configs", MOST_CONFIGS, &mut reader)?;
     reader.only(b"end")?;
