@@ -1,0 +1,12 @@
+pub mod Commas
+pub mod Atoms
+pub mod Fields
+pub mod Growths
+pub mod Orders
+pub mod Different
+pub mod InForm
+pub mod Befores
+pub mod Entries
+pub mod Configs
+pub mod Printed
+pub mod Threads

@@ -1,0 +1,4 @@
+-- What only clauses within the crate speak of.
+pub mod Ends
+pub mod Last
+pub mod Met
