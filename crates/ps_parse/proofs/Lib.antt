@@ -25,6 +25,7 @@ pub mod NamesDeclared
 pub mod Spots
 pub mod OneAnswer
 pub mod OneRefusal
+pub mod InParts
 pub mod Examples
 pub mod RowLaws
 pub mod CauseSteps

@@ -2,6 +2,7 @@ pub mod Kinds
 pub mod Promises
 pub mod Reads
 pub mod Causes
+pub mod Parts
 pub mod Texts
 pub mod Refusals
 pub mod Examples

@@ -1,14 +1,16 @@
 //! Facts about the texts of programs and their faults: each function does no work, and its clause is the fact.
 
-ghost use Rattle.std.specs.Prelude.{◌≡◌, ◌++◌, ℕ, List};
+ghost use Rattle.std.specs.Prelude.{◌≡◌, ◌++◌, ℕ, false, List, [], ◌∷◌};
 ghost use Rattle.ps_token.specs.Lexing.{AreTokens};
 ghost use Rattle.ps_token.specs.declared.place.Place.{Place};
 ghost use Rattle.ps_token.specs.declared.token.Token.{Token};
 ghost use Rattle.ps_tree.specs.declared.program.Program.{Program};
 ghost use Rattle.ps_grammar.specs.Programs.{IsProgram, IsProgramText};
 ghost use Rattle.ps_grammar.specs.Words.{Word};
-ghost use Rattle.ps_parse.specs.Causes.{HasNoCause};
-ghost use Rattle.ps_parse.specs.Reads.{IsFirstGrammarFault, IsText, PassesGrammar, StandsInText};
+ghost use Rattle.ps_parse.specs.Causes.{AreRefused, HasNoCause, IsClean, words_at};
+ghost use Rattle.ps_parse.specs.Parts.{HasOwnCause, is_second_name};
+ghost use Rattle.ps_parse.specs.Reads.{BeginAlike, IsFirstGrammarFault, IsText, PassesGrammar, StandsInText};
+ghost use Rattle.ps_parse.specs.declared.read_refusal.ReadRefusal.TheVariants as refusal;
 ghost use Rattle.ps_parse.specs.Texts.{GrammarIsFault, IsAnswered, IsFirstRefusal, IsInText, IsRefused};
 ghost use Rattle.ps_parse.specs.declared.read_refusal.ReadRefusal.{ReadRefusal};
 
@@ -60,4 +62,22 @@ pub fn one_answer()
     // What `read_program` promises of a refusal of the words is that it refuses them.
     ensures promised { (bytes : List ℕ) (e : ReadRefusal) → IsFirstRefusal bytes e
         → IsInText bytes e → GrammarIsFault bytes e → IsRefused bytes e }
+{}
+
+/// The first word with a cause and the first fault of the grammar decide how words are refused, each found apart from the
+/// other.
+pub fn in_parts()
+    // The cause does, where the words before it go on as some text of the grammar, and with its word too unless that is a
+    // second name of a product.
+    ensures cause { (words : List Word) (end : Place) (e : ReadRefusal)
+        (c : HasOwnCause words end e) (others : List Word) → IsText (words_at c.first.back others)
+        → (PassesGrammar e → BeginAlike c.first.ahead others) → AreRefused words end e }
+    // The fault does, where no word before it has a cause, and it is no second name of a product.
+    ensures fault { (words : List Word) (end p : Place) (f : IsFirstGrammarFault words end p)
+        (back : List Word) → f.before ≡ words_at back [] → IsClean back f.rest
+        → is_second_name back f.rest ≡ false → AreRefused words end (refusal.Grammar p) }
+    // A fault at one of the first words is that of all.
+    ensures front { (front rest : List Word) (end after p : Place) (w : Word) (ws : List Word)
+        (f : IsFirstGrammarFault front end p) → f.rest ≡ w ∷ ws
+        → IsFirstGrammarFault (front ++ rest) after p }
 {}
