@@ -1,0 +1,6 @@
+//! Which traces the entries of a proof prove.
+#![tactic(auto)]
+
+mod membership;
+
+pub use membership::member;
