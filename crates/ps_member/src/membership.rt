@@ -5,6 +5,8 @@ ghost use Rattle.ps_demand.specs.Demands.{AreTied};
 ghost use Rattle.ps_soundness.specs.Traces.{trace_of};
 ghost use Rattle.ps_trace.specs.Traces.{pairs_of};
 
+use crate::back::walk_back;
+use crate::forth::gives_false;
 use ps_basis::Shown;
 use ps_graph::Graph;
 use ps_trace::IndexedTrace;
@@ -19,15 +21,21 @@ use std::alloc::{AllocError, Global};
 /// among those demanded; no renaming is tried but the one that the atom fixes. Between the two walks the atoms that can
 /// be demanded at each cut are kept, each once.
 pub fn member<B: Shown>(
-    _alloc: Global,
-    _graph: &Graph,
-    _basis: &B,
-    _trace: &IndexedTrace,
+    alloc: Global,
+    graph: &Graph,
+    basis: &B,
+    trace: &IndexedTrace,
 ) -> Result<bool, AllocError>
-    requires tied { AreTied (B.entries _basis.now) }
-    requires edges { All (λ l. l.edge < length _graph.now.edges) _trace.now.letters }
+    requires tied { AreTied (B.entries basis.now) }
+    requires edges { All (λ l. l.edge < length graph.now.edges) trace.now.letters }
     ensures { IfOk result (λ yes. IsTrue yes
-        ↔ IsProved (B.entries _basis.now) (trace_of _graph.now.edges (pairs_of _trace.now))) }
+        ↔ IsProved (B.entries basis.now) (trace_of graph.now.edges (pairs_of trace.now))) }
 {
-    Err(AllocError)
+    let letters = trace.letters.as_slice();
+    if letters.is_empty() {
+        return Ok(false);
+    }
+    let walk = walk_back(alloc, graph, basis, letters)?;
+    let proved = gives_false(alloc, basis, walk)?;
+    Ok(proved)
 }
