@@ -2,10 +2,13 @@
 ghost use Rattle.std.specs.Prelude.{◌≡◌, ℕ, ◌+◌, ◌<◌, ◌^◌, List, length, Some, IfOk, IfErr};
 ghost use Rattle.ps_compile.specs.Conditions.{IsCompilable};
 ghost use Rattle.ps_grammar.specs.Programs.{IsProgram};
-ghost use Rattle.ps_modes.specs.Inner.Graphs.{IfRefused, IsGraphSaid};
+ghost use Rattle.ps_modes.specs.Inner.Graphs.{IfRefused, IsGraphSaid, IsRefusal};
 ghost use Rattle.ps_modes.specs.Programs.{RefusesBy};
+ghost use Rattle.ps_modes.specs.declared.status.Status.TheVariants.{BadInput};
 ghost use Rattle.ps_parse.specs.Refusals.{refusal_text};
 
+use crate::answer::Answer;
+use crate::status::Status;
 use ps_compile::{CompileEnd, compile};
 use ps_graph::Graph;
 use ps_parse::{ReadRefusal, read_program, refusal_line};
@@ -30,6 +33,20 @@ pub(crate) fn graph_said(alloc: Global, text: &[u8]) -> Result<Graph, GraphEnd>
     match read_program(alloc, text) {
         Ok(program) => graph_of(alloc, &program),
         Err(refusal) => Err(refused(alloc, &refusal)),
+    }
+}
+
+/// The answer to an input whose program gives no graph.
+pub(crate) fn refusal_answer(end: GraphEnd) -> Result<Answer, AllocError>
+    ensures status { IfOk result (λ answer. answer.status ≡ BadInput) }
+    ensures text { IfOk result (λ answer. IsRefusal end answer.text.items) }
+{
+    match end {
+        GraphEnd::Refused(text) => Ok(Answer {
+            status: Status::BadInput,
+            text,
+        }),
+        GraphEnd::Memory(end) => Err(end),
     }
 }
 

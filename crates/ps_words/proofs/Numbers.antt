@@ -1,8 +1,8 @@
 -- What the matches have for an option is a number that it takes.
-use Rattle.std.proofs.Common.{◌≡◌, ◌∙◌, ◌<◌, ◌≤◌, ◌^◌, ℕ, Bool, true, false, List, [], ◌∷◌, length, Option, Some, None, Result, Ok, Err, IfSome, refl, sym, ap, subst, inl, inr, arith, lit≤, lit<}
+use Rattle.std.proofs.Common.{◌≡◌, ◌∙◌, ◌<◌, ◌^◌, ℕ, true, false, List, [], ◌∷◌, length, Option, Some, None, Result, Ok, IfSome, refl, sym, ap, subst, inl, inr, arith, lit≤, lit<}
 use Rattle.std.specs.Borrow.{Bor}
-use Rattle.std.specs.List.{All, find, slice_index_or}
-use Rattle.std.specs.Prelude.{option_map, option_and_then, pos, slice_get, unwrap_or}
+use Rattle.std.specs.List.{All, slice_index_or}
+use Rattle.std.specs.Prelude.{option_map, option_and_then, slice_get, unwrap_or}
 use Rattle.std.specs.Str.{bytes_eq}
 use Rattle.std.specs.Str.Parse.{ParsesUnsigned}
 use Rattle.std.proofs.lemmas.List.Elements.{All-get_or}
@@ -23,7 +23,6 @@ use Rattle.clap.specs.declared.builder.value_parser.Reading.{Reading}
 use Rattle.clap.specs.declared.builder.value_parser.Reading.TheVariants.{WithoutMinus}
 use Rattle.clap.specs.declared.builder.value_parser.ValueParser.{ValueParser}
 use Rattle.clap.specs.declared.parser.matches.ArgMatches.{ArgMatches}
-use Rattle.clap.specs.declared.parser.matches.Found.{Found}
 use Rattle.clap.specs.declared.parser.matches.MatchedArg.{MatchedArg}
 use Rattle.ps_words.proofs.Made.{built_parses, has_name}
 use Rattle.ps_words.specs.Asked.{number_in, number_of}

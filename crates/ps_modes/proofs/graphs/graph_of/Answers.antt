@@ -3,7 +3,7 @@ use Rattle.std.proofs.Common.{refl}
 use Rattle.ps_compile.proofs.Meets.{graph_of}
 use Rattle.ps_parse.specs.declared.read_refusal.ReadRefusal.TheVariants as refusal
 use Rattle.ps_modes.proofs.FewEdges.{few_edges}
-use Rattle.ps_modes.proofs.Graphs.{IfRefused-weaker}
+use Rattle.ps_modes.proofs.Refusing.{IfRefused-weaker}
 use Rattle.ps_modes.specs.Programs.{PastLimit}
 use Rattle.ps_modes.proofs.graphs.graph_of.Goals as goal
 

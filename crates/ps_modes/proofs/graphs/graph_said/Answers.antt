@@ -1,6 +1,6 @@
 -- A program that is read can be compiled; one that isn't is refused by the line of its refusal.
 use Rattle.ps_compile.proofs.Readable.{readable}
-use Rattle.ps_modes.proofs.Graphs.{IfRefused-weaker}
+use Rattle.ps_modes.proofs.Refusing.{IfRefused-weaker}
 use Rattle.ps_modes.proofs.Programs.{read_refused}
 use Rattle.ps_modes.proofs.graphs.graph_said.Goals as goal
 
