@@ -5,6 +5,7 @@
 #![tactic(auto)]
 
 mod answers;
+mod asked;
 mod case;
 mod decimals;
 mod escapes;
