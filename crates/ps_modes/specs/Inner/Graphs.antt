@@ -15,9 +15,9 @@ pub record IsGraphSaid (text : List ℕ) (graph : Graph) : Type 0 where
   pub few : length graph.edges < 2 ^ 32
 
 -- the fact holds of the line, if there is one
-abbrev pub IfRefused : (List ℕ → Type 0) → GraphEnd → Type 0
-IfRefused P (Refused text) = P text.items
-IfRefused P (Memory end) = Unit {0}
+abbrev pub IfLine : (List ℕ → Type 0) → GraphEnd → Type 0
+IfLine P (Refused text) = P text.items
+IfLine P (Memory end) = Unit {0}
 
 -- it has this line
 abbrev pub IsRefusal : GraphEnd → List ℕ → Type 0
