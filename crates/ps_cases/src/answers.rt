@@ -1,4 +1,5 @@
 //! What comes of the input of a case, by its kind.
+use crate::asked::asked;
 use crate::copies::copied;
 use crate::decimals::{integer, natural, natural32};
 use crate::forms::{cut_lines, cut_tokens, read_a_term, reprinted_rows};
@@ -43,6 +44,7 @@ pub fn answer<R: Threads + Wait + Sync>(
 // The answer of a kind that needs no threads.
 fn answer_alone(alloc: Global, kind: &str, input: &[u8]) -> Result<Vec<u8>, AllocError> {
     match kind {
+        "asks" => asked(alloc, input),
         "reads" | "refuses" => read(alloc, input),
         "prints" => printed(alloc, input),
         "again" => printed_again(alloc, input),

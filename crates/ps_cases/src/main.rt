@@ -5,6 +5,7 @@
 #![tactic(auto)]
 
 mod answers;
+mod asked;
 mod copies;
 mod decimals;
 mod forms;

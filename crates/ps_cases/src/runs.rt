@@ -42,7 +42,8 @@ fn sink_of(alloc: Global, outside: Outside) -> Result<MemorySink, AllocError> {
     MemorySink::new(alloc, outside.room as usize, piece, failing)
 }
 
-fn words_of(alloc: Global, words: &[u8]) -> Result<Vec<String>, AllocError> {
+/// The words of a case, which blanks part.
+pub fn words_of(alloc: Global, words: &[u8]) -> Result<Vec<String>, AllocError> {
     let words = str::from_utf8(words).ok().ok_or(AllocError)?;
     let mut list = Vec::new(alloc);
     for word in words.split_whitespace() {

@@ -20,7 +20,7 @@ pub record Answers (Owed : List ℕ → Status → List ℕ → Type 0) (input b
 
 -- a source as a call finds it and leaves it: the bytes that are left, where it tells them, its count of faults, and whether
 -- its last call failed
-pub record Reading : Type 0 where
+pub record SourceChange : Type 0 where
   pub left : Option (List ℕ)
   pub left_after : Option (List ℕ)
   pub faults : ℕ
@@ -28,7 +28,7 @@ pub record Reading : Type 0 where
   pub failed_after : Bool
 
 -- a sink as a call finds it and leaves it: the bytes written, where it tells them, and its count of faults
-pub record Writing : Type 0 where
+pub record SinkChange : Type 0 where
   pub written : Option (List ℕ)
   pub written_after : Option (List ℕ)
   pub faults : ℕ
@@ -36,7 +36,7 @@ pub record Writing : Type 0 where
 
 -- A fault of the outside is told exactly where one came: of the source within the limit, which ended the reading, so that
 -- nothing was written; of the sink. Without memory nothing was written.
-pub record HasCauses (reading : Reading) (writing : Writing) (result : ℕ) : Type 0 where
+pub record HasCauses (reading : SourceChange) (writing : SinkChange) (result : ℕ) : Type 0 where
   pub read_fault : result ≡ code ReadFault → Rose reading.faults reading.faults_after
   pub read_fault_last : result ≡ code ReadFault → IsTrue reading.failed_after
   pub read_fault_within : result ≡ code ReadFault → GaveAtMost MOST_BYTES reading.left reading.left_after

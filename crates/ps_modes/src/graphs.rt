@@ -2,10 +2,13 @@
 ghost use Rattle.std.specs.Prelude.{◌≡◌, ℕ, ◌+◌, ◌<◌, ◌^◌, List, length, Some, IfOk, IfErr};
 ghost use Rattle.ps_compile.specs.Conditions.{IsCompilable};
 ghost use Rattle.ps_grammar.specs.Programs.{IsProgram};
-ghost use Rattle.ps_modes.specs.Inner.Graphs.{IfRefused, IsGraphSaid};
+ghost use Rattle.ps_modes.specs.Inner.Graphs.{IfLine, IsGraphSaid, IsRefusal};
 ghost use Rattle.ps_modes.specs.Programs.{RefusesBy};
+ghost use Rattle.ps_modes.specs.declared.status.Status.TheVariants.{BadInput};
 ghost use Rattle.ps_parse.specs.Refusals.{refusal_text};
 
+use crate::answer::Answer;
+use crate::status::Status;
 use ps_compile::{CompileEnd, compile};
 use ps_graph::Graph;
 use ps_parse::{ReadRefusal, read_program, refusal_line};
@@ -25,11 +28,25 @@ pub(crate) enum GraphEnd {
 pub(crate) fn graph_said(alloc: Global, text: &[u8]) -> Result<Graph, GraphEnd>
     requires { length text.now + 1 < 2 ^ 32 }
     ensures said { IfOk result (IsGraphSaid text.now) }
-    ensures refused { IfErr result (IfRefused (RefusesBy text.now)) }
+    ensures refused { IfErr result (IfLine (RefusesBy text.now)) }
 {
     match read_program(alloc, text) {
         Ok(program) => graph_of(alloc, &program),
         Err(refusal) => Err(refused(alloc, &refusal)),
+    }
+}
+
+/// The answer to an input whose program gives no graph.
+pub(crate) fn refusal_answer(end: GraphEnd) -> Result<Answer, AllocError>
+    ensures status { IfOk result (λ answer. answer.status ≡ BadInput) }
+    ensures text { IfOk result (λ answer. IsRefusal end answer.text.items) }
+{
+    match end {
+        GraphEnd::Refused(text) => Ok(Answer {
+            status: Status::BadInput,
+            text,
+        }),
+        GraphEnd::Memory(end) => Err(end),
     }
 }
 
@@ -38,7 +55,7 @@ fn graph_of(alloc: Global, program: &Program) -> Result<Graph, GraphEnd>
     requires { IsCompilable program.now }
     ensures said { (text : List ℕ) → IsProgram text program.now → IfOk result (IsGraphSaid text) }
     ensures refused { (text : List ℕ) → IsProgram text program.now
-        → IfErr result (IfRefused (RefusesBy text)) }
+        → IfErr result (IfLine (RefusesBy text)) }
 {
     match compile(alloc, program) {
         Ok(graph) => Ok(graph),
@@ -51,7 +68,7 @@ fn graph_of(alloc: Global, program: &Program) -> Result<Graph, GraphEnd>
 
 /// The line of a refusal.
 fn refused(alloc: Global, refusal: &ReadRefusal) -> GraphEnd
-    ensures { IfRefused (λ line. refusal_text refusal.now ≡ Some line) result }
+    ensures { IfLine (λ line. refusal_text refusal.now ≡ Some line) result }
 {
     match refusal_line(alloc, refusal) {
         Ok(Some(text)) => GraphEnd::Refused(text),

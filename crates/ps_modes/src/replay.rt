@@ -12,7 +12,7 @@ ghost use Rattle.ps_tree.specs.declared.program.Program.{Program};
 
 use crate::answer::{Answer, answer_line};
 use crate::frame::answer_input;
-use crate::graphs::{GraphEnd, graph_said};
+use crate::graphs::{graph_said, refusal_answer};
 use crate::judge::Judge;
 use crate::status::Status;
 use crate::texts::{LIMIT_PART, NO, NO_MARK, PAST, YES, fault_line};
@@ -97,11 +97,7 @@ fn judge_texts(
 {
     match graph_said(alloc, program) {
         Ok(graph) => judge_witness(alloc, &graph, witness, line),
-        Err(GraphEnd::Refused(text)) => Ok(Answer {
-            status: Status::BadInput,
-            text,
-        }),
-        Err(GraphEnd::Memory(end)) => Err(end),
+        Err(end) => refusal_answer(end),
     }
 }
 

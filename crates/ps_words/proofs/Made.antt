@@ -1,5 +1,5 @@
 -- A command that grows by arguments stays one whose options take their numbers.
-use Rattle.std.proofs.Common.{◌≡◌, ◌||◌, ◌∙◌, ℕ, Bool, true, false, List, [], ◌∷◌, ◌<◌, length, refl, sym, ap, subst, inl, inr, arith, codes, lit<}
+use Rattle.std.proofs.Common.{◌≡◌, ◌||◌, ◌∙◌, ℕ, Bool, true, false, List, [], ◌<◌, length, refl, sym, ap, subst, inl, inr, arith, codes, lit<}
 use Rattle.std.specs.List.{All, slice_index_or}
 use Rattle.std.specs.Str.{bytes_eq}
 use Rattle.std.proofs.lemmas.Bool.{cases_lt}

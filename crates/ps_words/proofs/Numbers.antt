@@ -1,8 +1,8 @@
 -- What the matches have for an option is a number that it takes.
-use Rattle.std.proofs.Common.{◌≡◌, ◌∙◌, ◌<◌, ◌≤◌, ◌^◌, ℕ, Bool, true, false, List, [], ◌∷◌, length, Option, Some, None, Result, Ok, Err, IfSome, refl, sym, ap, subst, inl, inr, arith, lit≤, lit<}
+use Rattle.std.proofs.Common.{◌≡◌, ◌∙◌, ◌<◌, ◌^◌, ℕ, true, false, List, [], ◌∷◌, length, Option, Some, None, Result, Ok, IfSome, refl, sym, ap, subst, inl, inr, arith, lit≤, lit<}
 use Rattle.std.specs.Borrow.{Bor}
-use Rattle.std.specs.List.{All, find, slice_index_or}
-use Rattle.std.specs.Prelude.{option_map, option_and_then, pos, slice_get, unwrap_or}
+use Rattle.std.specs.List.{All, slice_index_or}
+use Rattle.std.specs.Prelude.{option_map, option_and_then, slice_get, unwrap_or}
 use Rattle.std.specs.Str.{bytes_eq}
 use Rattle.std.specs.Str.Parse.{ParsesUnsigned}
 use Rattle.std.proofs.lemmas.List.Elements.{All-get_or}
@@ -23,16 +23,15 @@ use Rattle.clap.specs.declared.builder.value_parser.Reading.{Reading}
 use Rattle.clap.specs.declared.builder.value_parser.Reading.TheVariants.{WithoutMinus}
 use Rattle.clap.specs.declared.builder.value_parser.ValueParser.{ValueParser}
 use Rattle.clap.specs.declared.parser.matches.ArgMatches.{ArgMatches}
-use Rattle.clap.specs.declared.parser.matches.Found.{Found}
 use Rattle.clap.specs.declared.parser.matches.MatchedArg.{MatchedArg}
 use Rattle.ps_words.proofs.Made.{built_parses, has_name}
-use Rattle.ps_words.specs.Asked.{number_in, number_of}
+use Rattle.ps_words.specs.Asked.{number_in, option_number}
 use Rattle.ps_words.specs.Command.{option_parser}
-use Rattle.ps_words.specs.Options.{Takes, default_of, least_of, most_of, option_name}
+use Rattle.ps_words.specs.Options.{Takes, default_number, least_number, most_number, option_name}
 use Rattle.ps_words.specs.declared.option_name.OptionName.{OptionName}
 use Rattle.ps_words.specs.declared.option_name.OptionName.TheVariants.{Explorers, Provers, Nodes, Traces, Width, Size}
 use Rattle.ps_words.specs.inner.Commands.{AreRead, IsMade, IsReadOf}
-use Rattle.ps_words.specs.inner.Numbers.{IsNumber}
+use Rattle.ps_words.specs.inner.Numbers.{IsOptionNumber}
 
 -- ---- entries
 
@@ -105,7 +104,7 @@ numbers_read made app m is p option = some (matched_of (found_of m) (option_name
 
 -- ---- numbers
 
-default_taken : (option : OptionName) → Takes option (default_of option)
+default_taken : (option : OptionName) → Takes option (default_number option)
 default_taken Explorers = (lit≤ tt, lit≤ tt)
 default_taken Provers = (lit≤ tt, lit≤ tt)
 default_taken Nodes = (lit≤ tt, lit≤ tt)
@@ -113,7 +112,7 @@ default_taken Traces = (lit≤ tt, lit≤ tt)
 default_taken Width = (lit≤ tt, lit≤ tt)
 default_taken Size = (lit≤ tt, lit≤ tt)
 
-small : (option : OptionName) → most_of option < 2 ^ 32
+small : (option : OptionName) → most_number option < 2 ^ 32
 small Explorers = lit< tt
 small Provers = lit< tt
 small Nodes = lit< tt
@@ -126,7 +125,7 @@ pub number_answered : (E : Type 0) (G : List ℕ → Result ℕ E → Type 0) (o
     → ((u : List ℕ) (x : Result ℕ E) → G u x → ParsesUnsigned 32 10 u x)
     → AreRead (found_of m) → (one_text (found_of m) (option_name option) ≡ None → r ≡ None)
     → ((t : List ℕ) → one_text (found_of m) (option_name option) ≡ Some t → ReadsOne G t r)
-    → n ≡ unwrap_or r (default_of option) → IsNumber option m n
+    → n ≡ unwrap_or r (default_number option) → IsOptionNumber option m n
 number_answered E G option m r n only read none some is =
     go (one_text (found_of m) (option_name option)) refl (one_text-rows (found_of m) (option_name option))
   where
@@ -135,21 +134,21 @@ number_answered E G option m r n only read none some is =
     answered t None h k e = absurd (cc)
 
     go : (o : Option (List ℕ)) → one_text (found_of m) (option_name option) ≡ o
-        → one_text (found_of m) (option_name option) ≡ one_of (option_name option) (rows_of (found_of m)) → IsNumber option m n
+        → one_text (found_of m) (option_name option) ≡ one_of (option_name option) (rows_of (found_of m)) → IsOptionNumber option m n
     go None e rows =
-        let counts : number_of option (rows_of (found_of m)) ≡ default_of option =
-        ap (λ (o : Option (List ℕ)). unwrap_or (option_map number_in o) (default_of option)) (sym rows ∙ e) in
-        let default : n ≡ default_of option = is ∙ ap (λ (o : Option ℕ). unwrap_or o (default_of option)) (none e) in record {
+        let counts : option_number option (rows_of (found_of m)) ≡ default_number option =
+        ap (λ (o : Option (List ℕ)). unwrap_or (option_map number_in o) (default_number option)) (sym rows ∙ e) in
+        let default : n ≡ default_number option = is ∙ ap (λ (o : Option ℕ). unwrap_or o (default_number option)) (none e) in record {
           matched = default ∙ sym counts;
           taken = subst (λ (k : ℕ). Takes option k) (sym default) (default_taken option);
         }
     go (Some t) e rows =
-        let counts : number_of option (rows_of (found_of m)) ≡ number_in t =
-        ap (λ (o : Option (List ℕ)). unwrap_or (option_map number_in o) (default_of option)) (sym rows ∙ e) in
+        let counts : option_number option (rows_of (found_of m)) ≡ number_in t =
+        ap (λ (o : Option (List ℕ)). unwrap_or (option_map number_in o) (default_number option)) (sym rows ∙ e) in
         let text : IsReadOf option t = subst (λ (o : Option (List ℕ)). IfSome o (IsReadOf option)) e (read option) in
-        let got = signed_reads E G 32 (least_of option) (most_of option) text.0 r
+        let got = signed_reads E G 32 (least_number option) (most_number option) text.0 r
         (subst (λ (u : List ℕ). ReadsOne G u r) text.1 (some t e)) only (small option) text.2 in
-        let number : n ≡ got.0 = is ∙ ap (λ (o : Option ℕ). unwrap_or o (default_of option)) got.1 in record {
+        let number : n ≡ got.0 = is ∙ ap (λ (o : Option ℕ). unwrap_or o (default_number option)) got.1 in record {
           matched = number ∙ answered t r (some t e) got.0 got.1 ∙ sym counts;
           taken = subst (λ (k : ℕ). Takes option k) (sym number) (got.2, got.3);
         }

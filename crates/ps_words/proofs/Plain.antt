@@ -1,7 +1,7 @@
 -- The walk of `clap` over plain words.
-use Rattle.std.proofs.Common.{◌≡◌, ◌∙◌, ◌<◌, ◌≤◌, ◌^◌, ◌==◌, ◌&&◌, ◌||◌, ◌⊎◌, ◌++◌, if◌then◌else◌, ℕ, Bool, true, false, List, [], ◌∷◌, map, length, Option, Some, None, refl, sym, ap, subst, inl, inr, arith, codes, lit<, option_map, is_some}
+use Rattle.std.proofs.Common.{◌≡◌, ◌∙◌, ◌<◌, ◌^◌, ◌==◌, ◌||◌, ◌⊎◌, ◌++◌, if◌then◌else◌, ℕ, Bool, true, false, List, [], ◌∷◌, map, Option, Some, None, refl, sym, ap, subst, inl, inr, arith, codes, lit<, option_map, is_some}
 use Rattle.std.specs.Fmt.{decimal}
-use Rattle.std.specs.List.{find, fold, list_any}
+use Rattle.std.specs.List.{find, fold}
 use Rattle.std.specs.Option.{option_map_or, unwrap_or}
 use Rattle.std.specs.Prelude.{◌≤ℤ◌, option_and_then, pos, slice_get}
 use Rattle.std.specs.Str.{bytes_eq}
@@ -16,21 +16,21 @@ use Rattle.clap.proofs.OnLiterals.{clap_on_literals}
 use Rattle.clap.proofs.ValueTestLemmas.{Accepts-accepts}
 use Rattle.clap.specs.Facts.{explicit_source}
 use Rattle.clap.specs.Faults.{check_fault, default_fault, defaults_fault, entered_fault, fault_of, given_default_fault, level_fault, settle_fault, turn_fault, walk_fault}
-use Rattle.clap.specs.Kinds.{Kinds, or_else}
+use Rattle.clap.specs.Kinds.{or_else}
 use Rattle.clap.specs.Lexer.{without_minus}
-use Rattle.clap.specs.Simple.{App, Shape, built, entered, matches_of}
+use Rattle.clap.specs.Simple.{Shape, built, entered, matches_of}
 use Rattle.clap.specs.Takes.{is_given as is_given_in}
 use Rattle.clap.specs.Values.{IsSignedIn}
 use Rattle.clap.specs.ValueTests.{accepts}
-use Rattle.clap.specs.Walk.{Held, Row, Rule, Text, Walk, at_row, default_rows, finished, first_of, has_row, idle, is_empty, more_values, nothing_held, one_of, reading_by, row_text, settled, settled_rows, walk, walk_from, walked, with_default, with_values, without}
+use Rattle.clap.specs.Walk.{Row, Rule, Text, Walk, at_row, default_rows, finished, first_of, has_row, idle, is_empty, more_values, nothing_held, reading_by, row_text, settled, settled_rows, walk, walk_from, walked, with_default, with_values, without}
 use Rattle.clap.specs.declared.builder.value_parser.Reading.{Reading}
 use Rattle.clap.specs.declared.builder.value_parser.Reading.TheVariants.{AsWritten, WithoutMinus}
 use Rattle.clap.specs.declared.parser.matches.ValueSource.{ValueSource}
 use Rattle.clap.specs.declared.parser.matches.ValueSource.TheVariants.{CommandLine, DefaultValue}
-use Rattle.ps_words.specs.Asked.{AskFor, number_in, number_of}
+use Rattle.ps_words.specs.Asked.{AskFor, number_in, option_number}
 use Rattle.ps_words.specs.Command.{command, option_parser}
 use Rattle.ps_words.specs.Modes.{mode_name}
-use Rattle.ps_words.specs.Options.{Takes, default_of, default_text, least_of, most_of, option_name}
+use Rattle.ps_words.specs.Options.{Takes, default_number, default_text, least_number, most_number, option_name}
 use Rattle.ps_words.specs.Plain.{AreTaken, Given, is_given, number_given, option_words, plain_words, same_option, words_given}
 use Rattle.ps_words.specs.declared.mode.Mode.{Mode}
 use Rattle.ps_words.specs.declared.mode.Mode.TheVariants.{Refute, Replay}
@@ -85,7 +85,7 @@ walked_option Size rows id text x xs other = rw (other, other) refl
 
 -- ---- numbers as words
 
-most_small : (option : OptionName) → most_of option < 2 ^ 63
+most_small : (option : OptionName) → most_number option < 2 ^ 63
 most_small Explorers = lit< tt
 most_small Provers = lit< tt
 most_small Nodes = lit< tt
@@ -111,10 +111,10 @@ digits_word option n (x ∷ xs) takes numeral value =
     let small = most_small option in
     let least = takes.0 in
     let most = takes.1 in
-    let low : pos (least_of option) ≤ℤ pos n = omega (arith, ints) in
-    let high : pos n ≤ℤ pos (most_of option) = omega (arith, ints) in
+    let low : pos (least_number option) ≤ℤ pos n = omega (arith, ints) in
+    let high : pos n ≤ℤ pos (most_number option) = omega (arith, ints) in
     let fits : n < 2 ^ 63 = omega arith in
-    let signed : IsSignedIn (pos (least_of option)) (pos (most_of option)) (x ∷ xs) =
+    let signed : IsSignedIn (pos (least_number option)) (pos (most_number option)) (x ∷ xs) =
     rw (minus, plus, value) (numeral, record { sfits = fits }, low, high) in record {
       x = x;
       xs = xs;
@@ -442,13 +442,13 @@ default_is Traces = refl
 default_is Width = refl
 default_is Size = refl
 
-default_number : (option : OptionName) → number_in (without_minus (default_text option)) ≡ default_of option
-default_number Explorers = refl
-default_number Provers = refl
-default_number Nodes = refl
-default_number Traces = refl
-default_number Width = refl
-default_number Size = refl
+default_reads : (option : OptionName) → number_in (without_minus (default_text option)) ≡ default_number option
+default_reads Explorers = refl
+default_reads Provers = refl
+default_reads Nodes = refl
+default_reads Traces = refl
+default_reads Width = refl
+default_reads Size = refl
 
 -- ---- what the rows say
 
@@ -481,23 +481,23 @@ look_base option mode given = rw (mode_is_no_option option) refl
 
 -- the number that a row gives, or else the default
 abbrev number : OptionName → Option Row → ℕ
-number option row = unwrap_or (option_map number_in (option_and_then row_text row)) (default_of option)
+number option row = unwrap_or (option_map number_in (option_and_then row_text row)) (default_number option)
 
 number_says : (option : OptionName) (mode : Mode) (given : List Given) → AreTaken given
-    → number_of option (fold with_default (base mode given) top.rules) ≡ number_given option given
+    → option_number option (fold with_default (base mode given) top.rules) ≡ number_given option given
 number_says option mode given taken = go (find (λ g. same_option option g.0) given) refl
   where
     go : (o : Option Given) → find (λ g. same_option option g.0) given ≡ o
-        → number option (look (option_name option) (fold with_default (base mode given) top.rules)) ≡ option_map_or (λ g. g.1) (find (λ g. same_option option g.0) given) (default_of option)
+        → number option (look (option_name option) (fold with_default (base mode given) top.rules)) ≡ option_map_or (λ g. g.1) (find (λ g. same_option option g.0) given) (default_number option)
     go None none =
         let nowhere = look_base option mode given ∙ look_given option given ∙ ap (option_map (λ g. option_row g.0 (decimal g.1))) none in
-        ap (number option) (finish_none top.rules (base mode given) (option_name option) nowhere ∙ default_is option) ∙ default_number option
-        ∙ sym (ap (λ (o : Option Given). option_map_or (λ g. g.1) o (default_of option)) none)
+        ap (number option) (finish_none top.rules (base mode given) (option_name option) nowhere ∙ default_is option) ∙ default_reads option
+        ∙ sym (ap (λ (o : Option Given). option_map_or (λ g. g.1) o (default_number option)) none)
     go (Some g) found =
         let there = look_base option mode given ∙ look_given option given ∙ ap (option_map (λ g. option_row g.0 (decimal g.1))) found in
         ap (number option) (finish_some top.rules (base mode given) (option_name option) (option_row g.0 (decimal g.1)) there)
         ∙ (number_word g.0 g.1 (found_taken option given g found taken)).reads
-        ∙ sym (ap (λ (o : Option Given). option_map_or (λ g. g.1) o (default_of option)) found)
+        ∙ sym (ap (λ (o : Option Given). option_map_or (λ g. g.1) o (default_number option)) found)
 
 mode_there : (mode : Mode) (given : List Given) → look (codes "MODE") (fold with_default (base mode given) top.rules) ≡ Some (mode_row mode)
 mode_there mode given = finish_some top.rules (base mode given) (codes "MODE") (mode_row mode) refl
@@ -566,8 +566,8 @@ plain_asks name mode given taken = record {
     matches : matches_of command (plain_words name mode given) ≡ fold with_default (base mode given) top.rules
     matches = ap (λ (rows : List Row). fold with_default rows top.rules) settled_is
 
-    says : (option : OptionName) → number_given option given ≡ number_of option (matches_of command (plain_words name mode given))
-    says option = sym (ap (number_of option) matches ∙ number_says option mode given taken)
+    says : (option : OptionName) → number_given option given ≡ option_number option (matches_of command (plain_words name mode given))
+    says option = sym (ap (option_number option) matches ∙ number_says option mode given taken)
 
     stopped : (walk top.rules [] nothing_held words).stopped ≡ None
     stopped = ap (λ (w : Walk). w.stopped) end_is ∙ passed.stopped

@@ -1,11 +1,11 @@
 -- The command line as `clap` is told of it: one required MODE, and the options.
-use Rattle.std.specs.Prelude.{ℕ, List, [], ◌∷◌, Some, pos, true, codes}
+use Rattle.std.specs.Prelude.{[], ◌∷◌, Some, pos, true, codes}
 use Rattle.clap.specs.Simple.{App, new_app, new_rule, with_rule}
 use Rattle.clap.specs.Walk.{Rule}
 use Rattle.clap.specs.declared.builder.action.ArgAction.TheVariants.{Set}
 use Rattle.clap.specs.declared.builder.value_parser.ValueParser.{ValueParser}
 use Rattle.clap.specs.declared.builder.value_parser.ValueParser.TheVariants.{Signed}
-use Rattle.ps_words.specs.Options.{option_name, least_of, most_of, default_text}
+use Rattle.ps_words.specs.Options.{option_name, least_number, most_number, default_text}
 use Rattle.ps_words.specs.declared.option_name.OptionName.{OptionName}
 use Rattle.ps_words.specs.declared.option_name.OptionName.TheVariants.{Explorers, Provers, Nodes, Traces, Width, Size}
 
@@ -15,7 +15,7 @@ mode_rule = record (new_rule (codes "MODE")) { required = true; action = Some Se
 
 -- the whole numbers that an option takes
 abbrev pub option_parser : OptionName → ValueParser
-option_parser option = Signed (pos (least_of option)) (pos (most_of option))
+option_parser option = Signed (pos (least_number option)) (pos (most_number option))
 
 -- `--NAME` with one whole number in its range, and the default
 abbrev pub option_rule : OptionName → Rule

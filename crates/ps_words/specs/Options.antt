@@ -13,35 +13,35 @@ option_name Width = codes "width"
 option_name Size = codes "size"
 
 -- the least number that it takes
-abbrev pub least_of : OptionName → ℕ
-least_of Explorers = 1
-least_of Provers = 1
-least_of Nodes = 1
-least_of Traces = 0
-least_of Width = 0
-least_of Size = 1
+abbrev pub least_number : OptionName → ℕ
+least_number Explorers = 1
+least_number Provers = 1
+least_number Nodes = 1
+least_number Traces = 0
+least_number Width = 0
+least_number Size = 1
 
 -- the greatest number that it takes
-abbrev pub most_of : OptionName → ℕ
-most_of Explorers = 16
-most_of Provers = 16
-most_of Nodes = 65536
-most_of Traces = 4096
-most_of Width = 2
-most_of Size = 16
+abbrev pub most_number : OptionName → ℕ
+most_number Explorers = 16
+most_number Provers = 16
+most_number Nodes = 65536
+most_number Traces = 4096
+most_number Width = 2
+most_number Size = 16
 
 -- it takes this number
 abbrev pub Takes : OptionName → ℕ → Type 0
-Takes option n = (least_of option ≤ n) × (n ≤ most_of option)
+Takes option n = (least_number option ≤ n) × (n ≤ most_number option)
 
 -- the number that stands where the words name none
-abbrev pub default_of : OptionName → ℕ
-default_of Explorers = 2
-default_of Provers = 2
-default_of Nodes = 4096
-default_of Traces = 256
-default_of Width = 1
-default_of Size = 4
+abbrev pub default_number : OptionName → ℕ
+default_number Explorers = 2
+default_number Provers = 2
+default_number Nodes = 4096
+default_number Traces = 256
+default_number Width = 1
+default_number Size = 4
 
 -- that number in decimal
 abbrev pub default_text : OptionName → List ℕ

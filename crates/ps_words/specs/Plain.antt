@@ -1,11 +1,11 @@
 -- Plain words: the program's name, a mode, and options as `--NAME` and a decimal, each once.
-use Rattle.std.specs.Prelude.{◌≡◌, ℕ, List, [], ◌∷◌, ◌++◌, Bool, true, false, Some, codes, find}
+use Rattle.std.specs.Prelude.{◌≡◌, ℕ, List, [], ◌∷◌, ◌++◌, Bool, true, false, codes, find}
 use Rattle.std.specs.Fmt.{decimal}
 use Rattle.std.specs.List.{list_any}
 use Rattle.std.specs.Option.{option_map_or}
 use Rattle.clap.specs.Walk.{Text}
 use Rattle.ps_words.specs.Modes.{mode_name}
-use Rattle.ps_words.specs.Options.{option_name, default_of, Takes}
+use Rattle.ps_words.specs.Options.{option_name, default_number, Takes}
 use Rattle.ps_words.specs.declared.mode.Mode.{Mode}
 use Rattle.ps_words.specs.declared.option_name.OptionName.{OptionName}
 use Rattle.ps_words.specs.declared.option_name.OptionName.TheVariants.{Explorers, Provers, Nodes, Traces, Width, Size}
@@ -44,7 +44,7 @@ AreTaken (g ∷ rest) = Takes g.0 g.1 × (is_given g.0 rest ≡ false) × AreTak
 
 -- the number that is given for an option, or else its default
 abbrev pub number_given : OptionName → List Given → ℕ
-number_given option given = option_map_or (λ g. g.1) (find (λ g. same_option option g.0) given) (default_of option)
+number_given option given = option_map_or (λ g. g.1) (find (λ g. same_option option g.0) given) (default_number option)
 
 -- the mode, with the numbers that are given and the defaults of the other options
 abbrev pub words_given : Mode → List Given → Words

@@ -1,6 +1,6 @@
 //! The options of the command line, each with a name and a whole number.
 ghost use Rattle.std.specs.Prelude.{◌≡◌};
-ghost use Rattle.ps_words.specs.Options.{option_name, least_of, most_of, default_of, default_text};
+ghost use Rattle.ps_words.specs.Options.{option_name, least_number, most_number, default_number, default_text};
 
 /// An option, which takes a whole number.
 #[derive(Clone, Copy)]
@@ -36,7 +36,7 @@ impl OptionName {
 
     /// The least number that it takes.
     pub fn least(self) -> u32
-        ensures { result ≡ least_of self }
+        ensures { result ≡ least_number self }
     {
         match self {
             OptionName::Traces | OptionName::Width => 0,
@@ -46,7 +46,7 @@ impl OptionName {
 
     /// The greatest number that it takes.
     pub fn most(self) -> u32
-        ensures { result ≡ most_of self }
+        ensures { result ≡ most_number self }
     {
         match self {
             OptionName::Explorers | OptionName::Provers | OptionName::Size => 16,
@@ -58,7 +58,7 @@ impl OptionName {
 
     /// The number that stands where the words name none.
     pub fn default(self) -> u32
-        ensures { result ≡ default_of self }
+        ensures { result ≡ default_number self }
     {
         match self {
             OptionName::Explorers | OptionName::Provers => 2,

@@ -4,14 +4,14 @@ ghost use Rattle.clap.specs.Matches.{found_of};
 ghost use Rattle.clap.specs.Values.{kind_of};
 ghost use Rattle.clap.specs.Walk.{first_of, rows_of};
 ghost use Rattle.clap.specs.declared.error.kind.ErrorKind.TheVariants.{OutOfMemory};
-ghost use Rattle.ps_words.specs.Asked.{AskFor, AskForNothing, IsInRange, IsMatched};
+ghost use Rattle.ps_words.specs.Asked.{AskFor, AskForNothing, HasNumbersInRange, IsMatched};
 ghost use Rattle.ps_words.specs.Modes.{mode_name};
 ghost use Rattle.ps_words.specs.declared.mode.Mode.{Mode};
 ghost use Rattle.ps_words.specs.declared.option_name.OptionName.TheVariants.{Explorers, Provers, Nodes, Traces, Width};
 ghost use Rattle.ps_words.specs.declared.words.Words.{Words};
 ghost use Rattle.ps_words.specs.declared.words_end.WordsEnd.TheVariants.{Refused};
 ghost use Rattle.ps_words.specs.inner.Commands.{AreRead};
-ghost use Rattle.ps_words.specs.inner.Numbers.{IsNumber};
+ghost use Rattle.ps_words.specs.inner.Numbers.{IsOptionNumber};
 
 use crate::command::{MODE, command};
 use crate::mode::Mode;
@@ -35,10 +35,11 @@ pub struct Words {
 }
 
 /// Reads the words of the command line, of which the first is the program's name: a mode, and the options that
-/// `OptionName` lists, in any order. It takes a pass over the words.
+/// `OptionName` lists, in any order. `Refused` where they ask for nothing, `Memory` where memory runs out. It takes a
+/// pass over the words.
 pub fn read_words(alloc: Global, words: &[String]) -> Result<Words, WordsEnd>
     ensures asked { IfOk result (AskFor (map string_bytes words.now)) }
-    ensures range { IfOk result IsInRange }
+    ensures range { IfOk result HasNumbersInRange }
     ensures refused { IsErrOf result Refused → AskForNothing (map string_bytes words.now) }
 {
     match command(alloc) {
@@ -66,7 +67,7 @@ fn words_matched(matches: &ArgMatches<'_>) -> Option<Words>
     ensures matched { MatchOption result
         ((asked : Words) → ¬ IsMatched (rows_of (found_of matches.now)) asked)
         (IsMatched (rows_of (found_of matches.now))) }
-    ensures range { IfSome result IsInRange }
+    ensures range { IfSome result HasNumbersInRange }
 {
     match mode_matched(matches) {
         Some(mode) => Some(Words {
@@ -93,11 +94,11 @@ fn mode_matched(matches: &ArgMatches<'_>) -> Option<Mode>
 /// The limits that the matches have.
 fn limits_matched(matches: &ArgMatches<'_>) -> Limits
     requires { AreRead (found_of matches.now) }
-    ensures explorers { IsNumber Explorers matches.now result.explorers }
-    ensures provers { IsNumber Provers matches.now result.provers }
-    ensures nodes { IsNumber Nodes matches.now result.nodes }
-    ensures traces { IsNumber Traces matches.now result.traces }
-    ensures width { IsNumber Width matches.now result.width }
+    ensures explorers { IsOptionNumber Explorers matches.now result.explorers }
+    ensures provers { IsOptionNumber Provers matches.now result.provers }
+    ensures nodes { IsOptionNumber Nodes matches.now result.nodes }
+    ensures traces { IsOptionNumber Traces matches.now result.traces }
+    ensures width { IsOptionNumber Width matches.now result.width }
 {
     Limits {
         nodes: number_matched(matches, OptionName::Nodes),
@@ -111,7 +112,7 @@ fn limits_matched(matches: &ArgMatches<'_>) -> Limits
 /// The number that the matches have for an option.
 fn number_matched(matches: &ArgMatches<'_>, option: OptionName) -> u32
     requires { AreRead (found_of matches.now) }
-    ensures { IsNumber option matches.now result }
+    ensures { IsOptionNumber option matches.now result }
 {
     let matched = matches.get_one::<u32>(option.name());
     matched.unwrap_or(option.default())

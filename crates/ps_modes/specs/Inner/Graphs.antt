@@ -1,5 +1,5 @@
 -- What is known of a graph that a text says, and of the line that refuses a text.
-use Rattle.std.specs.Prelude.{ℕ, ◌<◌, ◌^◌, List, length}
+use Rattle.std.specs.Prelude.{◌≡◌, ℕ, ◌<◌, ◌^◌, List, length}
 use Rattle.ps_graph.specs.Errors.{IsGraphOf}
 use Rattle.ps_graph.specs.declared.graph.Graph.{Graph}
 use Rattle.ps_modes.specs.Programs.{SaysProgram}
@@ -15,6 +15,11 @@ pub record IsGraphSaid (text : List ℕ) (graph : Graph) : Type 0 where
   pub few : length graph.edges < 2 ^ 32
 
 -- the fact holds of the line, if there is one
-abbrev pub IfRefused : (List ℕ → Type 0) → GraphEnd → Type 0
-IfRefused P (Refused text) = P text.items
-IfRefused P (Memory end) = Unit {0}
+abbrev pub IfLine : (List ℕ → Type 0) → GraphEnd → Type 0
+IfLine P (Refused text) = P text.items
+IfLine P (Memory end) = Unit {0}
+
+-- it has this line
+abbrev pub IsRefusal : GraphEnd → List ℕ → Type 0
+IsRefusal (Refused text) line = text.items ≡ line
+IsRefusal (Memory end) line = ⊥

@@ -3,7 +3,7 @@ use Rattle.std.proofs.Common.{refl}
 use Rattle.ps_compile.proofs.Meets.{graph_of}
 use Rattle.ps_parse.specs.declared.read_refusal.ReadRefusal.TheVariants as refusal
 use Rattle.ps_modes.proofs.FewEdges.{few_edges}
-use Rattle.ps_modes.proofs.Graphs.{IfRefused-weaker}
+use Rattle.ps_modes.proofs.Refusing.{IfLine-weaker}
 use Rattle.ps_modes.specs.Programs.{PastLimit}
 use Rattle.ps_modes.proofs.graphs.graph_of.Goals as goal
 
@@ -18,6 +18,6 @@ returns-in-Ok-clause-said c = λ text is. record {
 pub returns-in-Err-Limit-clause-refused : goal.returns-in-Err-Limit-clause-refused
 returns-in-Err-Limit-clause-refused c = λ text is.
     let first = rw c.in-Err-Limit.field-0-is at c.in-Err-Limit.ensures.exceeded in
-    IfRefused-weaker c.refused.result _ _
+    IfLine-weaker c.refused.result _ _
     (λ line t. (refusal.Limit c.in-Err-Limit.place c.in-Err-Limit.limit, PastLimit c.args.program.now is c.in-Err-Limit.place c.in-Err-Limit.limit first refl, t))
     c.refused.ensures

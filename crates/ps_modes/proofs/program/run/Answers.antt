@@ -1,2 +1,20 @@
 -- What the mode's own call promises, the program promises where the words ask for the mode.
+use Rattle.std.proofs.Common.{map, subst, sym}
+use Rattle.std.specs.Prelude.{string_bytes}
+use Rattle.ps_modes.specs.Modes.{owed_by}
+use Rattle.ps_modes.specs.Promise.{Answers}
+use Rattle.ps_words.proofs.Once.{for_asked}
+use Rattle.ps_words.specs.declared.mode.Mode.{Mode}
 use Rattle.ps_modes.proofs.program.run.Goals as goal
+
+pub returns-in-Refute-clause-answers : goal.returns-in-Refute-clause-answers
+returns-in-Refute-clause-answers g c =
+    let Promised = λ (mode : Mode). Answers (owed_by mode) (g.S.Source.left c.args.source.now) (g.K.Sink.written c.args.sink.now)
+    (g.K.Sink.written c.refute_run.new.sink) c.refute_run.result in
+    for_asked (map string_bytes c.args.words.now) c.in-Ok.asked Promised c.in-Ok.ensures.asked (subst Promised (sym c.in-Refute.is) c.refute_run.ensures.answers)
+
+pub returns-in-Replay-clause-answers : goal.returns-in-Replay-clause-answers
+returns-in-Replay-clause-answers g c =
+    let Promised = λ (mode : Mode). Answers (owed_by mode) (g.S.Source.left c.args.source.now) (g.K.Sink.written c.args.sink.now)
+    (g.K.Sink.written c.replay_run.new.sink) c.replay_run.result in
+    for_asked (map string_bytes c.args.words.now) c.in-Ok.asked Promised c.in-Ok.ensures.asked (subst Promised (sym c.in-Replay.is) c.replay_run.ensures.answers)

@@ -1,6 +1,8 @@
 -- The program's graph and the witness owe the answer, or the line that refuses the program is owed.
-use Rattle.std.proofs.Common.{refl}
 use Rattle.std.proofs.lemmas.Result.{IfOk-weaker}
+use Rattle.ps_trace.proofs.Results.{both_ok}
+use Rattle.ps_modes.proofs.Refusing.{refused_by}
+use Rattle.ps_modes.specs.Programs.{RefusesBy}
 use Rattle.ps_modes.specs.Parts.{NoProgram, Programs}
 use Rattle.ps_modes.proofs.replay.judge_texts.Goals as goal
 
@@ -13,5 +15,8 @@ returns-in-Ok c =
     IfOk-weaker c.judge_witness.result _ _ (λ answer owed. Programs said.program c.in-Ok.graph said.says owed)
     (c.judge_witness.ensures said.program said.is)
 
-pub returns-in-Err-Refused : goal.returns-in-Err-Refused
-returns-in-Err-Refused c = NoProgram (rw c.in-Err-Refused.field-0-is at c.in-Err-Refused.ensures.refused) refl
+pub returns-in-Err : goal.returns-in-Err
+returns-in-Err c =
+    both_ok c.refusal_answer.result
+    (λ answer s t. NoProgram (refused_by c.in-Err.end (RefusesBy c.args.program.now) answer.text.items c.in-Err.ensures.refused t) s)
+    c.refusal_answer.ensures.status c.refusal_answer.ensures.text

@@ -1,5 +1,5 @@
 -- What `clap` answered, and the name of a mode, settle what the words ask for.
-use Rattle.std.proofs.Common.{◌≡◌, ap, Err, Option, Some, None, Result, Ok, IfOk, MatchOption, map}
+use Rattle.std.proofs.Common.{◌≡◌, Err, Option, Some, None, Result, IfOk, MatchOption, map}
 use Rattle.std.specs.Option.{ok_or}
 use Rattle.std.specs.Prelude.{IsErrOf, string_bytes}
 use Rattle.ps_words.proofs.Asking.{is_read, no_mode, not_taken, words_asked}
