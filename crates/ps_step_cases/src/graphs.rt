@@ -6,44 +6,14 @@ use ps_graph::{Edge, Graph};
 use ps_syntax::read_program;
 use std::alloc::{AllocError, Global};
 
-/// The graph of the text's program. After `once ` at most one thread runs its body.
+/// The graph of the text's program.
 pub fn graph_of(alloc: Global, text: &str) -> Result<Graph, AllocError> {
-    match text.strip_prefix("once ") {
-        Some(rest) => in_once(compiled(alloc, rest)?),
-        None => compiled(alloc, text),
-    }
-}
-
-fn compiled(alloc: Global, text: &str) -> Result<Graph, AllocError> {
     if text.len() > 100_000 {
         return Err(AllocError);
     }
     let program = read_program(alloc, text.as_bytes()).ok().ok_or(AllocError)?;
     programs_are_compilable();
     compile(alloc, &program).ok().ok_or(AllocError)
-}
-
-// The graph, where at most one thread runs the first body.
-fn in_once(graph: Graph) -> Result<Graph, AllocError> {
-    if graph.entries.as_slice().is_empty() {
-        return Err(AllocError);
-    }
-    let Graph {
-        locations,
-        edges,
-        entries,
-        owner,
-        setting,
-        ..
-    } = graph;
-    Ok(Graph {
-        locations,
-        edges,
-        entries,
-        once: Some(0),
-        owner,
-        setting,
-    })
 }
 
 /// Whether a copy of the graph, and of each of its edges, is spelled as it is.

@@ -1,8 +1,8 @@
 //! States as texts, and runs. The values of the globals, and those of the locals of each thread, stand between semicolons, and
 //! the values between blanks: `7;1;2`.
-use crate::commands::{form_of, read_command};
+use crate::commands::read_command;
 use ps_case::{read_number, sameness, truth, two_parts, word};
-use ps_command::{Command, RunEnd, Setting, State, can_run, is_sized, run};
+use ps_command::{Command, RunEnd, Setting, State, can_run, is_sized, run, symbolic};
 use ps_list::Sequence;
 use ps_text::{put_integer, put_word, read_i128};
 use std::alloc::{AllocError, Global};
@@ -94,8 +94,13 @@ fn run_of(
     values: &[i128],
     before: &State,
 ) -> Result<Vec<u8>, AllocError> {
-    let form = form_of(alloc, command).ok().ok_or(AllocError)?;
-    if form.havocs as usize != values.len() || !can_run(command, before, 1) {
+    if command.ops.as_slice().len() > 1_000 || !can_run(command, before, 1) {
+        return Err(AllocError);
+    }
+    let Ok(form) = symbolic(alloc, command) else {
+        return Err(AllocError);
+    };
+    if form.havocs as usize != values.len() {
         return Err(AllocError);
     }
     match run(alloc, command, before, 1, values) {
