@@ -1,5 +1,5 @@
 -- When the weighted sum of two terms stays within 128 bits.
-use Rattle.std.proofs.Common.{◌≡◌, ℕ, ℤ, pos, ◌+ℤ◌, ◌*ℤ◌, Bool, true, false, List, [], ◌∷◌, FitsSigned, unsigned_abs, refl, sym, subst, arith}
+use Rattle.std.proofs.Common.{◌≡◌, ℕ, ℤ, pos, ◌+ℤ◌, ◌*ℤ◌, Bool, true, false, List, [], ◌∷◌, FitsSigned, unsigned_abs, refl, sym, subst, subst₂, arith}
 use Rattle.std.specs.Int.{w128, ◌∣◌}
 use Rattle.std.specs.List.{AllByRecursion}
 use Rattle.std.proofs.lemmas.Int.{ints}
@@ -69,10 +69,13 @@ pub record IsPart (m : ℕ) (p part : Term) : Type 0 where
   pub coefficients : (x : Var) → coefficient x part.pairs ≡ (pos m *ℤ coefficient x p.pairs)
   pub constant : part.constant ≡ (pos m *ℤ p.constant)
 
-pub part_of : (m : ℕ) (p none part : Term) → none ≡ nothing → ((x : Var) → coefficient x part.pairs ≡ (coefficient x none.pairs +ℤ (pos m *ℤ coefficient x p.pairs))) → part.constant ≡ (none.constant +ℤ (pos m *ℤ p.constant)) → IsPart m p part
-part_of m p none part e h k = record {
-  coefficients = λ x. (let here : coefficient x part.pairs ≡ (pos 0 +ℤ (pos m *ℤ coefficient x p.pairs)) = subst (λ (t : Term). coefficient x part.pairs ≡ (coefficient x t.pairs +ℤ (pos m *ℤ coefficient x p.pairs))) e (h x) in omega (arith, ints, here));
-  constant = (let here : part.constant ≡ (pos 0 +ℤ (pos m *ℤ p.constant)) = subst (λ (t : Term). part.constant ≡ (t.constant +ℤ (pos m *ℤ p.constant))) e k in omega (arith, ints, here));
+pub part_of : (m : ℕ) (p none part : Term) (by : ℤ) → by ≡ pos m → none ≡ nothing →
+    ((x : Var) → coefficient x part.pairs ≡ (coefficient x none.pairs +ℤ (by *ℤ coefficient x p.pairs))) → part.constant ≡ (none.constant +ℤ (by *ℤ p.constant)) → IsPart m p part
+part_of m p none part by is e h k = record {
+  coefficients = λ x. (let here : coefficient x part.pairs ≡ (pos 0 +ℤ (pos m *ℤ coefficient x p.pairs)) =
+    subst₂ (λ (t : Term) (z : ℤ). coefficient x part.pairs ≡ (coefficient x t.pairs +ℤ (z *ℤ coefficient x p.pairs))) e is (h x) in omega (arith, ints, here));
+  constant = (let here : part.constant ≡ (pos 0 +ℤ (pos m *ℤ p.constant)) =
+    subst₂ (λ (t : Term) (z : ℤ). part.constant ≡ (t.constant +ℤ (z *ℤ p.constant))) e is k in omega (arith, ints, here));
 }
 
 alone : (z : ℤ) → (pos 0 +ℤ z) ≡ z
@@ -95,6 +98,18 @@ both_fit m p n q none part e is c d h k =
     let at : (x : Var) → FitsSigned w128 (pos m *ℤ coefficient x p.pairs) = λ x. (pairs_everywhere [] (pos m) p.pairs c (λ _. zero_fits) first.0 x).0 in
     let then : (x : Var) → ScaledFits (coefficient x part.pairs) (pos n) (coefficient x q.pairs) = pairs_everywhere part.pairs (pos n) q.pairs d (λ x. subst (λ (z : ℤ). FitsSigned w128 z) (sym (is.coefficients x)) (at x)) k.0 in
     (λ x. (at x, subst (λ (z : ℤ). ScaledFits z (pos n) (coefficient x q.pairs)) (is.coefficients x) (then x)), (first.1.0, subst (λ (z : ℤ). ScaledFits z (pos n) q.constant) is.constant k.1))
+
+-- ---- the two steps of a weighted sum: from nothing to the part, and from the part to the sum
+pub sum_coefficients : (m n : ℕ) (p q part sum : Term) (by : ℤ) → by ≡ pos n → IsPart m p part →
+    ((x : Var) → coefficient x sum.pairs ≡ (coefficient x part.pairs +ℤ (by *ℤ coefficient x q.pairs))) →
+    (x : Var) → coefficient x sum.pairs ≡ ((pos m *ℤ coefficient x p.pairs) +ℤ (pos n *ℤ coefficient x q.pairs))
+sum_coefficients m n p q part sum by by_is is h x =
+    subst₂ (λ (y z : ℤ). coefficient x sum.pairs ≡ (y +ℤ (z *ℤ coefficient x q.pairs))) (is.coefficients x) by_is (h x)
+
+pub sum_constant : (m n : ℕ) (p q part sum : Term) (by : ℤ) → by ≡ pos n → IsPart m p part →
+    sum.constant ≡ (part.constant +ℤ (by *ℤ q.constant)) → sum.constant ≡ ((pos m *ℤ p.constant) +ℤ (pos n *ℤ q.constant))
+sum_constant m n p q part sum by by_is is h =
+    subst₂ (λ (y z : ℤ). sum.constant ≡ (y +ℤ (z *ℤ q.constant))) is.constant by_is h
 
 -- ---- what divides each coefficient divides that of each pair
 pub divides_pairs : (d : ℕ) (ps : List (Var × ℤ)) → IsCanonical ps → ((x : Var) → d ∣ unsigned_abs (coefficient x ps)) → DividesAll d ps
