@@ -1,6 +1,6 @@
 -- The laws of atoms and places as fields: what is read is spelled so, and what is spelled so is read.
-use Rattle.std.proofs.Common.{◌≡◌, ℕ, ◌^◌, ◌<◌, ◌≤◌, ◌&&◌, Bool, true, false, List, [], ◌∷◌, ◌++◌, map, Option, Some, None, Result, Ok, Err, refl, sym, ap, subst, ◌∙◌, arith}
-use Rattle.std.specs.Prelude.{decimal, IfOk, nat_le, ok_or, option_map, option_and_then, if◌then◌else◌}
+use Rattle.std.proofs.Common.{◌≡◌, ℕ, ◌^◌, ◌<◌, ◌≤◌, ◌&&◌, Bool, true, false, List, [], ◌∷◌, ◌++◌, map, Option, Some, None, Ok, Err, refl, sym, ap, subst, ◌∙◌, arith}
+use Rattle.std.specs.Prelude.{decimal, IfOk, nat_le, ok_or, option_map, if◌then◌else◌}
 use Rattle.std.specs.List.{list_all, AllByRecursion}
 use Rattle.std.proofs.lemmas.Bool.{and_from, cond-true, leb-true, le-leb}
 use Rattle.std.proofs.lemmas.List.{append-nil}
@@ -10,7 +10,6 @@ use Rattle.ps_atom_text.specs.declared.limits.TheConstants.{MOST_THREAD}
 use Rattle.ps_atom_text.specs.Reading.{atom_from, atom_in_field, atom_of, between_commas, number_up_to, numbers_up_to, parts_round, place_from, place_in_field, place_of}
 use Rattle.ps_atom_text.specs.Spelling.{atom_text, place_text, threads_text, AtomHasSpelling, PlaceHasSpelling}
 use Rattle.ps_atom_text.proofs.Commas.{AreSmall, after_commas, commas_again, commas_found, commas_some, decimal_free_of, decimal_uncut}
-use Rattle.ps_lines.specs.declared.form_name.FormName.{FormName}
 use Rattle.ps_lines.specs.declared.form_name.FormName.TheVariants as name
 use Rattle.ps_lines.specs.Decimal.{counts_as_decimal, u32_of}
 use Rattle.ps_lines.specs.Parts.{cut_at}

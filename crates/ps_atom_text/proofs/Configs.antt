@@ -1,5 +1,5 @@
 -- The laws of configurations as lines.
-use Rattle.std.proofs.Common.{◌≡◌, ℕ, ◌^◌, ◌<◌, ◌≤◌, Bool, true, false, List, [], ◌∷◌, ◌++◌, map, length, Result, Ok, Err, refl, sym, ap, ap₂, subst, ◌∙◌, arith, append_assoc}
+use Rattle.std.proofs.Common.{◌≡◌, ℕ, Bool, true, List, [], ◌∷◌, ◌++◌, map, Result, Ok, refl, sym, ap, subst, ◌∙◌, arith, append_assoc}
 use Rattle.std.specs.Prelude.{IfOk, codes, decimal}
 use Rattle.std.specs.List.{AllByRecursion}
 use Rattle.std.proofs.lemmas.List.{append-nil}
@@ -10,7 +10,7 @@ use Rattle.ps_atom_text.specs.Growing.{grow_at, goes_to}
 use Rattle.ps_atom_text.specs.Reading.{atom_in_field, config_at, configuration_at, empty_configuration, place_in_field, with_atom, with_place}
 use Rattle.ps_atom_text.specs.Spelling.{atom_text, config_fields, config_line, place_text, AtomHasSpelling, ConfigHasSpelling, PlaceHasSpelling}
 use Rattle.ps_atom_text.proofs.Atoms.{atom_is_leaf, place_is_leaf}
-use Rattle.ps_atom_text.proofs.Fields.{fields_clean, fields_last, fields_then, found_as, gets_as, if_ok, if_then, last_clean, number_goes_on, then_is}
+use Rattle.ps_atom_text.proofs.Fields.{fields_clean, fields_last, fields_then, found_as, if_ok, if_then, last_clean, number_goes_on, then_is}
 use Rattle.ps_atom_text.proofs.Growths.{GrewBy, IsGrowth, Steps, grow_again, grow_clean, grow_found}
 use Rattle.ps_atom_text.proofs.InForm.{IsFormed, config_from, config_to, held, held_front, in_form_from, in_form_is, placed, placed_front}
 use Rattle.ps_config.specs.Configurations.{Configuration}
@@ -18,7 +18,7 @@ use Rattle.ps_lines.specs.declared.form_name.FormName.{FormName}
 use Rattle.ps_lines.specs.Reading.{Position}
 use Rattle.ps_lines.specs.Tokens.{LinePart, Field, Newline, parts_of_line}
 use Rattle.ps_lines.proofs.Bytes.{IsClean, IsClean-append, IsPlain, plain_word}
-use Rattle.ps_lines.proofs.Exact.{Always, Ended, Exact, Finds, Gets, IsLeaf, end_exact, ended-append, found_bind, found_end, gets_bind, gets_end, line_exact, word_exact}
+use Rattle.ps_lines.proofs.Exact.{Always, Exact, Finds, Gets, IsLeaf, end_exact, ended-append, found_bind, found_end, gets_bind, gets_end, line_exact, word_exact}
 use Rattle.ps_lines.proofs.Forms.{Stops, member_tokens}
 
 low_atom : IsLeaf (atom_in_field MOST_THREAD) atom_text (AtomHasSpelling MOST_THREAD)

@@ -1,28 +1,23 @@
 -- The laws of predicates and entries as lines.
-use Rattle.std.proofs.Common.{◌≡◌, ℕ, ◌^◌, ◌<◌, ◌≤◌, Bool, true, false, IsTrue, List, [], ◌∷◌, ◌++◌, map, length, Option, Some, None, Result, Ok, Err, refl, sym, ap, ap₂, subst, ◌∙◌, arith, append_assoc}
+use Rattle.std.proofs.Common.{◌≡◌, ℕ, ◌^◌, ◌<◌, Bool, true, false, List, [], ◌∷◌, ◌++◌, map, Option, Some, None, refl, sym, ap, ap₂, subst, ◌∙◌, append_assoc}
 use Rattle.std.specs.Prelude.{codes, decimal, if◌then◌else◌}
-use Rattle.std.specs.List.{AllByRecursion}
 use Rattle.std.proofs.lemmas.Bool.{cond-true, cond-false}
 use Rattle.ps_atom.specs.declared.atom.Atom.{Atom}
 use Rattle.ps_atom.specs.declared.predicate.Predicate.{Predicate}
 use Rattle.ps_atom_text.specs.declared.before.Before.{Before}
 use Rattle.ps_atom_text.specs.declared.limits.TheConstants.{ANY_THREAD}
 use Rattle.ps_atom_text.specs.Reading.{atom_in_field, entry_at, initial_at, lambda_at, predicate_at, triple_at}
-use Rattle.ps_atom_text.specs.Spelling.{atom_text, entry_line, initial_line, lambda_fields, predicate_line, triple_line, AtomHasSpelling, EntryHasSpelling, InitialHasSpelling, LambdaHasSpelling, PredicateHasSpelling, TripleHasSpelling}
-use Rattle.ps_atom_text.proofs.Befores.{BeforeFits, any_atom, before_exact}
-use Rattle.ps_atom_text.proofs.Fields.{fields_clean, fields_last, fields_then, found_as, gets_as, last_clean}
-use Rattle.ps_lines.specs.declared.form_fault.FormFault.{FormFault}
-use Rattle.ps_lines.specs.declared.form_name.FormName.{FormName}
+use Rattle.ps_atom_text.specs.Spelling.{atom_text, entry_line, lambda_fields, predicate_line, AtomHasSpelling, EntryHasSpelling, InitialHasSpelling, LambdaHasSpelling, PredicateHasSpelling, TripleHasSpelling}
+use Rattle.ps_atom_text.proofs.Befores.{any_atom, before_exact}
+use Rattle.ps_atom_text.proofs.Fields.{fields_clean, fields_last, fields_then, last_clean}
 use Rattle.ps_lines.specs.Reading.{Position, begins_at, begins_from, leaf_at, list_at, natural, natural32}
-use Rattle.ps_lines.specs.Tokens.{LinePart, Field, Newline, has_newline, parts_of_line}
+use Rattle.ps_lines.specs.Tokens.{LinePart, Field, Newline, parts_of_line}
 use Rattle.ps_lines.proofs.Bytes.{IsClean, IsClean-append, IsPlain, plain_word}
 use Rattle.ps_lines.proofs.Decimals.{natural32_is_leaf, natural_is_leaf}
 use Rattle.ps_lines.proofs.Exact.{Always, Ended, Exact, Finds, Gets, end_exact, ended-append, found_bind, found_end, gets_bind, gets_end, leaf_exact, line_exact, word_exact}
 use Rattle.ps_lines.proofs.Forms.{Chain, IsMember, Stops, list_exact, member_tokens}
-use Rattle.ps_term.specs.declared.row.Row.{Row}
 use Rattle.ps_term.specs.declared.term.Term.{Term}
 use Rattle.ps_term_text.proofs.Exact.{term_exact, term_tokens}
-use Rattle.ps_term_text.specs.Spelling.{TermHasSpelling}
 use Rattle.ps_triple.proofs.Alike.{same_but_multipliers}
 use Rattle.ps_triple.specs.declared.entry.Entry.{Entry}
 use Rattle.ps_triple.specs.declared.entry.Entry.TheVariants.{Triple as OfTriple, Initial as OfInitial}

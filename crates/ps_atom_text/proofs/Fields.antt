@@ -1,5 +1,5 @@
 -- Fields that follow one another in a line, as tokens.
-use Rattle.std.proofs.Common.{◌≡◌, ℕ, ◌+◌, ◌^◌, ◌<◌, ◌≤◌, ◌==◌, Bool, true, false, not, List, [], ◌∷◌, ◌++◌, map, length, Result, Ok, Err, refl, sym, ap, ◌∙◌, arith, eqb}
+use Rattle.std.proofs.Common.{◌≡◌, ℕ, ◌^◌, ◌<◌, ◌≤◌, true, false, not, List, [], ◌∷◌, ◌++◌, map, length, Result, Ok, Err, refl, ap, ◌∙◌, arith, eqb}
 use Rattle.std.specs.Prelude.{decimal, IfOk}
 use Rattle.std.specs.Char.{digit_value}
 use Rattle.std.specs.Str.{bytes_eq}
@@ -10,8 +10,8 @@ use Rattle.ps_atom_text.proofs.Commas.{decimal_free_of}
 use Rattle.ps_lines.specs.declared.form_fault.FormFault.{FormFault}
 use Rattle.ps_lines.specs.declared.form_name.FormName.{FormName}
 use Rattle.ps_lines.specs.Steps.{and_then, ◌>>=◌}
-use Rattle.ps_lines.specs.Tokens.{LinePart, Field, Newline}
-use Rattle.ps_lines.proofs.Bytes.{IsClean, IsClean-append, IsPlain}
+use Rattle.ps_lines.specs.Tokens.{LinePart, Field}
+use Rattle.ps_lines.proofs.Bytes.{IsClean}
 use Rattle.ps_lines.proofs.Cutting.{IsFree}
 use Rattle.ps_lines.proofs.Decimals.{decimal-is}
 use Rattle.ps_lines.proofs.Exact.{Finds, Gets}

@@ -1,5 +1,5 @@
 -- The laws of lists that grow, and the loop that reads them.
-use Rattle.std.proofs.Common.{◌≡◌, ℕ, suc, ◌+◌, ◌<◌, Bool, true, false, List, [], ◌∷◌, ◌++◌, length, Option, Some, None, Result, Ok, Err, refl, sym, ap, subst, ◌∙◌, arith}
+use Rattle.std.proofs.Common.{◌≡◌, ℕ, suc, ◌+◌, ◌<◌, Bool, true, false, List, [], ◌∷◌, ◌++◌, length, Option, Some, None, Result, Ok, Err, refl, sym, ap, ◌∙◌, arith}
 use Rattle.std.specs.Prelude.{IfOk, if◌then◌else◌}
 use Rattle.std.proofs.lemmas.Bool.{cond-true, cond-false}
 use Rattle.ps_atom_text.specs.Growing.{grow_at, grow_from}
@@ -9,7 +9,7 @@ use Rattle.ps_lines.specs.declared.form_end.FormEnd.TheVariants.{Fault, Memory}
 use Rattle.ps_lines.specs.declared.form_fault.FormFault.{FormFault}
 use Rattle.ps_lines.specs.declared.form_name.FormName.{FormName}
 use Rattle.ps_lines.specs.inner.Ahead.{list_goes_on}
-use Rattle.ps_lines.specs.Reading.{Position, Read, Gives, fault_placed, leaf_at}
+use Rattle.ps_lines.specs.Reading.{Position, Gives, fault_placed, leaf_at}
 use Rattle.ps_lines.specs.Steps.{and_then, ◌>>=◌}
 use Rattle.ps_lines.specs.Tokens.{LinePart, Field, Newline, next_field}
 use Rattle.ps_lines.proofs.Bytes.{IsPlain, IsClean}

@@ -1,5 +1,5 @@
 -- Lists that ascend: with one more member, and as sorted lists.
-use Rattle.std.proofs.Common.{◌≡◌, ℕ, zero, suc, ◌+◌, ◌-◌, ◌<◌, Bool, true, false, ◌&&◌, List, [], ◌∷◌, ◌++◌, map, length, get_or, Option, Some, None, refl, sym, ap, subst, ◌∙◌, arith}
+use Rattle.std.proofs.Common.{◌≡◌, ℕ, zero, suc, ◌+◌, ◌-◌, ◌<◌, Bool, true, false, ◌&&◌, List, [], ◌∷◌, ◌++◌, map, length, get_or, Option, refl, sym, ap, subst, ◌∙◌, arith}
 use Rattle.std.specs.Prelude.{slice_get, slice_index, nat_lt}
 use Rattle.std.specs.List.{AllByRecursion}
 use Rattle.std.specs.List.Sorted.{IsStrictlyIncreasing, IsStrictlySortedBy}
@@ -12,7 +12,7 @@ use Rattle.std.proofs.lemmas.Cmp.{nat_cmp_total, nat_list_cmp_total, on_total, t
 use Rattle.std.proofs.lemmas.Map.Keys.{sorted_from_all_adjacent, sorted_head, sorted_tail}
 use Rattle.ps_atom.specs.Atoms.{atom_cmp}
 use Rattle.ps_atom.specs.declared.atom.Atom.{Atom}
-use Rattle.ps_atom_text.specs.Forms.{is_before_places, places_ascend}
+use Rattle.ps_atom_text.specs.Forms.{places_ascend}
 use Rattle.ps_atom_text.specs.inner.Last.{is_atom_after, is_thread_after}
 use Rattle.ps_triple.specs.Ascending.{ascend, atom_is_before_all}
 

@@ -1,5 +1,5 @@
 -- Reading predicates, atoms, entries and configurations, with the first fault.
-use Rattle.std.specs.Prelude.{◌≡◌, refl, ℕ, ◌==◌, nat_le, Bool, true, false, ◌&&◌, IsTrue, List, [], ◌∷◌, ◌++◌, length, Option, Some, None, ok_or, option_map, option_and_then, Result, Ok, Err, codes, if◌then◌else◌}
+use Rattle.std.specs.Prelude.{◌≡◌, refl, ℕ, ◌==◌, nat_le, Bool, true, false, ◌&&◌, List, [], ◌∷◌, ◌++◌, length, Option, Some, None, ok_or, option_map, option_and_then, Result, Ok, Err, codes, if◌then◌else◌}
 use Rattle.std.specs.List.{list_all, slice_split}
 use Rattle.ps_atom.specs.declared.atom.Atom.{Atom}
 use Rattle.ps_atom.specs.declared.predicate.Predicate.{Predicate}
@@ -12,7 +12,7 @@ use Rattle.ps_lines.specs.declared.form_name.FormName.{FormName}
 use Rattle.ps_lines.specs.declared.form_name.FormName.TheVariants as name
 use Rattle.ps_lines.specs.Decimal.{counts_as_decimal, u32_of}
 use Rattle.ps_lines.specs.Parts.{cut_at}
-use Rattle.ps_lines.specs.Reading.{Position, Read, begins_at, end_at, leaf_at, line_at, list_at, natural, natural32, word_at}
+use Rattle.ps_lines.specs.Reading.{Read, begins_at, end_at, leaf_at, line_at, list_at, natural, natural32, word_at}
 use Rattle.ps_lines.specs.Steps.{◌>>=◌}
 use Rattle.ps_term_text.specs.Reading.{term_at}
 use Rattle.ps_triple.specs.Ascending.{ascend}

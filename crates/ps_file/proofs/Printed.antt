@@ -1,11 +1,10 @@
 -- Texts that are put in pieces.
-use Rattle.std.proofs.Common.{◌≡◌, ℕ, List, [], ◌∷◌, ◌++◌, map, length, sym, ap, ◌∙◌, append_assoc}
-use Rattle.std.specs.Prelude.{decimal, codes}
+use Rattle.std.proofs.Common.{◌≡◌, ℕ, List, [], ◌∷◌, ◌++◌, length, sym, ap, ◌∙◌, append_assoc}
+use Rattle.std.specs.Prelude.{decimal}
 use Rattle.std.specs.List.{flat_map}
 use Rattle.std.proofs.lemmas.Grind.{flat_map-append}
 use Rattle.std.proofs.lemmas.List.{append-nil}
-use Rattle.ps_file.specs.declared.proof.Proof.{Proof}
-use Rattle.ps_file.specs.Spelling.{listed, proof_lines}
+use Rattle.ps_file.specs.Spelling.{listed}
 use Rattle.ps_lines.specs.Tokens.{line_bytes, text_bytes}
 use Rattle.ps_lines.proofs.Bytes.{flat_map-map}
 

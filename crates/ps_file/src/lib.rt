@@ -5,6 +5,7 @@ mod limits;
 mod printing;
 mod proof;
 mod reading;
+pub mod worked;
 
 pub use limits::{MOST_CONFIGS, MOST_ENTRIES, MOST_PREDICATES};
 pub use printing::print_proof;

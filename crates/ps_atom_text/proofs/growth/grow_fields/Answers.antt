@@ -1,9 +1,8 @@
-use Rattle.std.proofs.Common.{◌≡◌, Some, None, true, false, sym, ◌∙◌}
+use Rattle.std.proofs.Common.{sym, ◌∙◌}
 use Rattle.std.proofs.lemmas.Result.{err_from_is_err_and}
 use Rattle.ps_atom_text.specs.Growing.{grow_at}
 use Rattle.ps_atom_text.proofs.Growths.{grown_ends, grown_fails, grown_more, grown_stops, leaf_smaller}
 use Rattle.ps_atom_text.proofs.growth.grow_fields.Goals as goal
-use Rattle.ps_lines.specs.Tokens.{next_field}
 use Rattle.ps_lines.specs.Until.{goes}
 
 pub returns-then-not-passes : goal.returns-then-not-passes

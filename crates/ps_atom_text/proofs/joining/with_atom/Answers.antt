@@ -1,4 +1,4 @@
-use Rattle.std.proofs.Common.{◌≡◌, ◌<◌, ◌≤◌, ◌∙◌, length, arith}
+use Rattle.std.proofs.Common.{◌<◌, ◌≤◌, ◌∙◌, length, arith}
 use Rattle.ps_atom_text.specs.declared.limits.TheConstants.{MOST_BEFORE}
 use Rattle.ps_atom_text.proofs.Befores.{before_ascends, before_full, before_joined, before_refused}
 use Rattle.ps_atom_text.proofs.joining.with_atom.Goals as goal

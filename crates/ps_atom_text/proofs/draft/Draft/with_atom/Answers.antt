@@ -1,4 +1,4 @@
-use Rattle.std.proofs.Common.{◌≡◌, ◌<◌, ◌≤◌, inl, inr, length, arith}
+use Rattle.std.proofs.Common.{◌<◌, ◌≤◌, inl, inr, length, arith}
 use Rattle.ps_atom_text.proofs.InForm.{atom_fits_by, atom_is_formed, atom_refused_by, atom_too_many_by}
 use Rattle.ps_atom_text.proofs.draft.Draft.with_atom.Goals as goal
 use Rattle.ps_config.specs.Configurations.{Configuration}

@@ -1,4 +1,4 @@
-use Rattle.std.proofs.Common.{◌≡◌, ◌<◌, ◌≤◌, length, arith}
+use Rattle.std.proofs.Common.{◌<◌, ◌≤◌, length, arith}
 use Rattle.ps_atom_text.proofs.InForm.{place_fits_by, place_is_formed, place_refused_by, place_too_many_by}
 use Rattle.ps_atom_text.proofs.draft.Draft.with_place.Goals as goal
 use Rattle.ps_config.specs.Configurations.{Configuration}
