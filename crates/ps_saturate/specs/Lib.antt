@@ -1,0 +1,5 @@
+pub mod Patterns
+pub mod Asked
+pub mod Refuted
+pub mod Answered
+pub mod Saturated
