@@ -1,0 +1,9 @@
+pub mod Ascents
+pub mod Trying
+pub mod Finding
+pub mod Asking
+pub mod Arranged
+pub mod Showing
+pub mod Lasting
+pub mod Leading
+mod Counter

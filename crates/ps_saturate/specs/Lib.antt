@@ -3,3 +3,5 @@ pub mod Asked
 pub mod Refuted
 pub mod Answered
 pub mod Saturated
+pub mod Examples
+pub mod inner

@@ -7,7 +7,7 @@ use Rattle.ps_saturate.specs.Asked.{IsAskedAt}
 use Rattle.ps_saturate.specs.Patterns.{IsSubject, post_of}
 use Rattle.ps_saturate.specs.Refuted.{IsRefutedSet}
 use Rattle.ps_saturate.specs.declared.pattern.Pattern.{Pattern}
-use Rattle.ps_triple.specs.Entries.{GivesAtom, false_atom}
+use Rattle.ps_triple.specs.Entries.{AreAlike, GivesAtom, false_atom}
 use Rattle.ps_triple.specs.declared.entry.Entry.{Entry}
 use Rattle.ps_triple.specs.declared.entry.Entry.TheVariants.{Triple as OfTriple, Initial as OfInitial}
 use Rattle.ps_triple.specs.declared.initial.Initial.{Initial}
@@ -43,3 +43,7 @@ pub record IsSaturated (setting : Setting) (predicates : List Predicate) (entrie
   pub false_stays : (command : ℕ) → command < length setting.commands → KeepsFalse entries command
   pub answered : (post command : ℕ) (pattern : Pattern) → IsSubject setting predicates post command pattern →
       IsAnswered setting predicates (length predicates) entries width post command pattern
+
+-- each entry of the first list has one like it in the second
+abbrev pub AreThere : List Entry → List Entry → Type 0
+AreThere some all = (entry : Entry) → Contains some entry → (other : Entry) × Contains all other × AreAlike entry other

@@ -1,6 +1,6 @@
 //! Answers.
 ghost use Rattle.std.specs.Prelude.{◌≡◌};
-ghost use Rattle.ps_saturate.specs.Answered.{IsAnswer};
+ghost use Rattle.ps_saturate.specs.Answered.{IsAnswer, IsAnswerTo};
 
 use crate::question::Question;
 use ps_atom::Predicates;
@@ -43,6 +43,32 @@ impl Model for Answer {
 }
 
 impl Answer {
+    // The answer with what it was made for; the call needs no memory.
+    pub(crate) fn new(
+        setting: &Setting,
+        predicates: &Predicates,
+        question: Question,
+        width: u32,
+        entries: Vec<Entry>,
+    ) -> Answer
+        requires { IsAnswerTo setting.now predicates.now question width entries.items }
+        ensures { result ≡ record {
+            setting = setting.now;
+            predicates = predicates.now;
+            question = question;
+            width = width;
+            entries = entries.items;
+        } }
+    {
+        Answer {
+            question,
+            entries,
+            setting: Snapshot::of(setting),
+            predicates: Snapshot::of(predicates),
+            width: Snapshot::of(&width),
+        }
+    }
+
     /// What was asked; the call needs no memory.
     pub fn question(&self) -> Question
         ensures { result ≡ self.now.question }
