@@ -40,36 +40,36 @@ not_below_itself {X} c total x y same h =
     let f : ⊥ = cc in f
 
 -- what isn't the first member is a later one
-later_unless : {X : Type 0} (a : X) (as : List X) (x : X) → Contains (a ∷ as) x → a ≢ x → Contains as x
-later_unless a as x h other = elim (cons_cases a as x h) [ inl is ↦ absurd (other is) | inr later ↦ later ]
+later_unless : {X : Type 0} (a : X) (us : List X) (x : X) → Contains (a ∷ us) x → a ≢ x → Contains us x
+later_unless a us x h other = elim (cons_cases a us x h) [ inl is ↦ absurd (other is) | inr later ↦ later ]
 
 -- where the first members are one, the later ones of a part are among the later ones
-rest_later : {X : Type 0} (c : X → X → Ordering) → IsTotalOrder c → (b : X) (bs : List X) (a : X) (as : List X) → IsStrictlySortedBy c (b ∷ bs) → a ≡ b
-    → ((x : X) → Contains (b ∷ bs) x → Contains (a ∷ as) x) → (x : X) → Contains bs x → Contains as x
-rest_later c total b bs a as sb is sub x h =
-    later_unless a as x (sub x (there b bs x h)) (λ same. not_below_itself c total b x (sym is ∙ same) (below_later c b bs sb x h))
+rest_later : {X : Type 0} (c : X → X → Ordering) → IsTotalOrder c → (b : X) (vs : List X) (a : X) (us : List X) → IsStrictlySortedBy c (b ∷ vs) → a ≡ b
+    → ((x : X) → Contains (b ∷ vs) x → Contains (a ∷ us) x) → (x : X) → Contains vs x → Contains us x
+rest_later c total b vs a us sb is sub x h =
+    later_unless a us x (sub x (there b vs x h)) (λ same. not_below_itself c total b x (sym is ∙ same) (below_later c b vs sb x h))
 
 -- where the first member of a part is a later one, all of the part is
-all_later : {X : Type 0} (c : X → X → Ordering) → IsTotalOrder c → (b : X) (bs : List X) (a : X) (as : List X) → IsStrictlySortedBy c (b ∷ bs) → IsStrictlySortedBy c (a ∷ as) → Contains as b
-    → ((x : X) → Contains (b ∷ bs) x → Contains (a ∷ as) x) → (x : X) → Contains (b ∷ bs) x → Contains as x
-all_later {X} c total b bs a as sb sa later sub x h = elim (cons_cases b bs x h) [
-  | inl is ↦ subst (λ (z : X). Contains as z) is later
-  | inr rest ↦ later_unless a as x (sub x h) (λ same. not_below_itself c total a x same (total.trans a b x (below_later c a as sa b later) (below_later c b bs sb x rest)))
+all_later : {X : Type 0} (c : X → X → Ordering) → IsTotalOrder c → (b : X) (vs : List X) (a : X) (us : List X) → IsStrictlySortedBy c (b ∷ vs) → IsStrictlySortedBy c (a ∷ us) → Contains us b
+    → ((x : X) → Contains (b ∷ vs) x → Contains (a ∷ us) x) → (x : X) → Contains (b ∷ vs) x → Contains us x
+all_later {X} c total b vs a us sb sa later sub x h = elim (cons_cases b vs x h) [
+  | inl is ↦ subst (λ (z : X). Contains us z) is later
+  | inr rest ↦ later_unless a us x (sub x h) (λ same. not_below_itself c total a x same (total.trans a b x (below_later c a us sa b later) (below_later c b vs sb x rest)))
 ]
 
 -- an ascending list of members of another is that list or shorter
-pub same_or_shorter : {X : Type 0} (c : X → X → Ordering) → IsTotalOrder c → (as bs : List X) → IsStrictlySortedBy c as → IsStrictlySortedBy c bs
-    → ((x : X) → Contains bs x → Contains as x) → (bs ≡ as) ⊎ (length bs < length as)
+pub same_or_shorter : {X : Type 0} (c : X → X → Ordering) → IsTotalOrder c → (us vs : List X) → IsStrictlySortedBy c us → IsStrictlySortedBy c vs
+    → ((x : X) → Contains vs x → Contains us x) → (vs ≡ us) ⊎ (length vs < length us)
 same_or_shorter c total [] [] sa sb sub = inl refl
-same_or_shorter c total [] (b ∷ bs) sa sb sub = absurd (nothing b (sub b (here b bs)))
-same_or_shorter c total (a ∷ as) [] sa sb sub = inr (omega arith)
-same_or_shorter {X} c total (a ∷ as) (b ∷ bs) sa sb sub = elim (cons_cases a as b (sub b (here b bs))) [
-  | inl is ↦ elim (same_or_shorter c total as bs (sorted_tail c a as sa) (sorted_tail c b bs sb) (rest_later c total b bs a as sb is sub)) [
+same_or_shorter c total [] (b ∷ vs) sa sb sub = absurd (nothing b (sub b (here b vs)))
+same_or_shorter c total (a ∷ us) [] sa sb sub = inr (omega arith)
+same_or_shorter {X} c total (a ∷ us) (b ∷ vs) sa sb sub = elim (cons_cases a us b (sub b (here b vs))) [
+  | inl is ↦ elim (same_or_shorter c total us vs (sorted_tail c a us sa) (sorted_tail c b vs sb) (rest_later c total b vs a us sb is sub)) [
     | inl same ↦ inl (ap₂ (λ (z : X) (zs : List X). z ∷ zs) (sym is) same)
     | inr less ↦ inr (omega arith)
   ]
-  | inr later ↦ elim (same_or_shorter c total as (b ∷ bs) (sorted_tail c a as sa) sb (all_later c total b bs a as sb sa later sub)) [
-    | inl same ↦ inr (let e : length (b ∷ bs) ≡ length as = ap length same in omega arith)
+  | inr later ↦ elim (same_or_shorter c total us (b ∷ vs) (sorted_tail c a us sa) sb (all_later c total b vs a us sb sa later sub)) [
+    | inl same ↦ inr (let e : length (b ∷ vs) ≡ length us = ap length same in omega arith)
     | inr less ↦ inr (omega arith)
   ]
 ]
@@ -195,5 +195,5 @@ choices_sorted {X} c total (x ∷ xs) s (suc n) =
       subst (λ (us : List X). slice_cmp c us v ≡ Less) w.2 (before v w.0 (picked c xs (sorted_tail c x xs s) (suc n) v k))))
   where
     before : (v a : List X) → IsPick c xs (suc n) v → slice_cmp c (x ∷ a) v ≡ Less
-    before [] a p = (let e : length [] ≡ suc n = p.long in absurd (omega arith))
+    before [] a p = (let e : 0 ≡ suc n = p.long in absurd (omega arith))
     before (y ∷ v) a p = first_less c x a y v (below_later c x xs s y (p.among y (here y v)))

@@ -20,7 +20,7 @@ use Rattle.ps_saturate.proofs.Trying.{append_nothing}
 use Rattle.ps_saturate.specs.Answered.{set_cmp}
 use Rattle.ps_saturate.specs.inner.Choosing.{choices}
 use Rattle.ps_saturate.specs.inner.Trials.{AreTried, IsBlocked, IsRefutedIn, IsTried, ShowsSet, is_new, is_wanted}
-use Rattle.ps_saturate.specs.inner.Trials.IsTried.{unwanted, blocked, unrefuted, refuted}
+use Rattle.ps_saturate.specs.inner.Trials.IsTried.{unwanted as was_unwanted, blocked as was_blocked, unrefuted as was_unrefuted, refuted as was_refuted}
 use Rattle.ps_saturate.specs.declared.trial.Trial.{Trial}
 use Rattle.ps_triple.specs.Ascending.{ascend, atom_is_before_all}
 use Rattle.ps_triple.specs.declared.triple.Triple.{Triple}
@@ -188,11 +188,11 @@ took trial atoms size done set left found t within up sorted is long free shows 
 tried_one : (trial : Trial) (atoms : List Atom) (size : ℕ) (done : List (List Atom)) (set : List Atom) (left : List (List Atom)) (found new : List Triple)
     → size ≤ trial.width → IsUpTo trial atoms size done (set ∷ left) found → IsStrictlySortedBy set_cmp (set ∷ left) → IsSetOf atoms set → length set ≡ size
     → IsTried trial found set new → IsUpTo trial atoms size (done ++ set ∷ []) left new
-tried_one trial atoms size done set left found new within up sorted is long (unwanted h) =
+tried_one trial atoms size done set left found new within up sorted is long (was_unwanted h) =
     passed trial atoms size done set left found up (λ wanted refuted. absurd (true≢false (sym wanted ∙ h)))
-tried_one trial atoms size done set left found new within up sorted is long (blocked h) = passed trial atoms size done set left found up (λ wanted refuted. h)
-tried_one trial atoms size done set left found new within up sorted is long (unrefuted h) = passed trial atoms size done set left found up (λ wanted r. absurd (h r))
-tried_one trial atoms size done set left found new within up sorted is long (refuted t free shows) = took trial atoms size done set left found t within up sorted is long free shows
+tried_one trial atoms size done set left found new within up sorted is long (was_blocked h) = passed trial atoms size done set left found up (λ wanted refuted. h)
+tried_one trial atoms size done set left found new within up sorted is long (was_unrefuted h) = passed trial atoms size done set left found up (λ wanted r. absurd (h r))
+tried_one trial atoms size done set left found new within up sorted is long (was_refuted t free shows) = took trial atoms size done set left found t within up sorted is long free shows
 
 tried_all : (trial : Trial) (atoms : List Atom) (size : ℕ) (left done : List (List Atom)) (found new : List Triple)
     → size ≤ trial.width → IsUpTo trial atoms size done left found → IsStrictlySortedBy set_cmp left → All (λ set. IsSetOf atoms set × (length set ≡ size)) left

@@ -226,7 +226,7 @@ appended : (predicates more : List Predicate) → Agree predicates (predicates +
 appended predicates more = record {
   here_first = omega arith;
   there_first = (let e = length-append predicates more in omega arith);
-  same = λ n less. sym (get_or_append_left predicates more n false_predicate less);
+  same = λ n less. sym (get_or_append_left predicates more false_predicate n less);
 }
 
 pub predicates_later : (setting : Setting) (predicates more : List Predicate) (entries : List Entry) (known width post command : ℕ) (pattern : Pattern) → known ≤ length predicates → post < length predicates

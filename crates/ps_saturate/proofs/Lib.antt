@@ -7,3 +7,4 @@ pub mod Showing
 pub mod Lasting
 pub mod Leading
 mod Counter
+pub mod Anys

@@ -42,6 +42,10 @@ past_refutes_nothing rows stage v h k = (let e : Past128 stage ≡ Refuted v = e
 pub wide_refutes_nothing : (rows : List Row) (stage count : ℕ) (v : List ℕ) → IsElimination rows (TooWide stage count) → ¬ IsElimination rows (Refuted v)
 wide_refutes_nothing rows stage count v h k = (let e : TooWide stage count ≡ Refuted v = elimination_once rows (Refuted v) (TooWide stage count) k h tt tt in let f : ⊥ = cc in f)
 
+-- rows are refuted by one list of multipliers
+pub refuted_once : (rows : List Row) (u v : List ℕ) → IsElimination rows (Refuted u) → IsElimination rows (Refuted v) → u ≡ v
+refuted_once rows u v h k = (let e : Refuted u ≡ Refuted v = elimination_once rows (Refuted v) (Refuted u) k h tt tt in let f : u ≡ v = cc in f)
+
 -- ---- the rows of a set
 
 pub rows_are : (setting : Setting) (predicates : List Predicate) (post : Atom) (cs : List Choice) → All (IsChoice setting predicates post) cs → rows_of cs ≡ map (atom_row predicates) (atoms_of cs)

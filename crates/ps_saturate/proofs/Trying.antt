@@ -5,16 +5,16 @@ use Rattle.std.proofs.Math.Seq.{drop-cons}
 use Rattle.ps_atom.specs.declared.atom.Atom.{Atom}
 use Rattle.ps_saturate.specs.inner.Choosing.{after_all, choices}
 use Rattle.ps_saturate.specs.inner.Trials.{AreTried, IsBlocked, IsTried, atoms_of}
-use Rattle.ps_saturate.specs.inner.Trials.IsTried.{blocked}
+use Rattle.ps_saturate.specs.inner.Trials.IsTried.{blocked as was_blocked}
 use Rattle.ps_saturate.specs.declared.choice.Choice.{Choice}
 use Rattle.ps_saturate.specs.declared.trial.Trial.{Trial}
 use Rattle.ps_triple.specs.declared.triple.Triple.{Triple}
 
 -- ---- one list after another
 
-pub tried_append : (trial : Trial) (as bs : List (List Atom)) (f g h : List Triple) → AreTried trial as f g → AreTried trial bs g h → AreTried trial (as ++ bs) f h
-tried_append trial [] bs f g h a b = subst (λ (e : List Triple). AreTried trial bs e h) (sym a) b
-tried_append trial (s ∷ as) bs f g h a b = (a.0, a.1, tried_append trial as bs a.0 g h a.2 b)
+pub tried_append : (trial : Trial) (us vs : List (List Atom)) (f g h : List Triple) → AreTried trial us f g → AreTried trial vs g h → AreTried trial (us ++ vs) f h
+tried_append trial [] vs f g h a b = subst (λ (e : List Triple). AreTried trial vs e h) (sym a) b
+tried_append trial (s ∷ us) vs f g h a b = (a.0, a.1, tried_append trial us vs a.0 g h a.2 b)
 
 -- ---- sets with one more member
 
@@ -22,9 +22,9 @@ after_led : {X : Type 0} (first : List X) (x : X) (cs : List (List X)) → map (
 after_led first x [] = refl
 after_led {X} first x (c ∷ cs) = ap₂ (λ (d : List X) (ds : List (List X)). d ∷ ds) (sym (append_assoc first (x ∷ []) c)) (after_led first x cs)
 
-map_append : {X Y : Type 0} (f : X → Y) (as bs : List X) → map f (as ++ bs) ≡ map f as ++ map f bs
-map_append f [] bs = refl
-map_append {X} {Y} f (a ∷ as) bs = ap (λ (ys : List Y). f a ∷ ys) (map_append f as bs)
+map_append : {X Y : Type 0} (f : X → Y) (us vs : List X) → map f (us ++ vs) ≡ map f us ++ map f vs
+map_append f [] vs = refl
+map_append {X} {Y} f (a ∷ us) vs = ap (λ (ys : List Y). f a ∷ ys) (map_append f us vs)
 
 -- the sets with so many more members are those that begin with the first one, and those without it
 pub after_choices : {X : Type 0} (first : List X) (x : X) (xs : List X) (n : ℕ)
@@ -54,7 +54,7 @@ blocked_more found set c h = (h.0, h.1, All-weaker (Contains set) (Contains (set
 
 pub tried_blocked : (trial : Trial) (set : List Atom) (cs : List (List Atom)) (found : List Triple) → IsBlocked found set → AreTried trial (after_all set cs) found found
 tried_blocked trial set [] found h = refl
-tried_blocked trial set (c ∷ cs) found h = (found, blocked (blocked_more found set c h), tried_blocked trial set cs found h)
+tried_blocked trial set (c ∷ cs) found h = (found, was_blocked (blocked_more found set c h), tried_blocked trial set cs found h)
 
 -- ---- a walk: what is done, with what is left, is all
 

@@ -1,5 +1,6 @@
 //! The answer to a question.
-ghost use Rattle.std.specs.Prelude.{◌≡◌, ◌<◌, ◌++◌, ◌∷◌, [], All, IfNone, IfOk, IfSome, IsErrOf, OnOk, length};
+ghost use Rattle.std.specs.Prelude.{◌≡◌, ◌<◌, ◌++◌, ◌∷◌, [], All, IfNone, IfOk, IfSome, IsErrOf, OnOk, length, nat_lt, not};
+ghost use Rattle.std.specs.List.{list_any};
 ghost use Rattle.ps_saturate.specs.Answered.{IsAnswerTo};
 ghost use Rattle.ps_saturate.specs.Asked.{IsQuestion};
 ghost use Rattle.ps_saturate.specs.inner.Trials.{AreFound, GivesNothing, IsReady, IsTrialOf, is_new, new_entries};
@@ -38,11 +39,11 @@ pub fn answer_question(
     width: u32,
 ) -> Result<Answer, AllocError>
     requires { IsQuestion setting.now predicates.now question.now }
-    ensures question { IfOk result (λ answer. answer.question ≡ question.now) }
+    ensures question { IfOk result (λ answer. answer.question ≡ question.entry.now) }
     ensures setting { IfOk result (λ answer. answer.setting ≡ setting.now) }
     ensures predicates { IfOk result (λ answer. answer.predicates ≡ predicates.now) }
     ensures width { IfOk result (λ answer. answer.width ≡ width) }
-    ensures answer { IfOk result (λ answer. IsAnswerTo setting.now predicates.now question.now width
+    ensures answer { IfOk result (λ answer. IsAnswerTo setting.now predicates.now question.entry.now width
         answer.entries) }
     ensures hold { IfOk result (λ answer. All (EntryHolds setting.now predicates.now)
         answer.entries) }
@@ -188,5 +189,17 @@ fn new_entries(alloc: Global, old: u32, found: Vec<Triple>) -> Result<Vec<Entry>
 fn is_new(old: u32, set: &[Atom]) -> bool
     ensures { result ≡ is_new old set.now }
 {
-    old == 0 || set.iter().any(|atom| atom.predicate >= old)
+    old == 0 || has_new_atom(old, set)
+}
+
+// Whether the predicate of some atom wasn't among the first `old`.
+fn has_new_atom(old: u32, set: &[Atom]) -> bool
+    ensures { result ≡ list_any (λ q. not (nat_lt q.predicate old)) set.now }
+{
+    for atom in set {
+        if atom.predicate >= old {
+            return true;
+        }
+    }
+    false
 }

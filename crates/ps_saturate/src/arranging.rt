@@ -61,7 +61,12 @@ fn push_led_by(
 fn lacks(thread: u32, list: &[u32]) -> bool
     ensures { result ≡ lacks thread list.now }
 {
-    !list.iter().any(|other| *other == thread)
+    for other in list {
+        if *other == thread {
+            return false;
+        }
+    }
+    true
 }
 
 // The thread, and then those of the list.

@@ -62,11 +62,23 @@ fn multipliers(alloc: Global, rows: &[Row]) -> Result<Option<Sequence<u128>>, Al
         → IsElimination rows.now (Refuted lambda) → ¬ AllSumsFit rows.now lambda)) }
 {
     match eliminate(alloc, rows)? {
-        Elim::Refuted(lambda) => match refutes(rows, lambda.as_slice()) {
-            Ok(_) => Ok(Some(lambda)),
-            Err(_) => Ok(None),
-        },
-        Elim::Stages(_) | Elim::Past128 { .. } | Elim::TooWide { .. } => Ok(None),
+        Elim::Refuted(lambda) => Ok(within_range(rows, lambda)),
+        Elim::Stages(_) => Ok(None),
+        Elim::Past128 { stage: _ } => Ok(None),
+        Elim::TooWide { stage: _, count: _ } => Ok(None),
+    }
+}
+
+// The multipliers, unless a sum in row order leaves 128 bits.
+fn within_range(rows: &[Row], lambda: Sequence<u128>) -> Option<Sequence<u128>>
+    requires { Refutes rows.now lambda }
+    ensures same { IfSome result (λ same. same ≡ lambda) }
+    ensures fits { IfSome result (AllSumsFit rows.now) }
+    ensures past { IfNone result (¬ AllSumsFit rows.now lambda) }
+{
+    match refutes(rows, lambda.as_slice()) {
+        Ok(_) => Some(lambda),
+        Err(_) => None,
     }
 }
 

@@ -1,5 +1,6 @@
 // The walk over the sets of a size.
-ghost use Rattle.std.specs.Prelude.{◌≡◌, ◌↔◌, ◌++◌, ◌∷◌, [], All, Contains, IfOk, IsTrue};
+ghost use Rattle.std.specs.Prelude.{◌≡◌, ◌↔◌, ◌++◌, ◌∷◌, [], All, Contains, IfOk, IsTrue, nat_lt, not};
+ghost use Rattle.std.specs.List.{list_any};
 ghost use Rattle.std.specs.List.Sorted.{IsStrictlySortedBy};
 ghost use Rattle.ps_atom.specs.Atoms.{atom_cmp};
 ghost use Rattle.ps_saturate.specs.inner.Choosing.{after_all, choices};
@@ -83,9 +84,20 @@ fn is_wanted(trial: &Trial<'_>, set: &[&Choice]) -> bool
         (atoms_of (pointed_to set.now)) }
 {
     let old = trial.question.old;
-    set.len() < trial.width as usize
-        || old == 0
-        || set.iter().any(|choice| choice.atom.predicate >= old)
+    set.len() < trial.width as usize || old == 0 || has_new_choice(old, set)
+}
+
+// Whether the predicate of some atom wasn't among the first `old`.
+fn has_new_choice(old: u32, set: &[&Choice]) -> bool
+    ensures { result
+        ≡ list_any (λ q. not (nat_lt q.predicate old)) (atoms_of (pointed_to set.now)) }
+{
+    for choice in set {
+        if choice.atom.predicate >= old {
+            return true;
+        }
+    }
+    false
 }
 
 fn with_choice<'a>(
@@ -123,7 +135,12 @@ fn is_inside(part: &[Atom], set: &[&Choice]) -> bool
 fn has_atom(set: &[&Choice], atom: &Atom) -> bool
     ensures { IsTrue result ↔ Contains (atoms_of (pointed_to set.now)) atom.now }
 {
-    set.iter().any(|choice| is_same(&choice.atom, atom))
+    for choice in set {
+        if is_same(&choice.atom, atom) {
+            return true;
+        }
+    }
+    false
 }
 
 fn is_same(one: &Atom, other: &Atom) -> bool
