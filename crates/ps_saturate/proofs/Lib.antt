@@ -8,3 +8,4 @@ pub mod Lasting
 pub mod Leading
 mod Counter
 pub mod Anys
+pub mod Stepping

@@ -22,7 +22,7 @@ after_led : {X : Type 0} (first : List X) (x : X) (cs : List (List X)) → map (
 after_led first x [] = refl
 after_led {X} first x (c ∷ cs) = ap₂ (λ (d : List X) (ds : List (List X)). d ∷ ds) (sym (append_assoc first (x ∷ []) c)) (after_led first x cs)
 
-map_append : {X Y : Type 0} (f : X → Y) (us vs : List X) → map f (us ++ vs) ≡ map f us ++ map f vs
+pub map_append : {X Y : Type 0} (f : X → Y) (us vs : List X) → map f (us ++ vs) ≡ map f us ++ map f vs
 map_append f [] vs = refl
 map_append {X} {Y} f (a ∷ us) vs = ap (λ (ys : List Y). f a ∷ ys) (map_append f us vs)
 

@@ -71,11 +71,14 @@ fn with_set(
     if !is_wanted(trial, set) {
         return Ok(found);
     }
-    let mut found = found;
-    if let Some(triple) = refutation(alloc, trial, set)? {
-        found.push(triple)?;
+    match refutation(alloc, trial, set)? {
+        Some(triple) => {
+            let mut found = found;
+            found.push(triple)?;
+            Ok(found)
+        }
+        None => Ok(found),
     }
-    Ok(found)
 }
 
 // Whether the set is asked for, or larger ones may be.
@@ -129,7 +132,12 @@ fn is_blocked(found: &[Triple], set: &[&Choice]) -> bool
 fn is_inside(part: &[Atom], set: &[&Choice]) -> bool
     ensures { IsTrue result ↔ All (Contains (atoms_of (pointed_to set.now))) part.now }
 {
-    part.iter().all(|atom| has_atom(set, atom))
+    for atom in part {
+        if !has_atom(set, atom) {
+            return false;
+        }
+    }
+    true
 }
 
 fn has_atom(set: &[&Choice], atom: &Atom) -> bool
