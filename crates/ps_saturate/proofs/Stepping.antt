@@ -165,3 +165,30 @@ trial_threads trial p count ready subject is counted =
     subst (λ (q : Atom). AreThreadsOf q.threads count) (sym ready.post_is)
     (subst (λ (n : ℕ). AreThreadsOf (post_threads trial.question.pattern (predicate_of trial.predicates.now trial.question.post).arity) n) (sym (counted ∙ ap (λ (r : Predicate). thread_count trial.question.pattern r.arity) same))
     (post_threads_are trial.question.pattern (predicate_of trial.predicates.now trial.question.post).arity subject.fits))
+
+-- ---- choices of one predicate
+
+-- each list is one of those that they are
+pub lists_among : {V : Type 0} (f : V → List ℕ) (lists : List V) (all : List (List ℕ)) → map f lists ≡ all → All (λ v. Contains all (f v)) lists
+lists_among {V} f lists all e = Rattle.ps_saturate.proofs.Ascents.all_from (λ (v : V). Contains all (f v)) lists (λ v h. subst (λ (ls : List (List ℕ)). Contains ls (f v)) e (mapped f lists v h))
+
+pub choice_ready : (setting : Setting) (predicates : List Predicate) (number : ℕ) (post : Atom) (threads : ℕ) (list of_atom : List ℕ) → Rattle.ps_triple.specs.Tests.IsThere setting predicates number → AreThreadsOf post.threads threads
+    → Contains (Rattle.ps_saturate.specs.inner.Arranging.arrangements threads (predicate_of predicates number).arity) of_atom → list ≡ of_atom
+    → IsAtomOf setting predicates (record { predicate = number; threads = list }) × HasThreadsOnce (record { predicate = number; threads = list }) × Rattle.ps_triple.specs.Tests.IsTiedTo post.threads (record { predicate = number; threads = list })
+choice_ready setting predicates number post threads list of_atom there of arranged same =
+    Rattle.ps_saturate.proofs.Arranged.choice_with setting predicates number post threads list there of (Rattle.ps_saturate.proofs.Arranged.arranged_from threads (predicate_of predicates number).arity list (subst (λ (ts : List ℕ). Contains (Rattle.ps_saturate.specs.inner.Arranging.arrangements threads (predicate_of predicates number).arity) ts) (sym same) arranged))
+
+pub push_step : {V : Type 0} (f : V → Atom) (lists : List V) (i : ℕ) (v : V) (done next all : List Atom) → i < length lists → v ≡ get_or lists i v → next ≡ done ++ f v ∷ [] → done ++ map f (drop i lists) ≡ all → next ++ map f (drop (i + 1) lists) ≡ all
+push_step {V} f lists i v done next all within is next_is h =
+    ap (λ (qs : List Atom). qs ++ map f (drop (i + 1) lists)) next_is
+    ∙ append_assoc done (f v ∷ []) (map f (drop (i + 1) lists))
+    ∙ ap (λ (vs : List V). done ++ map f vs) (sym (left_at lists i v within is))
+    ∙ h
+
+pub push_end : {V : Type 0} (f : V → Atom) (lists : List V) (i : ℕ) (done all : List Atom) → length lists ≤ i → done ++ map f (drop i lists) ≡ all → done ≡ all
+push_end {V} f lists i done all end h =
+    sym (Rattle.ps_saturate.proofs.Trying.append_nothing done) ∙ ap (λ (vs : List V). done ++ map f vs) (sym (drop_all i lists end)) ∙ h
+
+pub all_choices : {V : Type 0} (number : ℕ) (f : V → List ℕ) (lists : List V) (all : List (List ℕ)) (done list : List Atom) → map f lists ≡ all → done ≡ list ++ map (λ v. Rattle.ps_saturate.specs.inner.Arranging.atom_with number (f v)) lists → done ≡ list ++ map (Rattle.ps_saturate.specs.inner.Arranging.atom_with number) all
+all_choices number f lists all done list e h =
+    h ∙ ap (λ (qs : List Atom). list ++ qs) (sym (Rattle.ps_list.proofs.Mapped.map_map f (Rattle.ps_saturate.specs.inner.Arranging.atom_with number) lists) ∙ ap (map (Rattle.ps_saturate.specs.inner.Arranging.atom_with number)) e)

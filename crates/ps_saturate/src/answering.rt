@@ -162,11 +162,12 @@ fn found_by(alloc: Global, trial: &Trial<'_>) -> Result<Vec<Triple>, AllocError>
         &trial.post,
         threads,
     )?;
-    let most = list.len().min(trial.width as usize);
+    let members = list.as_slice();
+    let most = members.len().min(trial.width as usize);
     let none = Vec::new(alloc);
     let mut found = Vec::new(alloc);
     for size in 0..most + 1 {
-        found = walk(alloc, trial, none.as_slice(), list.as_slice(), size, found)?;
+        found = walk(alloc, trial, none.as_slice(), members, size, found)?;
     }
     Ok(found)
 }

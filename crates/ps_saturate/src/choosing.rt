@@ -1,5 +1,5 @@
 // The atoms that sets are made of.
-ghost use Rattle.std.specs.Prelude.{◌≡◌, ◌<◌, ◌≤◌, ◌++◌, All, IfOk, OnOk, length, map};
+ghost use Rattle.std.specs.Prelude.{◌≡◌, ◌<◌, ◌≤◌, ◌++◌, ◌∷◌, [], All, Contains, IfOk, OnOk, length, map};
 ghost use Rattle.ps_saturate.specs.inner.Arranging.{AreThreadsOf, arrangements, atom_with};
 ghost use Rattle.ps_saturate.specs.inner.Trials.{AreChoices, IsChoice, atoms_of};
 ghost use Rattle.ps_triple.specs.Rows.{predicate_of};
@@ -57,13 +57,46 @@ fn push_choices(
         → All (IsChoice setting.now predicates.now post.now) list.new.items) }
 {
     let lists = arrangements(alloc, threads, predicates[number as usize].arity)?;
-    for threads_of_atom in lists {
-        let atom = Atom {
-            predicate: number,
-            threads: Sequence::from_list(threads_of_atom),
-        };
-        let row = atom_row(alloc, setting, predicates, &atom)?;
-        list.push(Choice { atom, row })?;
+    for of_atom in &lists {
+        push_choice(
+            alloc,
+            list,
+            setting,
+            predicates,
+            number,
+            post,
+            threads,
+            of_atom.as_slice(),
+        )?;
     }
+    Ok(())
+}
+
+// Appends the atom of a predicate with these threads.
+fn push_choice(
+    alloc: Global,
+    list: &mut Vec<Choice>,
+    setting: &Setting,
+    predicates: &[Predicate],
+    number: u32,
+    post: &Atom,
+    threads: u32,
+    of_atom: &[u32],
+) -> Result<(), AllocError>
+    requires there { IsThere setting.now predicates.now number }
+    requires threads { AreThreadsOf post.now.threads threads }
+    requires arranged { Contains (arrangements threads (predicate_of predicates.now number).arity)
+        of_atom.now }
+    ensures atoms { OnOk result (atoms_of list.new.items ≡ atoms_of list.old.items
+        ++ atom_with number of_atom.now ∷ []) }
+    ensures made { OnOk result (All (IsChoice setting.now predicates.now post.now) list.old.items
+        → All (IsChoice setting.now predicates.now post.now) list.new.items) }
+{
+    let atom = Atom {
+        predicate: number,
+        threads: Sequence::from_slice(alloc, of_atom)?,
+    };
+    let row = atom_row(alloc, setting, predicates, &atom)?;
+    list.push(Choice { atom, row })?;
     Ok(())
 }
