@@ -112,13 +112,13 @@ led_sorted first (suc count) lists s =
     (sorted_kept (slice_cmp nat_cmp) (λ (ts : List ℕ). first ∷ ts) (lacks first) lists (map_sorted (slice_cmp nat_cmp) (slice_cmp nat_cmp) (λ (ts : List ℕ). first ∷ ts) (led_less first) lists s))
     (led_sorted (first + 1) count lists s)
     (λ a b h k. (
-      let u = from_mapped (λ (ts : List ℕ). first ∷ ts) (filter (lacks first) lists) a h in
-      let w = from_flat_mapped (λ t. led_by t lists) (threads_from (first + 1) count) b k in
-      let v = from_mapped (λ (ts : List ℕ). w.0 ∷ ts) (filter (lacks w.0) lists) b w.2 in
-      let m = from_threads (first + 1) count w.0 w.1 in
-      let less : nat_cmp first w.0 ≡ Less = below first w.0 m.0 in
-      subst (λ (x : List ℕ). slice_cmp nat_cmp x b ≡ Less) u.2 (subst (λ (y : List ℕ). slice_cmp nat_cmp (first ∷ u.0) y ≡ Less) v.2
-      (ap (λ (o : Ordering). ordering_then o (slice_cmp nat_cmp u.0 v.0)) less))))
+    let u = from_mapped (λ (ts : List ℕ). first ∷ ts) (filter (lacks first) lists) a h in
+    let w = from_flat_mapped (λ t. led_by t lists) (threads_from (first + 1) count) b k in
+    let v = from_mapped (λ (ts : List ℕ). w.0 ∷ ts) (filter (lacks w.0) lists) b w.2 in
+    let m = from_threads (first + 1) count w.0 w.1 in
+    let less : nat_cmp first w.0 ≡ Less = below first w.0 m.0 in
+    subst (λ (x : List ℕ). slice_cmp nat_cmp x b ≡ Less) u.2 (subst (λ (y : List ℕ). slice_cmp nat_cmp (first ∷ u.0) y ≡ Less) v.2
+    (ap (λ (o : Ordering). ordering_then o (slice_cmp nat_cmp u.0 v.0)) less))))
   where
     below : (n m : ℕ) → n + 1 ≤ m → nat_cmp n m ≡ Less
     below n m h = grind (arith, nat_tests)
@@ -132,13 +132,16 @@ arrangements_sorted threads (suc slots) = led_sorted 0 threads (arrangements thr
 -- an atom of distinct threads that the post has, or thread 0, may be asked for
 pub usable_with : (setting : Setting) (predicates : List Predicate) (number : ℕ) (post : Atom) (threads : ℕ) (list : List ℕ) → 1 ≤ number → IsThere setting predicates number
     → AreThreadsOf post.threads threads → IsArranged threads (predicate_of predicates number).arity list → IsUsable setting predicates (number + 1) post (atom_with number list)
-usable_with setting predicates number post threads list least there of is = (record {
-  known_is = omega arith;
-  not_false = omega arith;
-  slots = is.long;
-  once = is.distinct;
-  tied = all_from (λ (n : ℕ). (n ≡ 0) ⊎ Contains post.threads n) list (λ n c. (of n).1 (is.below n c));
-}, there)
+usable_with setting predicates number post threads list least there of is = (
+  record {
+    known_is = omega arith;
+    not_false = omega arith;
+    slots = is.long;
+    once = is.distinct;
+    tied = all_from (λ (n : ℕ). (n ≡ 0) ⊎ Contains post.threads n) list (λ n c. (of n).1 (is.below n c));
+  },
+  there,
+)
 
 -- and each that may be is one
 arranged_of : (setting : Setting) (predicates : List Predicate) (known : ℕ) (post : Atom) (threads : ℕ) (q : Atom) → AreThreadsOf post.threads threads
@@ -164,22 +167,28 @@ no_choices setting predicates post = record {
 }
 
 more_known : (setting : Setting) (predicates : List Predicate) (number : ℕ) (post q : Atom) → IsUsable setting predicates number post q → IsUsable setting predicates (number + 1) post q
-more_known setting predicates number post q is = (record {
-  known_is = (let h : q.predicate < number = is.0.known_is in omega arith);
-  not_false = is.0.not_false;
-  slots = is.0.slots;
-  once = is.0.once;
-  tied = is.0.tied;
-}, is.1)
+more_known setting predicates number post q is = (
+  record {
+    known_is = (let h : q.predicate < number = is.0.known_is in omega arith);
+    not_false = is.0.not_false;
+    slots = is.0.slots;
+    once = is.0.once;
+    tied = is.0.tied;
+  },
+  is.1,
+)
 
 fewer_known : (setting : Setting) (predicates : List Predicate) (number : ℕ) (post q : Atom) → IsUsable setting predicates (number + 1) post q → q.predicate ≢ number → IsUsable setting predicates number post q
-fewer_known setting predicates number post q is other = (record {
-  known_is = (let h : q.predicate < number + 1 = is.0.known_is in omega (arith, h, other));
-  not_false = is.0.not_false;
-  slots = is.0.slots;
-  once = is.0.once;
-  tied = is.0.tied;
-}, is.1)
+fewer_known setting predicates number post q is other = (
+  record {
+    known_is = (let h : q.predicate < number + 1 = is.0.known_is in omega (arith, h, other));
+    not_false = is.0.not_false;
+    slots = is.0.slots;
+    once = is.0.once;
+    tied = is.0.tied;
+  },
+  is.1,
+)
 
 -- a predicate that isn't in range has none
 pub choices_skipped : (setting : Setting) (predicates : List Predicate) (number : ℕ) (post : Atom) (list : List Choice) → (¬ IsThere setting predicates number)
@@ -217,8 +226,8 @@ choices_more setting predicates number post threads list new least there of are 
     | inr other ↦ Contains-append_left (atoms_of list) those q (are.every q (fewer_known setting predicates number post q is other))
   ]);
   ascend = subst (λ (qs : List Atom). IsStrictlySortedBy atom_cmp qs) (sym atoms) (sorted_append atom_cmp (atoms_of list) those are.ascend
-    (map_sorted (slice_cmp nat_cmp) atom_cmp (atom_with number) (with_less number) lists (arrangements_sorted threads slots))
-    (λ p q h k. lower_less p q (
+      (map_sorted (slice_cmp nat_cmp) atom_cmp (atom_with number) (with_less number) lists (arrangements_sorted threads slots))
+      (λ p q h k. lower_less p q (
       let w = from_mapped (atom_with number) lists q k in
       let low : p.predicate < number = (All-contains (IsUsable setting predicates number post) (atoms_of list) p are.usable h).0.known_is in
       let e : number ≡ q.predicate = ap (λ (r : Atom). r.predicate) w.2 in
@@ -265,13 +274,15 @@ post_threads_are (Mover slot) slots fits n = (
       | inl first ↦ Contains-append_left (take slot (threads_from 1 (slots - 1))) (0 ∷ drop slot (threads_from 1 (slots - 1))) n first
       | inr last ↦ Contains-append_right (take slot (threads_from 1 (slots - 1))) (0 ∷ drop slot (threads_from 1 (slots - 1))) n (there 0 (drop slot (threads_from 1 (slots - 1))) n last)
     ])
-  ]))
+  ]),
+)
   where
     low : Contains (threads_from 1 (slots - 1)) n → n < slots
     low h = (let w = from_threads 1 (slots - 1) n h in let f : slot < slots = fits in omega (arith, w.1, f))
 post_threads_are Other slots fits n = (
   (λ h. elim h [ inl zero_is ↦ (let e : n ≡ 0 = zero_is in omega arith) | inr among ↦ (let w = from_threads 1 slots n among in omega (arith, w.1)) ]),
-  (λ h. elim (Rattle.std.proofs.lemmas.Bool.cases_eq n 0) [ inl is ↦ inl is | inr other ↦ inr (to_threads 1 slots n (omega (arith, other)) (let less : n < slots + 1 = h in omega arith)) ]))
+  (λ h. elim (Rattle.std.proofs.lemmas.Bool.cases_eq n 0) [ inl is ↦ inl is | inr other ↦ inr (to_threads 1 slots n (omega (arith, other)) (let less : n < slots + 1 = h in omega arith)) ]),
+)
 
 one : (s : ℕ) → AllPairs (λ (s t : ℕ). s ≢ t) (s ∷ [])
 one s = AllPairs-cons (λ (s t : ℕ). s ≢ t) s [] (All-nil (λ (t : ℕ). s ≢ t)) pairs_nothing

@@ -121,8 +121,8 @@ sorted_kept {X} {Y} c f p (x ∷ xs) s = at (p x) (sorted_kept c f p xs (sorted_
   where
     at : (b : Bool) → IsStrictlySortedBy c (map f (filter p xs)) → IsStrictlySortedBy c (map f (cond b (x ∷ filter p xs) (filter p xs)))
     at true rest = sorted_cons c (f x) (map f (filter p xs)) (all_from (λ z. c (f x) z ≡ Less) (map f (filter p xs)) (λ z h. (
-      let w = from_mapped f (filter p xs) z h in
-      below_later c (f x) (map f xs) s z (subst (λ (y : Y). Contains (map f xs) y) w.2 (mapped f xs w.0 (from_kept p xs w.0 w.1).0))))) rest
+        let w = from_mapped f (filter p xs) z h in
+        below_later c (f x) (map f xs) s z (subst (λ (y : Y). Contains (map f xs) y) w.2 (mapped f xs w.0 (from_kept p xs w.0 w.1).0))))) rest
     at false rest = rest
 
 -- ---- what is chosen
@@ -191,8 +191,8 @@ choices_sorted {X} c total (x ∷ xs) s (suc n) =
     (map_sorted (slice_cmp c) (slice_cmp c) (λ (zs : List X). x ∷ zs) (led_less c total x) (choices xs n) (choices_sorted c total xs (sorted_tail c x xs s) n))
     (choices_sorted c total xs (sorted_tail c x xs s) (suc n))
     (λ u v h k. (
-      let w = from_mapped (λ (zs : List X). x ∷ zs) (choices xs n) u h in
-      subst (λ (us : List X). slice_cmp c us v ≡ Less) w.2 (before v w.0 (picked c xs (sorted_tail c x xs s) (suc n) v k))))
+    let w = from_mapped (λ (zs : List X). x ∷ zs) (choices xs n) u h in
+    subst (λ (us : List X). slice_cmp c us v ≡ Less) w.2 (before v w.0 (picked c xs (sorted_tail c x xs s) (suc n) v k))))
   where
     before : (v a : List X) → IsPick c xs (suc n) v → slice_cmp c (x ∷ a) v ≡ Less
     before [] a p = (let e : 0 ≡ suc n = p.long in absurd (omega arith))

@@ -67,14 +67,14 @@ asked_before predicates old known post set asked e = record {
   some = some_unless old (λ is. both_ways (is_new old set) e (or_left (old == 0) (list_any (λ (q : Atom). not (nat_lt q.predicate old)) set) is));
   ascends = asked.ascends;
   atoms = all_from (IsAskedAtom predicates old post) set (λ q k. (
-    let a = All-contains (IsAskedAtom predicates known post) set q asked.atoms k in
-    record {
-      known_is = below_unless q.predicate old (λ is. both_ways (is_new old set) e (or_right (old == 0) (list_any (λ (q : Atom). not (nat_lt q.predicate old)) set) (any_to (λ (q : Atom). not (nat_lt q.predicate old)) set q k is)));
-      not_false = a.not_false;
-      slots = a.slots;
-      once = a.once;
-      tied = a.tied;
-    }));
+      let a = All-contains (IsAskedAtom predicates known post) set q asked.atoms k in
+      record {
+        known_is = below_unless q.predicate old (λ is. both_ways (is_new old set) e (or_right (old == 0) (list_any (λ (q : Atom). not (nat_lt q.predicate old)) set) (any_to (λ (q : Atom). not (nat_lt q.predicate old)) set q k is)));
+        not_false = a.not_false;
+        slots = a.slots;
+        once = a.once;
+        tied = a.tied;
+      }));
 }
 
 pub new_if_asked : (predicates : List Predicate) (question : Question) (width : ℕ) (set : List Atom) → Asks predicates question width set → is_new question.old set ≡ true
@@ -93,7 +93,7 @@ among_choices trial list are set asked refuted = record {
   ascends = sorted_from_ascend set asked.ascends;
   among = all_from (Contains (atoms_of list)) set (λ q k. are.every q (
     All-contains (IsAskedAtom trial.predicates.now trial.question.now trial.post) set q asked.atoms k,
-    (All-contains (Rattle.ps_triple.specs.Tests.IsAtomOf trial.setting.now trial.predicates.now) refuted.0.pre q refuted.1.holds.names.1 (subst (λ (qs : List Atom). Contains qs q) (sym refuted.1.before) k)).0
+    (All-contains (Rattle.ps_triple.specs.Tests.IsAtomOf trial.setting.now trial.predicates.now) refuted.0.pre q refuted.1.holds.names.1 (subst (λ (qs : List Atom). Contains qs q) (sym refuted.1.before) k)).0,
   ));
 }
 
@@ -102,14 +102,15 @@ pub found_all : (trial : Trial) (list : List Choice) (most : ℕ) (found : List 
 found_all trial list most found are most_is below = record {
   least = all_from (λ t. ShowsSet trial t.pre t × IsLeastRefuted trial.setting.now trial.predicates.now trial.question.command trial.post t.pre
       × All (IsAskedAtom trial.predicates.now trial.question.now trial.post) t.pre × (length t.pre ≤ trial.width)) found (λ t k. (
-    let h = All-contains (λ t. IsLeastOf trial (atoms_of list) t × (length t.pre < most + 1)) found t below.least k in (
-      h.0.shows,
-      record { refuted = (t, h.0.shows); least = h.0.least },
-      all_from (IsAskedAtom trial.predicates.now trial.question.now trial.post) t.pre (λ q l. asked_choice q (All-contains (Contains (atoms_of list)) t.pre q h.0.set.among l)),
-      (let less = h.1 in omega arith))));
+      let h = All-contains (λ t. IsLeastOf trial (atoms_of list) t × (length t.pre < most + 1)) found t below.least k in (
+        h.0.shows,
+        record { refuted = (t, h.0.shows); least = h.0.least },
+        all_from (IsAskedAtom trial.predicates.now trial.question.now trial.post) t.pre (λ q l. asked_choice q (All-contains (Contains (atoms_of list)) t.pre q h.0.set.among l)),
+        (let less = h.1 in omega arith),
+      )));
   inside = λ set asked small wanted refuted. (
-    let is = among_choices trial list are set asked refuted in
-    below.inside set is (few set is small (same_or_shorter atom_cmp atom_total (atoms_of list) set are.ascend is.ascends (λ q k. All-contains (Contains (atoms_of list)) set q is.among k))) wanted refuted);
+      let is = among_choices trial list are set asked refuted in
+      below.inside set is (few set is small (same_or_shorter atom_cmp atom_total (atoms_of list) set are.ascend is.ascends (λ q k. All-contains (Contains (atoms_of list)) set q is.among k))) wanted refuted);
   ordered = below.ordered;
 }
   where
@@ -139,22 +140,22 @@ answer_of trial post post_is asked_is found some are = record {
     new_found = filter new found
 
     facts : (t : Triple) → Contains found t → ShowsSet trial t.pre t × IsLeastRefuted trial.setting.now trial.predicates.now trial.question.command trial.post t.pre
-      × All (IsAskedAtom trial.predicates.now trial.question.now trial.post) t.pre × (length t.pre ≤ trial.width)
+        × All (IsAskedAtom trial.predicates.now trial.question.now trial.post) t.pre × (length t.pre ≤ trial.width)
     facts t k = All-contains (λ t. ShowsSet trial t.pre t × IsLeastRefuted trial.setting.now trial.predicates.now trial.question.command trial.post t.pre
-      × All (IsAskedAtom trial.predicates.now trial.question.now trial.post) t.pre × (length t.pre ≤ trial.width)) found t are.least k
+        × All (IsAskedAtom trial.predicates.now trial.question.now trial.post) t.pre × (length t.pre ≤ trial.width)) found t are.least k
 
     is_post : trial.post ≡ asked_post trial.predicates.now trial.question
     is_post = post_is ∙ asked_is
 
     put_least : (set : List Atom) → IsLeastRefuted trial.setting.now trial.predicates.now trial.question.command trial.post set
-      → IsLeastRefuted trial.setting.now trial.predicates.now trial.question.command (asked_post trial.predicates.now trial.question) set
+        → IsLeastRefuted trial.setting.now trial.predicates.now trial.question.command (asked_post trial.predicates.now trial.question) set
     put_least set h = subst (λ (q : Atom). IsLeastRefuted trial.setting.now trial.predicates.now trial.question.command q set) is_post h
 
     blocked : (set : List Atom) → Asks trial.predicates.now trial.question trial.width set
-      → IsRefutedSet trial.setting.now trial.predicates.now trial.question.command (asked_post trial.predicates.now trial.question) set → IsBlocked found set
+        → IsRefutedSet trial.setting.now trial.predicates.now trial.question.command (asked_post trial.predicates.now trial.question) set → IsBlocked found set
     blocked set asks refuted = are.inside set (subst (λ (q : Atom). IsAskedAt trial.predicates.now trial.question.now q set) (sym is_post) asks.now) asks.small
-      (or_right (nat_lt (length set) trial.width) (is_new trial.question.old set) (new_if_asked trial.predicates.now trial.question trial.width set asks))
-      (subst (λ (q : Atom). IsRefutedSet trial.setting.now trial.predicates.now trial.question.command q set) (sym is_post) refuted)
+        (or_right (nat_lt (length set) trial.width) (is_new trial.question.old set) (new_if_asked trial.predicates.now trial.question trial.width set asks))
+        (subst (λ (q : Atom). IsRefutedSet trial.setting.now trial.predicates.now trial.question.command q set) (sym is_post) refuted)
 
     triple : (t : Triple) → Contains found t × (new t ≡ true) → IsAskedTriple trial.setting.now trial.predicates.now trial.question trial.width (OfTriple t)
     triple t k = (let h = facts t k.0 in (
@@ -164,10 +165,11 @@ answer_of trial post post_is asked_is found some are = record {
         small = h.3;
       },
       put_least t.pre h.1,
-      subst (λ (q : Atom). RefutesSet trial.setting.now trial.predicates.now trial.question.command q t.pre t) is_post h.0))
+      subst (λ (q : Atom). RefutesSet trial.setting.now trial.predicates.now trial.question.command q t.pre t) is_post h.0,
+    ))
 
     listed : (set : List Atom) → Asks trial.predicates.now trial.question trial.width set
-      → IsLeastRefuted trial.setting.now trial.predicates.now trial.question.command (asked_post trial.predicates.now trial.question) set → IsBlocked found set → Contains (map set_of (new_entries trial.question.old found)) set
+        → IsLeastRefuted trial.setting.now trial.predicates.now trial.question.command (asked_post trial.predicates.now trial.question) set → IsBlocked found set → Contains (map set_of (new_entries trial.question.old found)) set
     listed set asks least w =
         let same : w.0.pre ≡ set = elim (same_or_shorter atom_cmp atom_total set w.0.pre (sorted_from_ascend set asks.now.ascends) (sorted_from_ascend w.0.pre w.0.ascends) (λ q k. All-contains (Contains set) w.0.pre q w.2 k)) [
           | inl is ↦ is

@@ -209,7 +209,7 @@ both = record {
   asked = All-cons (AskedHere 0) (leads 1 0 1 (1 ∷ 1 ∷ [])) (leads 2 0 1 (1 ∷ 1 ∷ []) ∷ []) first_entry (All-cons (AskedHere 0) (leads 2 0 1 (1 ∷ 1 ∷ [])) [] (second_entry 0 (omega arith)) (All-nil (AskedHere 0)));
   every = λ set asks h. both_sets set (small_of 0 set asks) h;
   ordered = sorted_cons set_cmp (bare 1 ∷ []) ((bare 2 ∷ []) ∷ []) (All-cons (λ b. set_cmp (bare 1 ∷ []) b ≡ Less) (bare 2 ∷ []) [] refl (All-nil (λ b. set_cmp (bare 1 ∷ []) b ≡ Less)))
-    (sorted_cons set_cmp (bare 2 ∷ []) [] (All-nil (λ b. set_cmp (bare 2 ∷ []) b ≡ Less)) (sorted_nil set_cmp));
+      (sorted_cons set_cmp (bare 2 ∷ []) [] (All-nil (λ b. set_cmp (bare 2 ∷ []) b ≡ Less)) (sorted_nil set_cmp));
   inside = λ set asks h. inside_itself set (small_of 0 set asks) h;
 }
 

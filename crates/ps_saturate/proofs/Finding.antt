@@ -155,7 +155,7 @@ took trial atoms size done set left found t within up sorted is long free shows 
     let own_set : IsSetOf atoms t.pre = subst (λ (qs : List Atom). IsSetOf atoms qs) (sym pre_is) is in
     record {
       least = All-push (λ u. IsLeastOf trial atoms u × (length u.pre ≤ size)) found t up.least
-        (record { shows = own; set = own_set; least = λ part inside other refuted. free (subst (λ (qs : List Atom). IsBlocked found qs) pre_is (smaller part inside other refuted own_set (ap length pre_is ∙ long))) }, (let e : length t.pre ≡ size = ap length pre_is ∙ long in omega arith));
+          (record { shows = own; set = own_set; least = λ part inside other refuted. free (subst (λ (qs : List Atom). IsBlocked found qs) pre_is (smaller part inside other refuted own_set (ap length pre_is ∙ long))) }, (let e : length t.pre ≡ size = ap length pre_is ∙ long in omega arith));
       inside = λ other o_is when wanted refuted. elim when [
         | inl less ↦ blocked_later found t other (up.inside other o_is (inl less) wanted refuted)
         | inr among ↦ elim (Contains-push_cases done set other among) [
@@ -164,8 +164,8 @@ took trial atoms size done set left found t within up sorted is long free shows 
         ]
       ];
       ordered = subst (λ (sets : List (List Atom)). IsStrictlySortedBy set_cmp sets) (sym (map_push (λ (u : Triple). u.pre) found t))
-        (sorted_append set_cmp (map (λ (u : Triple). u.pre) found) (t.pre ∷ []) up.ordered (sorted_cons set_cmp t.pre [] (all_from (λ y. set_cmp t.pre y ≡ Less) [] (λ y k. absurd (nothing y k))) (sorted_nil set_cmp))
-        (λ a b h k. later_than a b (from_mapped (λ (u : Triple). u.pre) found a h) (cons_cases t.pre [] b k)));
+          (sorted_append set_cmp (map (λ (u : Triple). u.pre) found) (t.pre ∷ []) up.ordered (sorted_cons set_cmp t.pre [] (all_from (λ y. set_cmp t.pre y ≡ Less) [] (λ y k. absurd (nothing y k))) (sorted_nil set_cmp))
+          (λ a b h k. later_than a b (from_mapped (λ (u : Triple). u.pre) found a h) (cons_cases t.pre [] b k)));
       before = λ u other k l. elim (Contains-push_cases found t u k) [
         | inl earlier ↦ up.before u other earlier (there set left other l)
         | inr same ↦ subst (λ (v : Triple). set_cmp v.pre other ≡ Less) same (subst (λ (qs : List Atom). set_cmp qs other ≡ Less) (sym pre_is) (below_later set_cmp set left sorted other l))
@@ -222,7 +222,7 @@ one_size_more trial atoms size found new sorted within below h =
       before = λ t set k l. smaller_first t.pre set (let a = (All-contains (λ t. IsLeastOf trial atoms t × (length t.pre < size)) found t below.least k).1 in let b = (All-contains (λ set. IsSetOf atoms set × (length set ≡ size)) (choices atoms size) set are l).1 in omega arith);
     } in
     let end = tried_all trial atoms size (choices atoms size) [] found new within start
-      (sizes_sorted (choices atoms size) size (All-weaker (λ set. IsSetOf atoms set × (length set ≡ size)) (λ set. length set ≡ size) (λ set k. k.1) (choices atoms size) are) (choices_sorted atom_cmp atom_total atoms sorted size)) are h in
+    (sizes_sorted (choices atoms size) size (All-weaker (λ set. IsSetOf atoms set × (length set ≡ size)) (λ set. length set ≡ size) (λ set k. k.1) (choices atoms size) are) (choices_sorted atom_cmp atom_total atoms sorted size)) are h in
     record {
       least = All-weaker (λ t. IsLeastOf trial atoms t × (length t.pre ≤ size)) (λ t. IsLeastOf trial atoms t × (length t.pre < size + 1)) (λ t k. (k.0, (let less = k.1 in omega arith))) new end.least;
       inside = λ set is less wanted refuted. end.inside set is (placed set is less) wanted refuted;

@@ -95,7 +95,7 @@ answers_follow setting predicates question width answer entries is listed before
 
     -- a least set inside
     inside : (part : List Atom) → All (Contains set) part → IsLeastRefuted setting predicates question.command (asked_post predicates question) part → IsAskedAt predicates question.now (asked_post predicates question) part
-      → length part ≤ width → (b : Bool) → is_new question.old part ≡ b → GivesInside entries question.command (asked_post predicates question) set
+        → length part ≤ width → (b : Bool) → is_new question.old part ≡ b → GivesInside entries question.command (asked_post predicates question) set
     inside part within least part_asked few true e =
         let w = from_mapped set_of answer part (is.every part (asks part part_asked few e) least) in
         let there = listed w.0 w.1 in
@@ -153,7 +153,7 @@ agree_back one other count h = record { here_first = h.there_first; there_first 
 there_too : (setting : Setting) (one other : List Predicate) (count n : ℕ) → Agree one other count → n < count → IsThere setting one n → IsThere setting other n
 there_too setting one other count n agree less h = (
   (let within : count ≤ length other = agree.there_first in omega arith),
-  subst (λ (p : Predicate). IsInRange setting.globals setting.locals p) (agree.same n less) h.1
+  subst (λ (p : Predicate). IsInRange setting.globals setting.locals p) (agree.same n less) h.1,
 )
 
 atom_too : (setting : Setting) (one other : List Predicate) (count : ℕ) (q : Atom) → Agree one other count → q.predicate < count → IsAtomOf setting one q → IsAtomOf setting other q
@@ -177,9 +177,9 @@ holds_too setting one other count t agree pre post h = record {
   fits = (
     (
       subst (λ (r : Row). NegationFits r) (row_too one other count t.post agree post) h.fits.0.0,
-      subst (λ (r : Row). SubstitutionFits (form_in setting t.command).after (negated r).term) (row_too one other count t.post agree post) h.fits.0.1
+      subst (λ (r : Row). SubstitutionFits (form_in setting t.command).after (negated r).term) (row_too one other count t.post agree post) h.fits.0.1,
     ),
-    subst (λ (rs : List Row). AllSumsFit rs t.lambda) (rows_too setting one other count t agree pre post) h.fits.1
+    subst (λ (rs : List Row). AllSumsFit rs t.lambda) (rows_too setting one other count t agree pre post) h.fits.1,
   );
   refutes = subst (λ (rs : List Row). Refutes rs t.lambda) (rows_too setting one other count t agree pre post) h.refutes;
 }
@@ -189,23 +189,25 @@ refuted_too : (setting : Setting) (one other : List Predicate) (count command : 
 refuted_too setting one other count command post set agree within post_within h =
     let t = h.0 in
     let pre : (q : Atom) → Contains t.pre q → q.predicate < count = λ q k. within q (subst (λ (qs : List Atom). Contains qs q) h.1.before k) in
-    let after : t.post.predicate < count = subst (λ (q : Atom). q.predicate < count) (sym h.1.after) post_within in
-    (t, record {
-      before = h.1.before;
-      runs = h.1.runs;
-      after = h.1.after;
-      eliminated = subst (λ (rs : List Row). IsElimination rs (Refuted t.lambda)) (rows_too setting one other count t agree pre after) h.1.eliminated;
-      holds = holds_too setting one other count t agree pre after h.1.holds;
-    })
+    let after : t.post.predicate < count = subst (λ (q : Atom). q.predicate < count) (sym h.1.after) post_within in (
+      t,
+      record {
+        before = h.1.before;
+        runs = h.1.runs;
+        after = h.1.after;
+        eliminated = subst (λ (rs : List Row). IsElimination rs (Refuted t.lambda)) (rows_too setting one other count t agree pre after) h.1.eliminated;
+        holds = holds_too setting one other count t agree pre after h.1.holds;
+      },
+    )
 
 asked_too : (one other : List Predicate) (count known : ℕ) (post : Atom) (set : List Atom) → Agree one other count → known ≤ count → IsAskedAt one known post set → IsAskedAt other known post set
 asked_too one other count known post set agree few h = record {
   some = h.some;
   ascends = h.ascends;
   atoms = all_from (IsAskedAtom other known post) set (λ q k. (
-    let a = All-contains (IsAskedAtom one known post) set q h.atoms k in
-    let less : q.predicate < known = a.known_is in
-    record { known_is = a.known_is; not_false = a.not_false; slots = a.slots ∙ ap (λ (p : Predicate). p.arity) (agree.same q.predicate (omega arith)); once = a.once; tied = a.tied }));
+      let a = All-contains (IsAskedAtom one known post) set q h.atoms k in
+      let less : q.predicate < known = a.known_is in
+      record { known_is = a.known_is; not_false = a.not_false; slots = a.slots ∙ ap (λ (p : Predicate). p.arity) (agree.same q.predicate (omega arith)); once = a.once; tied = a.tied }));
 }
 
 post_too : (one other : List Predicate) (count post : ℕ) (pattern : Pattern) → Agree one other count → post < count → post_of one post pattern ≡ post_of other post pattern
@@ -233,7 +235,7 @@ pub predicates_later : (setting : Setting) (predicates more : List Predicate) (e
     → IsAnswered setting predicates known entries width post command pattern ↔ IsAnswered setting (predicates ++ more) known entries width post command pattern
 predicates_later setting predicates more entries known width post command pattern few within = (
   answered_too setting predicates (predicates ++ more) (length predicates) known entries width post command pattern (appended predicates more) few within,
-  answered_too setting (predicates ++ more) predicates (length predicates) known entries width post command pattern (agree_back predicates (predicates ++ more) (length predicates) (appended predicates more)) few within
+  answered_too setting (predicates ++ more) predicates (length predicates) known entries width post command pattern (agree_back predicates (predicates ++ more) (length predicates) (appended predicates more)) few within,
 )
 
 cut : (predicates : List Predicate) (known : ℕ) → known ≤ length predicates → Agree predicates (take known predicates) known
@@ -253,7 +255,7 @@ saturated_by_all setting predicates entries known width few named stays h =
       named = subst (λ (n : ℕ). All (NamesFirst n) entries) (sym e) named;
       false_stays = stays;
       answered = λ post command pattern subject. subst (λ (n : ℕ). IsAnswered setting (take known predicates) n entries width post command pattern) (sym e)
-        (answered_too setting predicates (take known predicates) known known entries width post command pattern (cut predicates known few) (omega arith) (let within : post < length (take known predicates) = subject.post_is in omega (arith, within, e)) (h post command pattern subject));
+          (answered_too setting predicates (take known predicates) known known entries width post command pattern (cut predicates known few) (omega arith) (let within : post < length (take known predicates) = subject.post_is in omega (arith, within, e)) (h post command pattern subject));
     }
 
 -- ---- one answer
@@ -266,7 +268,7 @@ same_entry : (setting : Setting) (predicates : List Predicate) (question : Quest
 same_entry setting predicates question width (OfTriple t) (OfTriple u) a b e =
     let post : Atom = asked_post predicates question in
     let rows : triple_rows setting predicates t ≡ triple_rows setting predicates u =
-        triple_rows_are setting predicates t u.pre question.command post e a.2.runs a.2.after ∙ sym (triple_rows_are setting predicates u u.pre question.command post refl b.2.runs b.2.after) in
+    triple_rows_are setting predicates t u.pre question.command post e a.2.runs a.2.after ∙ sym (triple_rows_are setting predicates u u.pre question.command post refl b.2.runs b.2.after) in
     same_but_multipliers (OfTriple t) (OfTriple u) (e, a.2.runs ∙ sym b.2.runs, a.2.after ∙ sym b.2.after)
     (refuted_once (triple_rows setting predicates u) t.lambda u.lambda (subst (λ (rs : List Row). IsElimination rs (Refuted t.lambda)) rows a.2.eliminated) b.2.eliminated)
 same_entry setting predicates question width (OfTriple t) (OfInitial j) a b e = absurd b

@@ -83,20 +83,20 @@ shown trial cs rows t ready choices rows_is pre command post eliminated refutes 
     names = (
       subst (λ (n : ℕ). n < length trial.setting.now.commands) (sym command) ready.command,
       subst (λ (qs : List Atom). All (IsAtomOf trial.setting.now trial.predicates.now) qs) (sym pre) (All-map (IsAtomOf trial.setting.now trial.predicates.now) (λ (c : Choice). c.atom) cs (All-weaker (IsChoiceOf trial) (λ c. IsAtomOf trial.setting.now trial.predicates.now c.atom) (λ c h. h.named) cs choices)),
-      subst (λ (q : Atom). IsAtomOf trial.setting.now trial.predicates.now q) (sym post) ready.named
+      subst (λ (q : Atom). IsAtomOf trial.setting.now trial.predicates.now q) (sym post) ready.named,
     );
     distinct = (
       subst (λ (qs : List Atom). All HasThreadsOnce qs) (sym pre) (All-map HasThreadsOnce (λ (c : Choice). c.atom) cs (All-weaker (IsChoiceOf trial) (λ c. HasThreadsOnce c.atom) (λ c h. h.once) cs choices)),
-      subst (λ (q : Atom). HasThreadsOnce q) (sym post) ready.once
+      subst (λ (q : Atom). HasThreadsOnce q) (sym post) ready.once,
     );
     tied = subst (λ (q : Atom). All (IsTiedTo q.threads) t.pre) (sym post) (subst (λ (qs : List Atom). All (IsTiedTo trial.post.threads) qs) (sym pre) (All-map (IsTiedTo trial.post.threads) (λ (c : Choice). c.atom) cs (All-weaker (IsChoiceOf trial) (λ c. IsTiedTo trial.post.threads c.atom) (λ c h. h.tied) cs choices)));
     fits = (
       (
         subst (λ (q : Atom). NegationFits (atom_row trial.predicates.now q)) (sym post) ready.negation,
         subst (λ (q : Atom). SubstitutionFits (form_in trial.setting.now t.command).after (negated (atom_row trial.predicates.now q)).term) (sym post)
-        (subst (λ (n : ℕ). SubstitutionFits (form_in trial.setting.now n).after (negated (atom_row trial.predicates.now trial.post)).term) (sym command) ready.substitution)
+            (subst (λ (n : ℕ). SubstitutionFits (form_in trial.setting.now n).after (negated (atom_row trial.predicates.now trial.post)).term) (sym command) ready.substitution),
       ),
-      subst (λ (rs : List Row). AllSumsFit rs t.lambda) same fits
+      subst (λ (rs : List Row). AllSumsFit rs t.lambda) same fits,
     );
     refutes = subst (λ (rs : List Row). Refutes rs t.lambda) same refutes;
   };
@@ -111,7 +111,7 @@ pub not_shown : (trial : Trial) (cs : List Choice) (rows : List Row) → IsReady
 not_shown trial cs rows ready choices rows_is none h =
     let t = h.0 in
     let same : rows ≡ triple_rows trial.setting.now trial.predicates.now t =
-        trial_rows trial cs rows ready choices rows_is ∙ sym (triple_rows_are trial.setting.now trial.predicates.now t (atoms_of cs) trial.question.command trial.post h.1.before h.1.runs h.1.after) in
+    trial_rows trial cs rows ready choices rows_is ∙ sym (triple_rows_are trial.setting.now trial.predicates.now t (atoms_of cs) trial.question.command trial.post h.1.before h.1.runs h.1.after) in
     none t.lambda (subst (λ (rs : List Row). IsElimination rs (Refuted t.lambda)) (sym same) h.1.eliminated) (subst (λ (rs : List Row). AllSumsFit rs t.lambda) (sym same) h.1.holds.fits.1)
 
 -- ---- questions of which no set is refuted
@@ -131,5 +131,5 @@ post_does_not_fit setting predicates question width past set asks h =
     past (
       subst (λ (q : Atom). NegationFits (atom_row predicates q)) h.1.after fits.0,
       subst (λ (n : ℕ). SubstitutionFits (form_in setting n).after (negated (atom_row predicates (asked_post predicates question))).term) h.1.runs
-      (subst (λ (q : Atom). SubstitutionFits (form_in setting h.0.command).after (negated (atom_row predicates q)).term) h.1.after fits.1)
+          (subst (λ (q : Atom). SubstitutionFits (form_in setting h.0.command).after (negated (atom_row predicates q)).term) h.1.after fits.1),
     )

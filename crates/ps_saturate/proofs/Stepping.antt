@@ -113,8 +113,8 @@ walk_on trial set rest longer i c more found so_far next some within is longer_i
     let e : more ≡ suc (more - 1) = omega arith in
     subst (λ (n : ℕ). Walks trial (atoms_of set) (atoms_of rest) (atoms_of (drop (i + 1) rest)) n found next) (sym e)
     (walks_step trial (atoms_of set) (atoms_of rest) c.atom (atoms_of (drop (i + 1) rest)) (more - 1) found so_far next
-      (subst (λ (qs : List Atom). Walks trial (atoms_of set) (atoms_of rest) qs (suc (more - 1)) found so_far) (atoms_left rest i c within is) (subst (λ (n : ℕ). Walks trial (atoms_of set) (atoms_of rest) (atoms_of (drop i rest)) n found so_far) e walks))
-      (subst (λ (qs : List Atom). AreTried trial (after_all qs (choices (atoms_of (drop (i + 1) rest)) (more - 1))) so_far next) (longer_atoms_are set c longer longer_is) h))
+    (subst (λ (qs : List Atom). Walks trial (atoms_of set) (atoms_of rest) qs (suc (more - 1)) found so_far) (atoms_left rest i c within is) (subst (λ (n : ℕ). Walks trial (atoms_of set) (atoms_of rest) (atoms_of (drop i rest)) n found so_far) e walks))
+    (subst (λ (qs : List Atom). AreTried trial (after_all qs (choices (atoms_of (drop (i + 1) rest)) (more - 1))) so_far next) (longer_atoms_are set c longer longer_is) h))
 
 pub walked : (trial : Trial) (set rest : List Choice) (i more : ℕ) (found so_far : List Triple) → (1 ≤ more) → length rest ≤ i → Walks trial (atoms_of set) (atoms_of rest) (atoms_of (drop i rest)) more found so_far
     → AreTried trial (after_all (atoms_of set) (choices (atoms_of rest) more)) found so_far
@@ -122,7 +122,7 @@ walked trial set rest i more found so_far some end walks =
     let e : more ≡ suc (more - 1) = omega arith in
     subst (λ (n : ℕ). AreTried trial (after_all (atoms_of set) (choices (atoms_of rest) n)) found so_far) (sym e)
     (walks_end trial (atoms_of set) (atoms_of rest) (more - 1) found so_far
-      (subst (λ (cs : List Choice). Walks trial (atoms_of set) (atoms_of rest) (atoms_of cs) (suc (more - 1)) found so_far) (drop_all i rest end) (subst (λ (n : ℕ). Walks trial (atoms_of set) (atoms_of rest) (atoms_of (drop i rest)) n found so_far) e walks)))
+    (subst (λ (cs : List Choice). Walks trial (atoms_of set) (atoms_of rest) (atoms_of cs) (suc (more - 1)) found so_far) (drop_all i rest end) (subst (λ (n : ℕ). Walks trial (atoms_of set) (atoms_of rest) (atoms_of (drop i rest)) n found so_far) e walks)))
 
 -- ---- sizes
 
@@ -155,7 +155,7 @@ post_ready setting predicates question p threads subject is range threads_are =
     let fit = post_threads_fit question.pattern (predicate_of predicates question.post).arity subject.fits subject.slots in (
       ((subject.post_is, subst (λ (r : Predicate). IsInRange setting.globals setting.locals r) same range), ap length slots ∙ fit.0),
       subst (λ (ts : List ℕ). AllPairs (λ (s t : ℕ). Rattle.std.proofs.Common.◌≢◌ s t) ts) (sym slots) fit.1,
-      ap (λ (ts : List ℕ). let q : Atom = record { predicate = question.post; threads = ts } in q) slots
+      ap (λ (ts : List ℕ). let q : Atom = record { predicate = question.post; threads = ts } in q) slots,
     )
 
 pub trial_threads : (trial : Trial) (p : Predicate) (count : ℕ) → IsReady trial → IsSubject trial.setting.now trial.predicates.now trial.question.post trial.question.command trial.question.pattern

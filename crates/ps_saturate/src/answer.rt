@@ -26,19 +26,19 @@ impl Model for Answer {
     ghost Value = { Answered };
 
     ghost view = { λ a. record {
-        setting = a.setting.value;
-        predicates = a.predicates.value;
-        question = a.question;
-        width = a.width.value;
-        entries = a.entries.items;
+      setting = a.setting.value;
+      predicates = a.predicates.value;
+      question = a.question;
+      width = a.width.value;
+      entries = a.entries.items;
     } };
 
     ghost invariant = { λ a. IsAnswer (record {
-        setting = a.setting.value;
-        predicates = a.predicates.value;
-        question = a.question;
-        width = a.width.value;
-        entries = a.entries.items;
+      setting = a.setting.value;
+      predicates = a.predicates.value;
+      question = a.question;
+      width = a.width.value;
+      entries = a.entries.items;
     }) };
 }
 
@@ -53,11 +53,11 @@ impl Answer {
     ) -> Answer
         requires { IsAnswerTo setting.now predicates.now question width entries.items }
         ensures { result ≡ record {
-            setting = setting.now;
-            predicates = predicates.now;
-            question = question;
-            width = width;
-            entries = entries.items;
+          setting = setting.now;
+          predicates = predicates.now;
+          question = question;
+          width = width;
+          entries = entries.items;
         } }
     {
         Answer {

@@ -22,11 +22,7 @@ pub(crate) fn arrangements(
 }
 
 // Each of the threads before each of the lists that lack it.
-fn led_by_each(
-    alloc: Global,
-    threads: u32,
-    lists: &[Vec<u32>],
-) -> Result<Vec<Vec<u32>>, AllocError>
+fn led_by_each(alloc: Global, threads: u32, lists: &[Vec<u32>]) -> Result<Vec<Vec<u32>>, AllocError>
     ensures { IfOk result (λ longer. map (λ list. list.items) longer.items
         ≡ led_by_each 0 threads (map (λ list. list.items) lists.now)) }
 {

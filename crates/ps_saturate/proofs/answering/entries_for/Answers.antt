@@ -10,9 +10,9 @@ returns-in_ok-found-in-Some c =
     if_ok c.new_entries.result _ _
     (λ entries e. subst (λ es. IsAnswerTo c.args.setting.now c.args.predicates.now c.args.question c.args.width es) (sym e)
     (answer_from c.args.setting.now c.args.predicates.now c.args.question c.args.width c.in-Some.trial c.in_ok-found-in-Some.found.items
-      (subst (λ o. IfSome o IsReady) c.in-Some.is c.in_ok-trial.ensures.ready)
-      (subst (λ o. IfSome o (IsTrialOf c.args.setting.now c.args.predicates.now c.args.question c.args.width)) c.in-Some.is c.in_ok-trial.ensures.trial)
-      c.in_ok-found-in-Some.ensures))
+    (subst (λ o. IfSome o IsReady) c.in-Some.is c.in_ok-trial.ensures.ready)
+    (subst (λ o. IfSome o (IsTrialOf c.args.setting.now c.args.predicates.now c.args.question c.args.width)) c.in-Some.is c.in_ok-trial.ensures.trial)
+    c.in_ok-found-in-Some.ensures))
     c.new_entries.ensures
 
 pub returns-in-None : goal.returns-in-None

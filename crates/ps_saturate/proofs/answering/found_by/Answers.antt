@@ -19,14 +19,14 @@ loop-size-init c = first_size c.args.trial.now (atoms_of c.as_slice-members.resu
 pub loop-size-preserved : goal.loop-size-preserved
 loop-size-preserved c =
     let are : AreChoices c.args.trial.now.setting.now c.args.trial.now.predicates.now c.args.trial.now.question.now c.args.trial.now.post c.as_slice-members.result.now =
-        subst (λ (cs : List Choice). AreChoices c.args.trial.now.setting.now c.args.trial.now.predicates.now c.args.trial.now.question.now c.args.trial.now.post cs) (sym c.as_slice-members.ensures.value) c.in_ok-list.ensures in
+    subst (λ (cs : List Choice). AreChoices c.args.trial.now.setting.now c.args.trial.now.predicates.now c.args.trial.now.question.now c.args.trial.now.post cs) (sym c.as_slice-members.ensures.value) c.in_ok-list.ensures in
     next_size c.args.trial.now c.as_slice-members.result.now c.as_slice-members.result.now c.as_slice.result.now c.loop-size.size c.min-most.result c.loop-size.found.items c.in_ok-found.found.items
     are.ascend (c.as_slice.ensures.value ∙ c.new-none.ensures.items) refl c.loop-size-test.true c.min-most.ensures c.loop-size.invariant c.in_ok-found.ensures
 
 pub returns : goal.returns
 returns c =
     let are : AreChoices c.args.trial.now.setting.now c.args.trial.now.predicates.now c.args.trial.now.question.now c.args.trial.now.post c.as_slice-members.result.now =
-        subst (λ (cs : List Choice). AreChoices c.args.trial.now.setting.now c.args.trial.now.predicates.now c.args.trial.now.question.now c.args.trial.now.post cs) (sym c.as_slice-members.ensures.value) c.in_ok-list.ensures in
+    subst (λ (cs : List Choice). AreChoices c.args.trial.now.setting.now c.args.trial.now.predicates.now c.args.trial.now.question.now c.args.trial.now.post cs) (sym c.as_slice-members.ensures.value) c.in_ok-list.ensures in
     let e : c.loop-size.size ≡ c.min-most.result + 1 = omega arith in
     found_all c.args.trial.now c.as_slice-members.result.now c.min-most.result c.loop-size.found.items are c.min-most.ensures
     (subst (λ (n : ℕ). IsBelow c.args.trial.now (atoms_of c.as_slice-members.result.now) n c.loop-size.found.items) e c.loop-size.invariant)

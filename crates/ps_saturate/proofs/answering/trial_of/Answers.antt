@@ -15,7 +15,7 @@ common_rows-requires-clause-once c =
 pub returns-in-Ok-clause-ready : goal.returns-in-Ok-clause-ready
 returns-in-Ok-clause-ready c =
     let post = post_ready c.args.setting.now c.args.predicates.now c.args.question c.index-predicates-question.result c.from_list.result c.requires.subject c.index-predicates-question.is (c.if-not-is_in_range.ensures.0 refl)
-      (Rattle.std.proofs.Common.◌∙◌ c.from_list.ensures c.in_ok-post_threads.ensures) in
+    (Rattle.std.proofs.Common.◌∙◌ c.from_list.ensures c.in_ok-post_threads.ensures) in
     record {
       command = c.requires.subject.command_is;
       post_is = post.2;

@@ -19,7 +19,7 @@ push_choice-requires-clause-arranged c =
 pub loop-of_atom-preserved : goal.loop-of_atom-preserved
 loop-of_atom-preserved c = record {
   atoms = push_step (λ v. atom_with c.args.number v.items) c.deref-of_atom-items.result.now c.loop-of_atom.of_atom-index c.of_atom-item.result (atoms_of c.loop-of_atom.list.items) (atoms_of c.push_choice.new.list.items) _ c.loop-of_atom-test.true c.of_atom-item.is
-    (c.in_ok-push_choice.ensures.atoms ∙ ap (λ (ts : List ℕ). atoms_of c.loop-of_atom.list.items ++ atom_with c.args.number ts ∷ []) c.as_slice.ensures.value) c.loop-of_atom.invariant.atoms;
+      (c.in_ok-push_choice.ensures.atoms ∙ ap (λ (ts : List ℕ). atoms_of c.loop-of_atom.list.items ++ atom_with c.args.number ts ∷ []) c.as_slice.ensures.value) c.loop-of_atom.invariant.atoms;
   made = λ h. c.in_ok-push_choice.ensures.made (c.loop-of_atom.invariant.made h);
 }
 

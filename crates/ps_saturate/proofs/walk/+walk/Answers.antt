@@ -29,15 +29,22 @@ returns-then-more-eq0 t c =
     if_ok c.with_set.result _ _ (λ new h. tried_alone c.args.trial.now (atoms_of (pointed_to c.args.set.now)) (atoms_of c.args.rest.now) c.args.found.items new.items c.args.more c.if-more-eq0.true h) c.with_set.ensures
 
 pub walk-requires : goal.walk-requires
-walk-requires t c = (omega arith, (c.requires.ready, (
-  subst (λ cs. All (IsChoiceOf c.args.trial.now) (pointed_to cs)) (sym c.as_slice-in-loop-at.ensures.value)
-    (all_longer (IsChoiceOf c.args.trial.now) (pointed_to c.args.set.now) c.args.rest.now c.loop-at.at c.index-rest-at.result (pointed_to c.in_ok-longer.longer.items) c.loop-at-test.true c.index-rest-at.is c.in_ok-longer.ensures c.requires.choices c.requires.rest),
+walk-requires t c = (
+  omega arith,
   (
-    subst (λ cs. All (IsChoiceOf c.args.trial.now) cs) (sym (rest_is c.args.rest.now c.loop-at.at)) (All-drop (IsChoiceOf c.args.trial.now) (Rattle.std.proofs.Common.◌+◌ c.loop-at.at 1) c.args.rest.now c.requires.rest),
-    subst (λ cs. IsStrictlySortedBy atom_cmp (atoms_of (pointed_to c.as_slice-in-loop-at.result.now) ++ atoms_of cs)) (sym (rest_is c.args.rest.now c.loop-at.at))
-    (subst (λ rs. IsStrictlySortedBy atom_cmp (atoms_of (pointed_to rs) ++ atoms_of (Rattle.std.proofs.Common.drop (Rattle.std.proofs.Common.◌+◌ c.loop-at.at 1) c.args.rest.now))) (sym c.as_slice-in-loop-at.ensures.value)
-    (longer_ascends (pointed_to c.args.set.now) c.args.rest.now c.loop-at.at c.index-rest-at.result (pointed_to c.in_ok-longer.longer.items) c.loop-at-test.true c.index-rest-at.is c.in_ok-longer.ensures c.requires.ascends))
-  ))))
+    c.requires.ready,
+    (
+      subst (λ cs. All (IsChoiceOf c.args.trial.now) (pointed_to cs)) (sym c.as_slice-in-loop-at.ensures.value)
+          (all_longer (IsChoiceOf c.args.trial.now) (pointed_to c.args.set.now) c.args.rest.now c.loop-at.at c.index-rest-at.result (pointed_to c.in_ok-longer.longer.items) c.loop-at-test.true c.index-rest-at.is c.in_ok-longer.ensures c.requires.choices c.requires.rest),
+      (
+        subst (λ cs. All (IsChoiceOf c.args.trial.now) cs) (sym (rest_is c.args.rest.now c.loop-at.at)) (All-drop (IsChoiceOf c.args.trial.now) (Rattle.std.proofs.Common.◌+◌ c.loop-at.at 1) c.args.rest.now c.requires.rest),
+        subst (λ cs. IsStrictlySortedBy atom_cmp (atoms_of (pointed_to c.as_slice-in-loop-at.result.now) ++ atoms_of cs)) (sym (rest_is c.args.rest.now c.loop-at.at))
+            (subst (λ rs. IsStrictlySortedBy atom_cmp (atoms_of (pointed_to rs) ++ atoms_of (Rattle.std.proofs.Common.drop (Rattle.std.proofs.Common.◌+◌ c.loop-at.at 1) c.args.rest.now))) (sym c.as_slice-in-loop-at.ensures.value)
+            (longer_ascends (pointed_to c.args.set.now) c.args.rest.now c.loop-at.at c.index-rest-at.result (pointed_to c.in_ok-longer.longer.items) c.loop-at-test.true c.index-rest-at.is c.in_ok-longer.ensures c.requires.ascends)),
+      ),
+    ),
+  ),
+)
 
 pub loop-at-preserved : goal.loop-at-preserved
 loop-at-preserved t c =

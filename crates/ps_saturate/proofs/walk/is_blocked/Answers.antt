@@ -7,8 +7,11 @@ use Rattle.ps_saturate.proofs.walk.is_blocked.Goals as goal
 
 pub returns-then-is_inside : goal.returns-then-is_inside
 returns-then-is_inside c = (
-  λ _. (c.triple-item.result, member c.args.found.now c.loop-triple.triple-index c.triple-item.result c.loop-triple-test.true c.triple-item.is,
-    subst (λ qs. All (Contains (atoms_of (pointed_to c.args.set.now))) qs) c.as_slice.ensures (c.if-is_inside.ensures.0 refl)),
+  λ _. (
+    c.triple-item.result,
+    member c.args.found.now c.loop-triple.triple-index c.triple-item.result c.loop-triple-test.true c.triple-item.is,
+    subst (λ qs. All (Contains (atoms_of (pointed_to c.args.set.now))) qs) c.as_slice.ensures (c.if-is_inside.ensures.0 refl),
+  ),
   λ _. refl,
 )
 
@@ -21,5 +24,5 @@ pub returns : goal.returns
 returns c = (
   λ h. absurd (false≢true h),
   λ h. absurd (All-contains (λ t. ¬ All (Contains (atoms_of (pointed_to c.args.set.now))) t.pre) c.args.found.now h.0
-    (all_taken (λ t. ¬ All (Contains (atoms_of (pointed_to c.args.set.now))) t.pre) c.args.found.now c.loop-triple.triple-index c.loop-triple-test.false c.loop-triple.invariant) h.1 h.2),
+      (all_taken (λ t. ¬ All (Contains (atoms_of (pointed_to c.args.set.now))) t.pre) c.args.found.now c.loop-triple.triple-index c.loop-triple-test.false c.loop-triple.invariant) h.1 h.2),
 )
