@@ -1,10 +1,10 @@
 -- From what was found to the answer.
-use Rattle.std.proofs.Common.{◌≡◌, ◌≢◌, ◌<◌, ◌≤◌, ◌+◌, ◌==◌, ℕ, Bool, true, false, not, ◌||◌, List, [], ◌∷◌, map, length, min, refl, sym, ap, ◌∙◌, subst, inl, inr, ◌⊎◌, Contains, All, IsTrue, arith, nat_lt, eqb-true}
+use Rattle.std.proofs.Common.{◌≡◌, ◌<◌, ◌≤◌, ◌+◌, ◌==◌, ℕ, Bool, true, false, not, List, [], ◌∷◌, map, length, min, refl, sym, ap, ◌∙◌, subst, inl, inr, ◌⊎◌, Contains, All, arith, nat_lt, eqb-true}
 use Rattle.std.specs.List.{filter, list_any}
 use Rattle.std.specs.List.Sorted.{IsStrictlySortedBy}
-use Rattle.std.proofs.lemmas.Bool.{both_ways, false≢true, or_cases, or_left, or_right, true≢false}
+use Rattle.std.proofs.lemmas.Bool.{both_ways, false≢true, or_cases, or_left, or_right}
 use Rattle.std.proofs.lemmas.Bool.Decides.{nat_tests}
-use Rattle.std.proofs.lemmas.List.Elements.{All-contains, All-map, All-weaker}
+use Rattle.std.proofs.lemmas.List.Elements.{All-contains, All-map}
 use Rattle.std.proofs.lemmas.List.{length-map}
 use Rattle.ps_atom.specs.Atoms.{atom_cmp}
 use Rattle.ps_atom.specs.declared.atom.Atom.{Atom}
@@ -17,13 +17,11 @@ use Rattle.ps_saturate.proofs.Finding.{IsBelow, IsLeastOf, IsSetOf, atom_total, 
 use Rattle.ps_saturate.specs.Answered.{IsAnswerTo, IsAskedTriple, set_cmp, set_of}
 use Rattle.ps_saturate.specs.Asked.{Asks, IsAskedAt, IsAskedAtom, asked_post}
 use Rattle.ps_saturate.specs.Refuted.{IsLeastRefuted, IsRefutedSet, RefutesSet}
-use Rattle.ps_saturate.specs.inner.Trials.{AreChoices, AreFound, GivesNothing, IsBlocked, IsReady, IsRefutedIn, IsTrialOf, IsUsable, ShowsSet, atoms_of, is_new, is_wanted, new_entries}
+use Rattle.ps_saturate.specs.inner.Trials.{AreChoices, AreFound, GivesNothing, IsBlocked, IsReady, IsRefutedIn, IsTrialOf, IsUsable, ShowsSet, atoms_of, is_new, new_entries}
 use Rattle.ps_saturate.specs.declared.choice.Choice.{Choice}
 use Rattle.ps_saturate.specs.declared.question.Question.{Question}
 use Rattle.ps_saturate.specs.declared.trial.Trial.{Trial}
-use Rattle.ps_triple.specs.Ascending.{ascend}
 use Rattle.ps_triple.specs.Tests.{IsThere}
-use Rattle.ps_triple.specs.declared.entry.Entry.{Entry}
 use Rattle.ps_triple.specs.declared.entry.Entry.TheVariants.{Triple as OfTriple}
 use Rattle.ps_triple.specs.declared.triple.Triple.{Triple}
 

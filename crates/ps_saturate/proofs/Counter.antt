@@ -16,7 +16,7 @@ use Rattle.ps_list.proofs.Members.{nothing, cons_cases, here, there}
 use Rattle.ps_saturate.proofs.Ascents.{all_from, same_or_shorter, sorted_cons, sorted_nil}
 use Rattle.ps_saturate.proofs.Finding.{atom_total, sorted_from_ascend}
 use Rattle.ps_saturate.proofs.Showing.{triple_rows_are}
-use Rattle.ps_saturate.specs.Answered.{IsAskedTriple, set_cmp, set_of}
+use Rattle.ps_saturate.specs.Answered.{IsAskedTriple, set_cmp}
 use Rattle.ps_saturate.specs.Asked.{Asks, IsAskedAt, IsAskedAtom}
 use Rattle.ps_saturate.specs.Examples.{BothLeadToOne, NothingIsNew, NothingLeadsAlone, OneIsNew, adding}
 use Rattle.ps_saturate.specs.Refuted.{IsLeastRefuted, IsRefutedSet, RefutesSet}
@@ -26,7 +26,7 @@ use Rattle.ps_term.specs.declared.var.Var.TheVariants.{Global}
 use Rattle.ps_triple.proofs.Examples.{adds_holds, grows_holds, no_threads}
 use Rattle.ps_triple.specs.Ascending.{ascend}
 use Rattle.ps_triple.specs.Examples.{bare, counter_predicates, counter_setting, leads}
-use Rattle.ps_triple.specs.Rows.{predicate_of, triple_rows}
+use Rattle.ps_triple.specs.Rows.{predicate_of}
 use Rattle.ps_triple.specs.declared.entry.Entry.{Entry}
 use Rattle.ps_triple.specs.declared.triple.Triple.{Triple}
 

@@ -1,9 +1,6 @@
 -- What answers are worth: laws of answers and of saturated entries.
-use Rattle.std.proofs.Common.{◌≡◌, ◌≢◌, ◌<◌, ◌≤◌, ℕ, Bool, true, false, List, [], ◌∷◌, ◌++◌, map, length, take, get_or, refl, sym, ap, ap₂, ◌∙◌, subst, inl, inr, ◌⊎◌, ◌↔◌, Contains, All, IsTrue, arith}
+use Rattle.std.proofs.Common.{◌≡◌, ◌<◌, ◌≤◌, ℕ, Bool, true, false, List, [], ◌∷◌, ◌++◌, map, length, take, refl, sym, ap, ap₂, ◌∙◌, subst, inl, inr, ◌⊎◌, ◌↔◌, Contains, All, IsTrue, arith}
 use Rattle.std.specs.Cmp.{IsTotalOrder}
-use Rattle.std.specs.Cmp.Lexicographic.{slice_cmp}
-use Rattle.std.specs.List.Sorted.{IsStrictlySortedBy}
-use Rattle.std.specs.Ordering.{nat_cmp}
 use Rattle.std.proofs.lemmas.Cmp.{lists_total, nat_cmp_total, on_total, then_total}
 use Rattle.std.proofs.lemmas.List.{get_or_append_left, get_or-take, length-append, length-take-le}
 use Rattle.std.proofs.lemmas.List.Elements.{All-contains, All-head, All-tail, All-weaker}
@@ -16,8 +13,7 @@ use Rattle.ps_command.specs.declared.setting.Setting.{Setting}
 use Rattle.ps_elim.specs.Elimination.{IsElimination}
 use Rattle.ps_elim.specs.declared.answer.Elim.TheVariants.{Refuted}
 use Rattle.ps_farkas.specs.Refutes.{AllSumsFit, Refutes}
-use Rattle.ps_list.proofs.Mapped.{from_mapped, map_same, mapped, same_map}
-use Rattle.ps_list.proofs.Members.{nothing, cons_cases, here, there}
+use Rattle.ps_list.proofs.Mapped.{from_mapped, map_same, same_map}
 use Rattle.ps_saturate.proofs.Ascents.{all_from, same_or_shorter}
 use Rattle.ps_saturate.proofs.Asking.{asked_before, not_asked_before}
 use Rattle.ps_saturate.proofs.Finding.{atom_total, sorted_from_ascend}
@@ -26,7 +22,7 @@ use Rattle.ps_triple.proofs.Alike.{same_but_multipliers}
 use Rattle.ps_saturate.specs.Answered.{IsAnswerTo, IsAskedTriple, set_cmp, set_of}
 use Rattle.ps_saturate.specs.Asked.{Asks, IsAskedAt, IsAskedAtom, asked_post}
 use Rattle.ps_saturate.specs.Patterns.{IsSubject, post_of, post_threads}
-use Rattle.ps_saturate.specs.Refuted.{IsLeastRefuted, IsRefutedSet, RefutesSet}
+use Rattle.ps_saturate.specs.Refuted.{IsLeastRefuted, IsRefutedSet}
 use Rattle.ps_saturate.specs.Saturated.{AreThere, GivesInside, IsAnswered, IsSaturated, KeepsFalse, NamesFirst}
 use Rattle.ps_saturate.specs.inner.Trials.{is_new}
 use Rattle.ps_saturate.specs.declared.pattern.Pattern.{Pattern}
@@ -42,7 +38,6 @@ use Rattle.ps_triple.specs.Rows.{atom_row, form_in, negated, predicate_of, row_a
 use Rattle.ps_triple.specs.Tests.{IsAtomOf, IsThere}
 use Rattle.ps_triple.specs.declared.entry.Entry.{Entry}
 use Rattle.ps_triple.specs.declared.entry.Entry.TheVariants.{Triple as OfTriple, Initial as OfInitial}
-use Rattle.ps_triple.specs.declared.initial.Initial.{Initial}
 use Rattle.ps_triple.specs.declared.triple.Triple.{Triple}
 
 -- ---- before any predicate is known

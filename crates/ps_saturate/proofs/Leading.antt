@@ -1,5 +1,5 @@
 -- Steps of the making of lists of distinct threads.
-use Rattle.std.proofs.Common.{◌≡◌, ◌<◌, ◌≤◌, ◌+◌, ◌-◌, ℕ, zero, suc, Bool, true, false, List, [], ◌∷◌, ◌++◌, map, length, drop, get_or, refl, sym, ap, ◌∙◌, subst, append_assoc, cond, arith, add-one}
+use Rattle.std.proofs.Common.{◌≡◌, ◌<◌, ◌≤◌, ◌+◌, ◌-◌, ℕ, suc, Bool, true, false, List, [], ◌∷◌, ◌++◌, map, length, drop, get_or, sym, ap, ◌∙◌, append_assoc, cond, arith, add-one}
 use Rattle.std.specs.List.{filter}
 use Rattle.std.proofs.Math.Seq.{drop-cons}
 use Rattle.ps_saturate.proofs.Trying.{append_nothing}

@@ -1,5 +1,5 @@
 -- When a triple shows that a set is refuted, and when none does.
-use Rattle.std.proofs.Common.{◌≡◌, ◌<◌, ℕ, pos, List, [], ◌∷◌, ◌++◌, map, length, refl, sym, ap, ap₂, ◌∙◌, subst, Contains, All, IsTrue, arith, ◌≤ℤ◌}
+use Rattle.std.proofs.Common.{◌≡◌, ◌<◌, ℕ, pos, List, [], ◌∷◌, ◌++◌, map, length, refl, sym, ap, ap₂, ◌∙◌, subst, All, arith, ◌≤ℤ◌}
 use Rattle.std.proofs.lemmas.Int.{ints}
 use Rattle.std.proofs.lemmas.List.Elements.{All-contains, All-head, All-tail, All-map, All-weaker}
 use Rattle.ps_atom.specs.declared.atom.Atom.{Atom}
@@ -7,11 +7,10 @@ use Rattle.ps_atom.specs.declared.predicate.Predicate.{Predicate}
 use Rattle.ps_command.specs.declared.setting.Setting.{Setting}
 use Rattle.ps_elim.specs.Elimination.{HasNoRefutation, IsElimination, IsLeastRefutation, last_set}
 use Rattle.ps_elim.specs.Vectors.{constant_under}
-use Rattle.ps_elim.specs.declared.answer.Elim.{Elim}
 use Rattle.ps_elim.specs.declared.answer.Elim.TheVariants.{Refuted, Stages, Past128, TooWide}
 use Rattle.ps_elim.proofs.Determined.{elimination_once}
 use Rattle.ps_farkas.specs.Refutes.{AllSumsFit, Refutes}
-use Rattle.ps_saturate.specs.Asked.{Asks, asked_post}
+use Rattle.ps_saturate.specs.Asked.{asked_post}
 use Rattle.ps_saturate.specs.declared.choice.Choice.{Choice}
 use Rattle.ps_saturate.specs.declared.question.Question.{Question}
 use Rattle.ps_saturate.specs.declared.trial.Trial.{Trial}
@@ -19,7 +18,6 @@ use Rattle.ps_saturate.specs.inner.Trials.{GivesNothing, IsChoice, IsChoiceOf, I
 use Rattle.ps_term.specs.Negation.{NegationFits}
 use Rattle.ps_term.specs.Substitution.{SubstitutionFits}
 use Rattle.ps_term.specs.declared.row.Row.{Row}
-use Rattle.ps_triple.specs.Ascending.{ascend}
 use Rattle.ps_triple.specs.Rows.{atom_row, form_in, negated, row_after, triple_rows}
 use Rattle.ps_triple.specs.Tests.{HasThreadsOnce, IsAtomOf, IsThere, IsTiedTo}
 use Rattle.ps_triple.specs.declared.triple.Triple.{Triple}

@@ -4,7 +4,7 @@ use Rattle.std.specs.List.{list_any}
 use Rattle.std.specs.List.Sorted.{IsStrictlySortedBy}
 use Rattle.std.specs.declared.cmp.Ordering.{Ordering}
 use Rattle.std.proofs.lemmas.Bool.Decides.{nat_tests}
-use Rattle.std.proofs.lemmas.List.Elements.{All-contains, All-drop, All-map, All-more, All-push, at_read}
+use Rattle.std.proofs.lemmas.List.Elements.{All-contains, All-more, All-push, at_read}
 use Rattle.std.proofs.lemmas.List.{take_all, drop_all}
 use Rattle.ps_atom.specs.Atoms.{atom_cmp}
 use Rattle.ps_atom.specs.Numbers.{false_predicate}
@@ -13,7 +13,6 @@ use Rattle.ps_atom.specs.declared.atom.Atom.{Atom}
 use Rattle.ps_atom.specs.declared.predicate.Predicate.{Predicate}
 use Rattle.ps_command.specs.declared.setting.Setting.{Setting}
 use Rattle.ps_list.proofs.Mapped.{mapped}
-use Rattle.ps_list.proofs.Members.{nothing, cons_cases}
 use Rattle.ps_saturate.proofs.Anys.{any_map, left_at}
 use Rattle.ps_saturate.proofs.Arranged.{post_threads_are, post_threads_fit}
 use Rattle.ps_saturate.proofs.Ascents.{sorted_without}
@@ -26,7 +25,7 @@ use Rattle.ps_saturate.specs.declared.question.Question.{Question}
 use Rattle.ps_saturate.specs.declared.trial.Trial.{Trial}
 use Rattle.ps_saturate.specs.inner.Arranging.{AreThreadsOf, thread_count}
 use Rattle.ps_saturate.specs.inner.Choosing.{after_all, choices}
-use Rattle.ps_saturate.specs.inner.Trials.{AreChoices, AreTried, IsBlocked, IsChoice, IsReady, atoms_of, pointed_to}
+use Rattle.ps_saturate.specs.inner.Trials.{AreTried, IsReady, atoms_of, pointed_to}
 use Rattle.ps_triple.specs.Rows.{predicate_of}
 use Rattle.ps_triple.specs.Tests.{HasThreadsOnce, IsAtomOf}
 use Rattle.ps_triple.specs.declared.triple.Triple.{Triple}

@@ -1,12 +1,10 @@
 -- Lists of sets that are tried one after another.
-use Rattle.std.proofs.Common.{◌≡◌, ◌<◌, ◌+◌, ℕ, zero, suc, List, [], ◌∷◌, ◌++◌, map, length, drop, get_or, refl, sym, ap, ap₂, ◌∙◌, subst, append_assoc, Contains, All, arith, add-one}
+use Rattle.std.proofs.Common.{◌≡◌, ℕ, suc, List, [], ◌∷◌, ◌++◌, map, refl, sym, ap, ap₂, ◌∙◌, subst, append_assoc, Contains}
 use Rattle.std.proofs.lemmas.List.Elements.{All-weaker, Contains-append_left}
-use Rattle.std.proofs.Math.Seq.{drop-cons}
 use Rattle.ps_atom.specs.declared.atom.Atom.{Atom}
 use Rattle.ps_saturate.specs.inner.Choosing.{after_all, choices}
-use Rattle.ps_saturate.specs.inner.Trials.{AreTried, IsBlocked, IsTried, atoms_of}
+use Rattle.ps_saturate.specs.inner.Trials.{AreTried, IsBlocked, IsTried}
 use Rattle.ps_saturate.specs.inner.Trials.IsTried.{blocked as was_blocked}
-use Rattle.ps_saturate.specs.declared.choice.Choice.{Choice}
 use Rattle.ps_saturate.specs.declared.trial.Trial.{Trial}
 use Rattle.ps_triple.specs.declared.triple.Triple.{Triple}
 

@@ -1,5 +1,5 @@
 -- The answer to a question.
-use Rattle.std.specs.Prelude.{◌≡◌, ℕ, List, [], length, map, All, Contains}
+use Rattle.std.specs.Prelude.{ℕ, List, [], length, map, All, Contains}
 use Rattle.std.specs.Cmp.Lexicographic.{slice_cmp}
 use Rattle.std.specs.List.Sorted.{IsStrictlySortedBy}
 use Rattle.std.specs.Ordering.{nat_cmp, ordering_then}
@@ -13,8 +13,6 @@ use Rattle.ps_saturate.specs.Refuted.{IsLeastRefuted, IsRefutedSet, RefutesSet}
 use Rattle.ps_saturate.specs.declared.question.Question.{Question}
 use Rattle.ps_triple.specs.declared.entry.Entry.{Entry}
 use Rattle.ps_triple.specs.declared.entry.Entry.TheVariants.{Triple as OfTriple, Initial as OfInitial}
-use Rattle.ps_triple.specs.declared.initial.Initial.{Initial}
-use Rattle.ps_triple.specs.declared.triple.Triple.{Triple}
 
 -- the order of sets: by size, and those of one size by the first atom that differs
 abbrev pub set_cmp : List Atom → List Atom → Ordering

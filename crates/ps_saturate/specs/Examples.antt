@@ -1,5 +1,5 @@
 -- Worked examples. The counter: each thread adds 1 to the global x by command 0; predicate 1 is x >= 1, and predicate 2 is x >= 0.
-use Rattle.std.specs.Prelude.{◌≡◌, ℕ, List, [], ◌∷◌}
+use Rattle.std.specs.Prelude.{◌≡◌, ℕ, [], ◌∷◌}
 use Rattle.ps_saturate.specs.Answered.{IsAnswerTo}
 use Rattle.ps_saturate.specs.Patterns.{post_threads}
 use Rattle.ps_saturate.specs.declared.pattern.Pattern.TheVariants.{None, Mover, Other}

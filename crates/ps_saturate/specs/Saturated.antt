@@ -10,7 +10,6 @@ use Rattle.ps_saturate.specs.declared.pattern.Pattern.{Pattern}
 use Rattle.ps_triple.specs.Entries.{AreAlike, GivesAtom, false_atom}
 use Rattle.ps_triple.specs.declared.entry.Entry.{Entry}
 use Rattle.ps_triple.specs.declared.entry.Entry.TheVariants.{Triple as OfTriple, Initial as OfInitial}
-use Rattle.ps_triple.specs.declared.initial.Initial.{Initial}
 use Rattle.ps_triple.specs.declared.triple.Triple.{Triple}
 
 -- up to renaming, some listed triple leads by the command to the post from atoms of the set

@@ -1,4 +1,4 @@
-use Rattle.std.proofs.Common.{◌∙◌, All, subst, sym}
+use Rattle.std.proofs.Common.{All, subst, sym}
 use Rattle.std.proofs.lemmas.List.Elements.{All-push}
 use Rattle.ps_saturate.proofs.Stepping.{choice_ready}
 use Rattle.ps_saturate.specs.inner.Trials.{IsChoice}

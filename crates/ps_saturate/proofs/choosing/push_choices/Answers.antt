@@ -1,4 +1,4 @@
-use Rattle.std.proofs.Common.{◌∙◌, ◌≡◌, ◌++◌, ◌∷◌, [], ap, map, subst, sym, Contains, List, ℕ}
+use Rattle.std.proofs.Common.{◌∙◌, ◌++◌, ◌∷◌, [], ap, map, subst, sym, Contains, List, ℕ}
 use Rattle.std.proofs.lemmas.List.Elements.{All-contains}
 use Rattle.ps_atom.specs.declared.predicate.Predicate.{Predicate}
 use Rattle.ps_saturate.proofs.Stepping.{all_choices, lists_among, member, push_end, push_step, read_predicate}

@@ -1,4 +1,4 @@
-use Rattle.std.proofs.Common.{sym, subst}
+use Rattle.std.proofs.Common.{subst}
 use Rattle.ps_elim.specs.Elimination.{IsElimination}
 use Rattle.ps_farkas.specs.Refutes.{AllSumsFit}
 use Rattle.ps_saturate.proofs.Showing.{past_refutes_nothing, refuted_once, wide_refutes_nothing}

@@ -1,4 +1,4 @@
-use Rattle.std.proofs.Common.{◌≡◌, ◌++◌, ◌∙◌, IfNone, IfSome, ap, refl, subst, List, ℕ}
+use Rattle.std.proofs.Common.{◌++◌, ◌∙◌, IfNone, IfSome, ap, refl, subst, List, ℕ}
 use Rattle.ps_elim.specs.Elimination.{IsElimination}
 use Rattle.ps_elim.specs.declared.answer.Elim.TheVariants.{Refuted}
 use Rattle.ps_farkas.specs.Refutes.{AllSumsFit, Refutes}

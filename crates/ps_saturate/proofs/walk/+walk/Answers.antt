@@ -8,7 +8,7 @@ use Rattle.ps_saturate.proofs.Finding.{ascend_from_sorted}
 use Rattle.ps_saturate.proofs.Stepping.{all_longer, if_ok, longer_ascends, rest_is, walk_on, walked}
 use Rattle.ps_saturate.proofs.Trying.{tried_alone, tried_blocked}
 use Rattle.ps_saturate.specs.inner.Choosing.{choices}
-use Rattle.ps_saturate.specs.inner.Trials.{AreTried, IsBlocked, IsChoiceOf, IsTried, atoms_of, pointed_to}
+use Rattle.ps_saturate.specs.inner.Trials.{AreTried, IsBlocked, IsChoiceOf, atoms_of, pointed_to}
 use Rattle.ps_saturate.proofs.walk.+walk.Goals as goal
 
 pub returns-then-is_blocked : goal.returns-then-is_blocked

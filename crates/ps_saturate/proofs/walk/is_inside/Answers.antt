@@ -1,4 +1,4 @@
-use Rattle.std.proofs.Common.{All, Contains, refl, subst}
+use Rattle.std.proofs.Common.{Contains, refl}
 use Rattle.std.proofs.lemmas.Bool.{false≢true}
 use Rattle.std.proofs.lemmas.List.Elements.{All-contains}
 use Rattle.ps_saturate.proofs.Stepping.{all_more, all_taken, member}
