@@ -119,7 +119,7 @@ there_1 = ((let l : 1 < 3 = omega arith in l), ((let l : 0 ≤ 4 = omega arith i
 there_2 : IsThere counter_setting counter_predicates 2
 there_2 = ((let l : 2 < 3 = omega arith in l), ((let l : 0 ≤ 4 = omega arith in l), one_variable (negsuc 0)))
 
-no_threads : (n : ℕ) → HasThreadsOnce (bare n)
+pub no_threads : (n : ℕ) → HasThreadsOnce (bare n)
 no_threads n = pairs_from_chain (λ (s t : ℕ). s ≢ t) [] tt
 
 abbrev IsAtom : Atom → Type 0
@@ -179,10 +179,15 @@ stops_holds = counter_holds (leads 1 2 0 (1 ∷ 1 ∷ 0 ∷ [])) (leads_names 1 
     (leads_distinct 1 2 0 (1 ∷ 1 ∷ 0 ∷ [])) (leads_tied 1 2 0 (1 ∷ 1 ∷ 0 ∷ [])) (false_negation_fits, none)
     (on_x (negsuc 0) (pos 1), (on_x (pos 1) (pos 0), (no_x (pos 0), tt))) (refl, refl) refl refl (omega (arith, ints))
 
-adds_holds : EntryHolds counter_setting counter_predicates (leads 2 0 1 (1 ∷ 1 ∷ []))
+pub adds_holds : EntryHolds counter_setting counter_predicates (leads 2 0 1 (1 ∷ 1 ∷ []))
 adds_holds = counter_holds (leads 2 0 1 (1 ∷ 1 ∷ [])) (leads_names 2 0 1 (1 ∷ 1 ∷ []) there_2 (omega arith) there_1 refl refl)
     (leads_distinct 2 0 1 (1 ∷ 1 ∷ [])) (leads_tied 2 0 1 (1 ∷ 1 ∷ [])) (negation_fits (pos 1) refl refl, (x_alone, (one, one), one))
     (on_x (negsuc 0) (pos 0), (on_x (pos 1) (pos 1), tt)) (refl, refl) refl refl (omega (arith, ints))
+
+pub grows_holds : EntryHolds counter_setting counter_predicates (leads 1 0 1 (1 ∷ 1 ∷ []))
+grows_holds = counter_holds (leads 1 0 1 (1 ∷ 1 ∷ [])) (leads_names 1 0 1 (1 ∷ 1 ∷ []) there_1 (omega arith) there_1 refl refl)
+    (leads_distinct 1 0 1 (1 ∷ 1 ∷ [])) (leads_tied 1 0 1 (1 ∷ 1 ∷ [])) (negation_fits (pos 1) refl refl, (x_alone, (one, one), one))
+    (on_x (negsuc 0) (pos 1), (on_x (pos 1) (pos 1), tt)) (refl, refl) refl refl (omega (arith, ints))
 
 passes_holds : EntryHolds counter_setting counter_predicates (leads 1 1 1 (1 ∷ 0 ∷ 1 ∷ []))
 passes_holds = counter_holds (leads 1 1 1 (1 ∷ 0 ∷ 1 ∷ [])) (leads_names 1 1 1 (1 ∷ 0 ∷ 1 ∷ []) there_1 (omega arith) there_1 refl refl)

@@ -20,4 +20,5 @@ pub use check::check_entry;
 pub use entry::Entry;
 pub use entry_end::{EntryEnd, EntryFault};
 pub use initial::Initial;
+pub use rows::{atom_row, denied_row};
 pub use triple::Triple;

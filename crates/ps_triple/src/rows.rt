@@ -87,7 +87,7 @@ fn triple_rows<'a>(
         (negated (atom_row predicates.now triple.now.post)).term) }
 {
     let before = rows_before(alloc, setting, predicates, triple.pre.as_slice())?;
-    let last = last_row(alloc, setting, predicates, form, &triple.post)?;
+    let last = denied_row(alloc, setting, predicates, form, &triple.post)?;
     let mut after = Vec::new(alloc);
     push(&mut after, last)?;
     Ok(EntryRows {
@@ -137,14 +137,16 @@ fn rows_before(
 {
     let mut rows = Vec::with_capacity(alloc, atoms.len()).map_err(TermEnd::Memory)?;
     for atom in atoms {
-        let row = placed_row(alloc, setting, predicates, atom)?;
+        let row = atom_row(alloc, setting, predicates, atom).map_err(TermEnd::Memory)?;
         push(&mut rows, row)?;
     }
     Ok(rows)
 }
 
-// The row that the atom fails after the command.
-fn last_row(
+/// The row that an atom fails after a command, as one on the values before it: `1 - t <= 0` after the command for the
+/// atom's row `t <= 0`. It is `Past128` where a product or a sum of its making lies outside `i128`. In time and memory of the
+/// pairs of the row and of the terms that are put.
+pub fn denied_row(
     alloc: Global,
     setting: &Setting,
     predicates: &[Predicate],
@@ -161,28 +163,26 @@ fn last_row(
         → ¬ (NegationFits (atom_row predicates.now after.now)
         × SubstitutionFits form.now.after (negated (atom_row predicates.now after.now)).term) }
 {
-    let row = placed_row(alloc, setting, predicates, after)?;
+    let row = atom_row(alloc, setting, predicates, after).map_err(TermEnd::Memory)?;
     let denied = negated(alloc, &row)?;
     Ok(Row {
         term: form.after.put_in(alloc, &denied.term)?,
     })
 }
 
-// The row of an atom.
-fn placed_row(
+/// The row of an atom: that of its predicate, with its threads for the slots. In time and memory of its pairs.
+pub fn atom_row(
     alloc: Global,
     setting: &Setting,
     predicates: &[Predicate],
     atom: &Atom,
-) -> Result<Row, TermEnd>
+) -> Result<Row, AllocError>
     requires atom { IsAtomOf setting.now predicates.now atom.now }
     requires once { HasThreadsOnce atom.now }
-    ensures row { IfOk result (λ row. row ≡ atom_row predicates.now atom.now) }
-    ensures fits { ¬ IsErrOf result TermEnd.Past128 }
+    ensures { IfOk result (λ row. row ≡ atom_row predicates.now atom.now) }
 {
     let predicate = &predicates[atom.predicate as usize];
-    let row = place(alloc, &predicate.row, atom.threads.as_slice()).map_err(TermEnd::Memory)?;
-    Ok(row)
+    place(alloc, &predicate.row, atom.threads.as_slice())
 }
 
 // The row `1 - t <= 0` of a row `t <= 0`.
