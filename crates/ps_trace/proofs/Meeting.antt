@@ -40,7 +40,7 @@ use Rattle.ps_term.specs.declared.var.Var.TheVariants.{Global, Local, Havoc}
 use Rattle.ps_trace.proofs.Owning.{both, declared_rows_own, edge_ops_declared, own_form_at}
 use Rattle.ps_trace.specs.Meets.{in_a_row, RowsSayRuns, StartsWith, trace_values}
 use Rattle.ps_trace.specs.Rows.{SoFar, after_letter, form_at, letter_rows, letter_terms, nothing_yet, of_thread, pairs_of_thread, put_after, row_of_thread, rows_after, rows_of, rows_of_each, rows_at_start, term_of_thread, threads_in_trace, with_terms}
-use Rattle.ps_trace.specs.inner.Own.{is_own, is_own_form, is_own_row, is_own_term, is_own_worth}
+use Rattle.ps_trace.specs.Own.{is_own, is_own_form, is_own_row, is_own_term, is_own_worth}
 
 false_true : false ≡ true → ⊥
 false_true e = cc
@@ -51,7 +51,7 @@ list_all_same s t e [] = refl
 list_all_same s t e (x ∷ xs) = ap₂ (λ (a b : Bool). a && b) (e x) (list_all_same s t e xs)
 
 -- at variables of a command, values that agree there give a term one value
-own_value : (h : ℕ) (f g : Var → ℤ) → ((x : Var) → is_own h x ≡ true → f x ≡ g x) → (ps : List (Var × ℤ)) → list_all (λ (p : Var × ℤ). is_own h p.0) ps ≡ true →
+pub own_value : (h : ℕ) (f g : Var → ℤ) → ((x : Var) → is_own h x ≡ true → f x ≡ g x) → (ps : List (Var × ℤ)) → list_all (λ (p : Var × ℤ). is_own h p.0) ps ≡ true →
     pairs_value f ps ≡ pairs_value g ps
 own_value h f g e [] o = refl
 own_value h f g e (p ∷ ps) o =
@@ -66,18 +66,18 @@ own_rows h f g e (r ∷ rows) o =
     ap₂ (λ (a b : Bool). a && b) (ap (λ (z : ℤ). int_le (z +ℤ r.term.constant) (pos 0)) (own_value h f g e r.term.pairs q.0)) (own_rows h f g e rows q.1)
 
 -- ---- a term of a command that a thread runs
-thread_pairs : (u : Var → ℤ) (k first : ℕ) (ps : List (Var × ℤ)) → pairs_value u (pairs_of_thread k first ps) ≡ pairs_value (λ (x : Var). u (of_thread k first x)) ps
+pub thread_pairs : (u : Var → ℤ) (k first : ℕ) (ps : List (Var × ℤ)) → pairs_value u (pairs_of_thread k first ps) ≡ pairs_value (λ (x : Var). u (of_thread k first x)) ps
 thread_pairs u k first [] = refl
 thread_pairs u k first (p ∷ ps) = ap (λ (z : ℤ). (p.1 *ℤ u (of_thread k first p.0)) +ℤ z) (thread_pairs u k first ps)
 
-thread_value : (u : Var → ℤ) (k first : ℕ) (t : Term) → value u (term_of_thread k first t) ≡ value (λ (x : Var). u (of_thread k first x)) t
+pub thread_value : (u : Var → ℤ) (k first : ℕ) (t : Term) → value u (term_of_thread k first t) ≡ value (λ (x : Var). u (of_thread k first x)) t
 thread_value u k first t = ap (λ (z : ℤ). z +ℤ t.constant) (thread_pairs u k first t.pairs)
 
 -- the values that the thread's next command sees
 abbrev pub seen_by : (Var → ℤ) → SoFar → ℕ → Var → ℤ
 seen_by v f k x = values_after v f.after (of_thread k f.havocs x)
 
-put_value : (v : Var → ℤ) (f : SoFar) (k : ℕ) (t : Term) → value v (put_after f k t) ≡ value (seen_by v f k) t
+pub put_value : (v : Var → ℤ) (f : SoFar) (k : ℕ) (t : Term) → value v (put_after f k t) ≡ value (seen_by v f k) t
 put_value v f k t = put_worth v f.after (term_of_thread k f.havocs t) ∙ thread_value (values_after v f.after) k f.havocs t
 
 letter_rows_hold : (v : Var → ℤ) (f : SoFar) (k : ℕ) (form : SymbolicForm) → list_all (holds v) (letter_rows f k form) ≡ list_all (holds (seen_by v f k)) form.rows
@@ -86,7 +86,7 @@ letter_rows_hold v f k form =
     ∙ list_all_same (λ (r : Row). int_le (value v (put_after f k r.term)) (pos 0)) (holds (seen_by v f k)) (λ r. ap (λ (z : ℤ). int_le z (pos 0)) (put_value v f k r.term)) form.rows
 
 -- ---- what variables are worth after a letter
-of_eq : (k first : ℕ) (x y : Var) → is_own 0 x ≡ true → is_own 0 y ≡ true → var_eq (of_thread k first x) (of_thread k first y) ≡ var_eq x y
+pub of_eq : (k first : ℕ) (x y : Var) → is_own 0 x ≡ true → is_own 0 y ≡ true → var_eq (of_thread k first x) (of_thread k first y) ≡ var_eq x y
 of_eq k first (Global m) (Global n) p q = refl
 of_eq k first (Global m) (Local t n) p q = refl
 of_eq k first (Global m) (Havoc n) p q = refl
@@ -97,12 +97,12 @@ of_eq k first (Local s m) (Havoc n) p q = refl
 of_eq k first (Havoc m) y p q = absurd (grind (arith, nat_tests))
 
 -- the variable is of another thread, or a havoc
-abbrev is_other : ℕ → Var → Bool
+abbrev pub is_other : ℕ → Var → Bool
 is_other k (Global n) = false
 is_other k (Local j n) = not (k == j)
 is_other k (Havoc i) = true
 
-other_apart : (k first : ℕ) (x y : Var) → is_own 0 x ≡ true → is_other k y ≡ true → var_eq (of_thread k first x) y ≡ false
+pub other_apart : (k first : ℕ) (x y : Var) → is_own 0 x ≡ true → is_other k y ≡ true → var_eq (of_thread k first x) y ≡ false
 other_apart k first (Global m) (Global n) p q = absurd (false_true q)
 other_apart k first (Global m) (Local t n) p q = refl
 other_apart k first (Global m) (Havoc n) p q = refl
@@ -122,7 +122,7 @@ module _ (v : Var → ℤ) (f : SoFar) (k : ℕ) where
   abbrev moved : List (Var × Term) → List (Var × Term)
   moved ps = map (λ (p : Var × Term). let q : Var × Term = (of_thread k f.havocs p.0, put_after f k p.1) in q) ps
 
-  named : (ps : List (Var × Term)) (x : Var) → own_keys ps ≡ true → is_own 0 x ≡ true →
+  pub named : (ps : List (Var × Term)) (x : Var) → own_keys ps ≡ true → is_own 0 x ≡ true →
       value v (replacement (with_terms (moved ps) f.after) (of_thread k f.havocs x)) ≡ value (seen_by v f k) (replacement ps x)
   named [] x o i = sym (variable_value (seen_by v f k) x)
   named (p ∷ ps) x o i = at (var_eq x p.0) same (named ps x q.1 i)
@@ -149,7 +149,7 @@ module _ (v : Var → ℤ) (f : SoFar) (k : ℕ) where
           ∙ ap (λ (b : Bool). if b then put_after f k p.1 else replacement (with_terms (moved ps) f.after) (of_thread k f.havocs x)) e)
           ∙ h
 
-  others : (ps : List (Var × Term)) (y : Var) → own_keys ps ≡ true → is_other k y ≡ true → replacement (with_terms (moved ps) f.after) y ≡ replacement f.after y
+  pub others : (ps : List (Var × Term)) (y : Var) → own_keys ps ≡ true → is_other k y ≡ true → replacement (with_terms (moved ps) f.after) y ≡ replacement f.after y
   others [] y o i = refl
   others (p ∷ ps) y o i =
       let q : (is_own 0 p.0 ≡ true) × (own_keys ps ≡ true) = and_parts (is_own 0 p.0) (own_keys ps) o in
@@ -175,7 +175,7 @@ record Stands (v : Var → ℤ) (f : SoFar) (s : State) : Type 0 where
   pub locals : (k n : ℕ) → values_after v f.after (Local k n) ≡ value_in s (Local k n)
   pub havocs : (i : ℕ) → values_after v f.after (Havoc i) ≡ v (Havoc i)
 
-keys_own : (h : ℕ) (ps : List (Var × Term)) → list_all (is_own_worth h) ps ≡ true → list_all (λ (p : Var × Term). is_own 0 p.0) ps ≡ true
+pub keys_own : (h : ℕ) (ps : List (Var × Term)) → list_all (is_own_worth h) ps ≡ true → list_all (λ (p : Var × Term). is_own 0 p.0) ps ≡ true
 keys_own h [] o = refl
 keys_own h (p ∷ ps) o =
     let q : (is_own_worth h p ≡ true) × (list_all (is_own_worth h) ps ≡ true) = and_parts (is_own_worth h p) (list_all (is_own_worth h) ps) o in

@@ -30,7 +30,7 @@ use Rattle.ps_term.specs.declared.term.Term.{Term}
 use Rattle.ps_term.specs.declared.var.Var.{Var}
 use Rattle.ps_term.specs.declared.var.Var.TheVariants.{Global, Local, Havoc}
 use Rattle.ps_trace.specs.Rows.{form_at, of_thread, pairs_of_thread}
-use Rattle.ps_trace.specs.inner.Own.{is_own, is_own_form, is_own_row, is_own_term, is_own_worth}
+use Rattle.ps_trace.specs.Own.{is_own, is_own_form, is_own_row, is_own_term, is_own_worth}
 
 false_true : false ≡ true → ⊥
 false_true e = cc

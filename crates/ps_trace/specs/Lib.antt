@@ -1,6 +1,7 @@
 pub mod Examples
 pub mod inner
 pub mod Meets
+pub mod Own
 pub mod Reaches
 pub mod Replay
 pub mod Rows

@@ -1,6 +1,5 @@
 pub mod Known
 pub mod Leaving
-pub mod Own
 pub mod Paths
 pub mod Picking
 pub mod SoFars

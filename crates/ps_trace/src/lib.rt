@@ -22,6 +22,7 @@ pub mod worked;
 
 pub use error_trace::is_error_trace;
 pub use reached::{Reached, reach};
+pub use renaming::{of_thread, term_of_thread};
 pub use replaying::replay;
 pub use rows::trace_rows;
 pub use step::Step;

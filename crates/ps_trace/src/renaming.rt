@@ -1,14 +1,14 @@
-// Variables and terms of a command, where a thread runs it.
+//! Variables and terms of a command, where a thread runs it.
 ghost use Rattle.std.specs.Prelude.{◌≡◌, ◌<◌, ◌+◌, ◌^◌, IfOk, IsTrue};
 ghost use Rattle.std.specs.List.{list_all};
 ghost use Rattle.ps_trace.specs.Rows.{of_thread, pairs_of_thread, term_of_thread};
-ghost use Rattle.ps_trace.specs.inner.Own.{is_own, is_own_term};
+ghost use Rattle.ps_trace.specs.Own.{is_own, is_own_term};
 
 use ps_term::{Pairs, Term, Var};
 use std::alloc::{AllocError, Global};
 
-// The variable of a command of so many havocs, its locals being the thread's, and its havocs counted from `first`.
-pub(crate) fn of_thread(variable: Var, thread: u32, first: u32, havocs: u32) -> Var
+/// The variable of a command of so many havocs, its locals being the thread's, and its havocs counted from `first`.
+pub fn of_thread(variable: Var, thread: u32, first: u32, havocs: u32) -> Var
     requires own { IsTrue (is_own havocs variable) }
     requires havocs { first + havocs < 2 ^ 32 }
     ensures { result ≡ of_thread thread first variable }
@@ -20,8 +20,8 @@ pub(crate) fn of_thread(variable: Var, thread: u32, first: u32, havocs: u32) -> 
     }
 }
 
-// The same in a term.
-pub(crate) fn term_of_thread(
+/// The term of a command of so many havocs, with its variables as `of_thread` gives them; in time and memory of its pairs.
+pub fn term_of_thread(
     alloc: Global,
     term: &Term,
     thread: u32,

@@ -3,7 +3,7 @@ ghost use Rattle.std.specs.Prelude.{◌≡◌, ◌<◌, ◌++◌, ◌^◌, All, 
 ghost use Rattle.std.specs.List.{list_all};
 ghost use Rattle.ps_trace.specs.Rows.{form_at, havocs_of_letters, nothing_yet, row_of_thread, rows_after, rows_of, RowsFit, rows_at_start, threads_in_trace};
 ghost use Rattle.ps_trace.specs.Traces.{pairs_in, pairs_of};
-ghost use Rattle.ps_trace.specs.inner.Own.{is_own_form, is_own_row};
+ghost use Rattle.ps_trace.specs.Own.{is_own_form, is_own_row};
 
 use crate::renaming::term_of_thread;
 use crate::so_far::SoFar;

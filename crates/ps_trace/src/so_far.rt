@@ -2,7 +2,7 @@
 ghost use Rattle.std.specs.Prelude.{◌≡◌, ◌<◌, ◌+◌, ◌++◌, ◌^◌, All, IfOk, IsErrOf, IsTrue, OnOk};
 ghost use Rattle.ps_term.specs.Substitution.{SubstitutionFits};
 ghost use Rattle.ps_trace.specs.Rows.{after_letter, letter_rows, letter_terms, LetterFits, nothing_yet, put_after, term_of_thread, with_terms};
-ghost use Rattle.ps_trace.specs.inner.Own.{is_own_form, is_own_term};
+ghost use Rattle.ps_trace.specs.Own.{is_own_form, is_own_term};
 ghost use Rattle.ps_trace.specs.inner.SoFars.{so_far_of};
 
 use crate::renaming::{of_thread, term_of_thread};

@@ -3,7 +3,7 @@ use Rattle.std.specs.List.{list_all}
 use Rattle.ps_term.specs.Pairs.{IsCanonical}
 use Rattle.ps_term.specs.declared.var.Var.{Var}
 use Rattle.ps_trace.proofs.Owning.{thread_canonical}
-use Rattle.ps_trace.specs.inner.Own.{is_own}
+use Rattle.ps_trace.specs.Own.{is_own}
 use Rattle.ps_trace.proofs.renaming.term_of_thread.Goals as goal
 
 pub from_list-requires : goal.from_list-requires

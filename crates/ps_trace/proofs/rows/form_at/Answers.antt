@@ -4,7 +4,7 @@ use Rattle.std.proofs.lemmas.Option.{slice_get-get_or}
 use Rattle.ps_graph.specs.declared.edge.Edge.{Edge}
 use Rattle.ps_command.specs.declared.symbolic_form.SymbolicForm.{SymbolicForm}
 use Rattle.ps_trace.proofs.Owning.{form_got, has_form, own_form_at}
-use Rattle.ps_trace.specs.inner.Own.{is_own_form}
+use Rattle.ps_trace.specs.Own.{is_own_form}
 use Rattle.ps_trace.proofs.rows.form_at.Goals as goal
 
 pub bounds-as_slice-taken : goal.bounds-as_slice-taken

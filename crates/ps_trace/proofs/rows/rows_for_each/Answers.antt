@@ -2,7 +2,7 @@ use Rattle.std.proofs.Common.{◌≡◌, Bool, true, sym, ap, subst, ◌∙◌, 
 use Rattle.std.specs.List.{list_all}
 use Rattle.ps_term.specs.declared.row.Row.{Row}
 use Rattle.ps_trace.proofs.Owning.{declared_rows_own}
-use Rattle.ps_trace.specs.inner.Own.{is_own_row}
+use Rattle.ps_trace.specs.Own.{is_own_row}
 use Rattle.ps_trace.proofs.rows.rows_for_each.Goals as goal
 
 pub returns-clause-own : goal.returns-clause-own

@@ -1,0 +1,36 @@
+-- Members of lists without those that stand already.
+use Rattle.std.proofs.Common.{sym, subst, List, [], ◌∷◌, ◌++◌, inl, inr, ◌⊎◌, Contains}
+use Rattle.std.proofs.lemmas.List.Elements.{Contains-push_cases}
+use Rattle.ps_list.proofs.Members.{nothing, cons_cases, here, there}
+use Rattle.ps_interp.specs.Firsts.{AreFirst}
+
+-- each member is seen, or among the first ones
+pub first_has : {X : Type 0} (seen xs first : List X) (x : X) → AreFirst seen xs first → Contains xs x → Contains seen x ⊎ Contains first x
+first_has seen [] first x h c = absurd (nothing x c)
+first_has {X} seen (y ∷ ys) first x (inl old) c = elim (cons_cases y ys x c) [
+  | inl is ↦ inl (subst (λ (z : X). Contains seen z) is old.0)
+  | inr later ↦ first_has seen ys first x old.1 later
+]
+first_has {X} seen (y ∷ ys) first x (inr new) c = elim (cons_cases y ys x c) [
+  | inl is ↦ inr (subst (λ (zs : List X). Contains zs x) (sym new.1.1) (subst (λ (z : X). Contains (y ∷ new.1.0) z) is (here y new.1.0)))
+  | inr later ↦ at (first_has (seen ++ y ∷ []) ys new.1.0 x new.1.2 later)
+]
+  where
+    in_first : Contains new.1.0 x → Contains seen x ⊎ Contains first x
+    in_first h = inr (subst (λ (zs : List X). Contains zs x) (sym new.1.1) (there y new.1.0 x h))
+
+    at : Contains (seen ++ y ∷ []) x ⊎ Contains new.1.0 x → Contains seen x ⊎ Contains first x
+    at (inl h) = elim (Contains-push_cases seen y x h) [
+      | inl old ↦ inl old
+      | inr is ↦ inr (subst (λ (zs : List X). Contains zs x) (sym new.1.1) (subst (λ (z : X). Contains (y ∷ new.1.0) z) is (here y new.1.0)))
+    ]
+    at (inr h) = in_first h
+
+-- and no other is among them
+pub first_from : {X : Type 0} (seen xs first : List X) (x : X) → AreFirst seen xs first → Contains first x → Contains xs x
+first_from {X} seen [] first x h c = subst (λ (zs : List X). Contains zs x) h c
+first_from seen (y ∷ ys) first x (inl old) c = there y ys x (first_from seen ys first x old.1 c)
+first_from {X} seen (y ∷ ys) first x (inr new) c = elim (cons_cases y new.1.0 x (subst (λ (zs : List X). Contains zs x) new.1.1 c)) [
+  | inl is ↦ subst (λ (z : X). Contains (y ∷ ys) z) is (here y ys)
+  | inr later ↦ there y ys x (first_from (seen ++ y ∷ []) ys new.1.0 x new.1.2 later)
+]

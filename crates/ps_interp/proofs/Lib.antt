@@ -1,0 +1,15 @@
+pub mod Adding
+pub mod Beginning
+pub mod Entire
+pub mod Extra
+pub mod Falses
+pub mod Firsts
+pub mod Holding
+pub mod Letters
+pub mod Numbered
+pub mod Proving
+pub mod Slots
+pub mod Totals
+pub mod Triples
+pub mod Vars
+pub mod Worth

@@ -1,0 +1,10 @@
+pub mod Cuts
+pub mod Ends
+pub mod Entries
+pub mod Examples
+pub mod Firsts
+pub mod Interpolants
+pub mod Made
+pub mod Origin
+pub mod Sums
+pub mod Weights
