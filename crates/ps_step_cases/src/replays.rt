@@ -1,11 +1,12 @@
 //! Error traces, rows, replays and the witnesses of traces on the graphs of programs.
-ghost use Rattle.std.specs.Prelude.{◌≡◌, [], IfOk};
+ghost use Rattle.std.specs.Prelude.{◌≡◌, []};
 
 use crate::commands::put_rows;
 use crate::graphs::graph_of;
 use crate::traces::{printed_witness, read_witness_of, trace_of};
 use ps_case::{read_variable, truth, two_parts, word};
 use ps_command::RunEnd;
+use ps_list::Sequence;
 use ps_term::{Row, TermEnd, Var};
 use ps_text::read_i128;
 use ps_trace::{IndexedTrace, is_error_trace, reach, replay, trace_rows, witness_of};
@@ -21,23 +22,18 @@ pub fn is_trace_of(alloc: Global, input: &str) -> Result<Vec<u8>, AllocError> {
     truth(alloc, is_error_trace(&graph, &trace_of(alloc, trace)?))
 }
 
-// The trace, where it has no letters.
-fn empty_trace(alloc: Global, text: &str) -> Result<IndexedTrace, AllocError>
-    ensures { IfOk result (λ trace. trace.letters ≡ []) }
+fn no_letters(alloc: Global) -> IndexedTrace
+    ensures { result.letters ≡ [] }
 {
-    let trace = trace_of(alloc, text)?;
-    if !trace.letters.as_slice().is_empty() {
-        return Err(AllocError);
+    IndexedTrace {
+        letters: Sequence::from_list(Vec::new(alloc)),
     }
-    Ok(trace)
 }
 
-/// The rows that a trace of no letters asks for on the program's graph, in brackets, `none` or `past`: `PROGRAM|TRACE`.
+/// The rows that a trace of no letters asks for on the program's graph, in brackets, `none` or `past`.
 pub fn rows_of(alloc: Global, input: &str) -> Result<Vec<u8>, AllocError> {
-    let (program, trace) = two_parts(input, '|')?;
-    let graph = graph_of(alloc, program)?;
-    let trace = empty_trace(alloc, trace)?;
-    match trace_rows(alloc, &graph, &trace) {
+    let graph = graph_of(alloc, input)?;
+    match trace_rows(alloc, &graph, &no_letters(alloc)) {
         Ok(rows) => shown_rows(alloc, rows.as_slice()),
         Err(TermEnd::Past128) => word(alloc, "past"),
         Err(TermEnd::Memory(end)) => Err(end),
@@ -53,17 +49,15 @@ fn shown_rows(alloc: Global, rows: &[Row]) -> Result<Vec<u8>, AllocError> {
     Ok(out)
 }
 
-/// The witness of a trace of no letters with these values: `PROGRAM|TRACE|VARIABLE VALUE|VARIABLE VALUE`.
+/// The witness of a trace of no letters with these values: `PROGRAM|VARIABLE VALUE|VARIABLE VALUE`.
 pub fn witness_with(alloc: Global, input: &str) -> Result<Vec<u8>, AllocError> {
     let (program, rest) = two_parts(input, '|')?;
-    let (trace, rest) = two_parts(rest, '|')?;
     let graph = graph_of(alloc, program)?;
-    let trace = empty_trace(alloc, trace)?;
     let mut values = Vec::new(alloc);
     for part in rest.split('|') {
         values.push(read_value(part)?)?;
     }
-    let witness = witness_of(alloc, &graph, &trace, values.as_slice())?;
+    let witness = witness_of(alloc, &graph, &no_letters(alloc), values.as_slice())?;
     printed_witness(alloc, &witness)
 }
 
