@@ -43,8 +43,8 @@ pub fn answer_question(
     ensures setting { IfOk result (λ answer. answer.setting ≡ setting.now) }
     ensures predicates { IfOk result (λ answer. answer.predicates ≡ predicates.now) }
     ensures width { IfOk result (λ answer. answer.width ≡ width) }
-    ensures answer { IfOk result (λ answer. IsAnswerTo setting.now predicates.now question.entry.now width
-        answer.entries) }
+    ensures answer { IfOk result (λ answer. IsAnswerTo setting.now predicates.now
+        question.entry.now width answer.entries) }
     ensures hold { IfOk result (λ answer. All (EntryHolds setting.now predicates.now)
         answer.entries) }
 {

@@ -26,7 +26,8 @@ pub(crate) fn choices(
     requires some { 0 < known }
     requires known { known ≤ length predicates.now }
     requires threads { AreThreadsOf post.now.threads threads }
-    ensures { IfOk result (λ list. AreChoices setting.now predicates.now known post.now list.items) }
+    ensures { IfOk result (λ list.
+        AreChoices setting.now predicates.now known post.now list.items) }
 {
     let mut list = Vec::new(alloc);
     for number in 1..known {
