@@ -1,0 +1,6 @@
+//! Proofs as texts of lines.
+#![tactic(auto)]
+
+mod proof;
+
+pub use proof::Proof;
