@@ -18,8 +18,9 @@ use Rattle.ps_graph.specs.Facts.{owner_of}
 use Rattle.ps_graph.specs.declared.edge.Edge.{Edge}
 use Rattle.ps_graph.specs.declared.graph.Graph.{Graph}
 use Rattle.ps_list.proofs.Members.{cons_cases, here, there}
+use Rattle.ps_step.specs.Places.{IsStepTo, located}
 use Rattle.ps_step.specs.Steps.{HasOneInOnce, IsDue, IsMovedTo, IsNowhere}
-use Rattle.ps_step.specs.inner.Going.{IsStepTo, are_alone, is_only_thread, is_body, located, may_move, of_once}
+use Rattle.ps_step.specs.inner.Going.{are_alone, is_only_thread, is_body, may_move, of_once}
 use Rattle.ps_step.proofs.Counter.{only}
 use Rattle.ps_step.proofs.Expanding.{sorted_append}
 use Rattle.ps_step.proofs.Moved.{pair_is}

@@ -32,7 +32,7 @@ use Rattle.ps_step.specs.declared.expand_end.TheConstants.{MOST_SETS}
 use Rattle.ps_step.specs.declared.expansion.Successor.{Successor}
 use Rattle.ps_demand.specs.Demands.{demands}
 use Rattle.ps_demand.specs.Hitting.{IsLeastHit}
-use Rattle.ps_step.specs.inner.Going.{IsStepTo, located}
+use Rattle.ps_step.specs.Places.{IsStepTo, located}
 use Rattle.ps_step.specs.inner.Parts.{AddsStep, IsStep, IsWideAt}
 use Rattle.ps_step.specs.inner.Sets.{AddsSets, AreAllOf, HasLength, HasThreadsWith, IsFirstOver, IsNamed, IsWideOf, IsWithin, successor_of}
 use Rattle.ps_step.proofs.Going.{located_up, thread_cmp}

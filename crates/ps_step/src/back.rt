@@ -3,8 +3,9 @@ ghost use Rattle.std.specs.Prelude.{◌≡◌, ◌↔◌, ◌++◌, ◌∷◌, [
 ghost use Rattle.std.specs.List.{filter, list_any};
 ghost use Rattle.ps_config.specs.Forms.{start_configuration};
 ghost use Rattle.ps_graph.specs.Facts.{owner_of};
+ghost use Rattle.ps_step.specs.Places.{IsStepTo};
 ghost use Rattle.ps_step.specs.Steps.{IsDue};
-ghost use Rattle.ps_step.specs.inner.Going.{IsStepTo, are_alone, is_only_thread, is_body, may_move, of_once};
+ghost use Rattle.ps_step.specs.inner.Going.{are_alone, is_only_thread, is_body, may_move, of_once};
 ghost use Rattle.ps_triple.specs.Entries.{false_atom};
 
 use ps_atom::Atom;
@@ -159,8 +160,9 @@ fn moved(
     Ok(at)
 }
 
-/// The located threads after the step back along the edge by the thread, or `None` where there is none.
-pub(crate) fn step_to(
+/// The located threads after the step back along the edge by the thread, ascending, or `None` where there
+/// is none. In time and memory of the threads, and of their square where a body runs once.
+pub fn step_to(
     alloc: Global,
     graph: &Graph,
     config: &Config,

@@ -14,6 +14,7 @@ mod step;
 pub mod worked;
 
 pub use accepted::accepting;
+pub use back::step_to;
 pub use expand_end::{ExpandEnd, MOST_SETS};
 pub use expanded::expand;
 pub use expansion::{Expansion, Successor};

@@ -1,12 +1,8 @@
--- Tests of whether a step goes back, and what they tell.
-use Rattle.std.specs.Prelude.{ℕ, Bool, false, not, ◌&&◌, ◌||◌, ◌==◌, List, [], map, if◌then◌else◌, Option, Some, None}
+-- Tests of whether a step goes back.
+use Rattle.std.specs.Prelude.{ℕ, Bool, false, not, ◌&&◌, ◌||◌, ◌==◌, List, if◌then◌else◌, Option, Some, None}
 use Rattle.std.specs.List.{list_all, list_any}
-use Rattle.std.specs.List.Sorted.{IsStrictlyIncreasing}
-use Rattle.ps_config.specs.Configurations.{Configuration}
 use Rattle.ps_graph.specs.Facts.{owner_of}
-use Rattle.ps_graph.specs.declared.edge.Edge.{Edge}
 use Rattle.ps_graph.specs.declared.graph.Graph.{Graph}
-use Rattle.ps_step.specs.Steps.{GoesBack}
 
 -- the body is this one
 abbrev pub is_body : ℕ → Option ℕ → Bool
@@ -45,13 +41,3 @@ came_from from thread source to = list_all (λ (p : ℕ × ℕ). if p.0 == threa
 
 abbrev pub is_moved : List (ℕ × ℕ) → ℕ → ℕ → List (ℕ × ℕ) → Bool
 is_moved from thread source to = is_at to thread source && stay from thread to && came_from from thread source to
-
--- located threads without atoms
-abbrev pub located : List (ℕ × ℕ) → Configuration
-located at = record { at = at; atoms = [] }
-
--- the locations after a step back, in ascending order of threads; none where the step doesn't go back
-abbrev pub IsStepTo : Graph → Configuration → Edge → ℕ → Option (List (ℕ × ℕ)) → Type 0
-IsStepTo graph from edge thread None = (to : Configuration) → ¬ GoesBack graph from edge thread to
-IsStepTo graph from edge thread (Some at) =
-    IsStrictlyIncreasing (map (λ (p : ℕ × ℕ). p.0) at) × GoesBack graph from edge thread (located at)

@@ -2,7 +2,7 @@ use Rattle.std.proofs.Common.{ℕ, Global, subst, Option}
 use Rattle.std.specs.Prelude.{option_map}
 use Rattle.std.specs.declared.vec.Vec.{Vec}
 use Rattle.ps_demand.specs.Demands.{demands}
-use Rattle.ps_step.specs.inner.Going.{IsStepTo}
+use Rattle.ps_step.specs.Places.{IsStepTo}
 use Rattle.ps_step.specs.inner.Parts.{IsWideAt}
 use Rattle.ps_step.specs.inner.Sets.{IsNamed, IsWideOf}
 use Rattle.ps_step.proofs.Over.{err_weaker, ok_weaker}
