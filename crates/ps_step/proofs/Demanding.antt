@@ -20,6 +20,7 @@ use Rattle.ps_step.specs.Steps.{MeetsDemands}
 use Rattle.ps_demand.specs.Demands.{AreTied}
 use Rattle.ps_demand.specs.Demands.{is_renaming, demand, demands}
 use Rattle.ps_demand.specs.Hitting.{MeetsSet, HitsAll}
+use Rattle.ps_demand.proofs.Demanding.{demanded_given, renamed_demanded}
 use Rattle.ps_demand.proofs.Picked.{picked, from_picked}
 use Rattle.ps_demand.proofs.Sent.{image_is_renaming, sent_all, sent_apart}
 

@@ -148,7 +148,8 @@ fn add_edge<B: Shown>(
     add_step(alloc, graph, basis, config, number, fresh, successors)
 }
 
-fn next_of(config: &Config, from: u64) -> Option<u32>
+/// The least thread that occurs in the configuration from a number on, in one pass.
+pub fn next_of(config: &Config, from: u64) -> Option<u32>
     ensures { IsNextThread (threads_at config.now) from result }
 {
     next_thread(config.at(), config.atoms(), from)
