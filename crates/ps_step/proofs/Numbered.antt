@@ -20,6 +20,7 @@ use Rattle.ps_hit.specs.Hitting.{Meets, IsHit, IsMinimalHit, IsListedHit}
 use Rattle.ps_hit.proofs.Critical.{critical}
 use Rattle.ps_list.proofs.Members.{here, there}
 use Rattle.ps_list.proofs.Mapped.{mapped, from_mapped, kept, from_kept}
+use Rattle.ps_demand.proofs.Atoms.{atoms_or_not, atoms_total}
 use Rattle.ps_demand.specs.Hitting.{HitsAll, IsLeastHit}
 use Rattle.ps_demand.specs.Numbered.{at_place, named, IsNumbered}
 use Rattle.ps_step.proofs.Least.{has_or_not, least_of}
@@ -32,12 +33,12 @@ place_cmp pool up d i j hi hj = at (nat_cmp i j) refl
   where
     at : (o : Ordering) → nat_cmp i j ≡ o → atom_cmp (get_or pool i d) (get_or pool j d) ≡ nat_cmp i j
     at Less e = (let l : i < j = ranked i j Less (sym e) in Less-from_sorted atom_cmp pool i j d up l hj ∙ sym e)
-    at Equal e = (let same : i ≡ j = nat_Equal i j e in subst (λ (k : ℕ). atom_cmp (get_or pool i d) (get_or pool k d) ≡ Equal) same (tied_itself atoms_total (get_or pool i d)) ∙ sym e)
+    at Equal e = (let same : i ≡ j = ranked i j Equal (sym e) in subst (λ (k : ℕ). atom_cmp (get_or pool i d) (get_or pool k d) ≡ Equal) same (tied_itself atoms_total (get_or pool i d)) ∙ sym e)
     at Greater e = (let l : j < i = ranked i j Greater (sym e) in atoms_total.antisymm (get_or pool i d) (get_or pool j d) ∙ (ap ordering_reverse (Less-from_sorted atom_cmp pool j i d up l hi) ∙ sym e))
 
 pub same_place : (pool : List Atom) → IsStrictlySortedBy atom_cmp pool → (d : Atom) (i j : ℕ) → i < length pool → j < length pool → get_or pool i d ≡ get_or pool j d → i ≡ j
 same_place pool up d i j hi hj e =
-    nat_Equal i j (sym (place_cmp pool up d i j hi hj) ∙ subst (λ (q : Atom). atom_cmp (get_or pool i d) q ≡ Equal) e (tied_itself atoms_total (get_or pool i d)))
+    ranked i j Equal (sym (sym (place_cmp pool up d i j hi hj) ∙ subst (λ (q : Atom). atom_cmp (get_or pool i d) q ≡ Equal) e (tied_itself atoms_total (get_or pool i d))))
 
 -- lists of places are in the order of the lists of their atoms
 pub named_cmp : (pool : List Atom) → IsStrictlySortedBy atom_cmp pool → (a b : List ℕ) → ((n : ℕ) → Contains a n → n < length pool) → ((n : ℕ) → Contains b n → n < length pool)
