@@ -1,16 +1,10 @@
 //! Whether a proof shows that a program never fails, and what is wrong with one that doesn't.
 #![tactic(auto)]
 
-mod branches;
 mod checked;
-mod configs;
-mod counted;
-mod covered;
-mod covering;
-mod entries;
 mod fault;
 mod judgement;
-mod steps;
+pub mod laws;
 
 pub use checked::check;
 pub use fault::CheckFault;

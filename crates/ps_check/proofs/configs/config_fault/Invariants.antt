@@ -1,7 +1,0 @@
-use Rattle.ps_check.specs.Faults.{table_of}
-use Rattle.ps_step.specs.Closed.{IsNamed}
-use Rattle.ps_check.proofs.Before.{AreBefore}
-use Rattle.ps_check.proofs.configs.config_fault.Given as goal
-
-abbrev pub invariant-loop-place : goal.invariant-loop-place
-invariant-loop-place l = AreBefore (IsNamed l.graph (table_of l.proof)) l.proof.configs l.place

@@ -1,6 +1,0 @@
-use Rattle.ps_check.proofs.Before.{AreBefore}
-use Rattle.ps_check.proofs.Firsts.{Holds}
-use Rattle.ps_check.proofs.entries.entry_fault.Given as goal
-
-abbrev pub invariant-loop-place : goal.invariant-loop-place
-invariant-loop-place l = AreBefore (Holds l.graph l.proof) l.proof.entries l.place
