@@ -1,4 +1,4 @@
-use Rattle.ps_check.proofs.Accepting.{no_fault_of}
+use Rattle.ps_check.proofs.Firsts.{no_fault_of}
 use Rattle.ps_check.proofs.laws.accepted_proofs_have_no_fault.Goals as goal
 
 pub returns : goal.returns
