@@ -21,4 +21,5 @@ pub use entry::Entry;
 pub use entry_end::{EntryEnd, EntryFault};
 pub use initial::Initial;
 pub use rows::{atom_row, denied_row};
+pub use threads::has_threads_once;
 pub use triple::Triple;
