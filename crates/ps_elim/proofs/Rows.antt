@@ -73,9 +73,9 @@ pub part_of : (m : ℕ) (p none part : Term) (by : ℤ) → by ≡ pos m → non
     ((x : Var) → coefficient x part.pairs ≡ (coefficient x none.pairs +ℤ (by *ℤ coefficient x p.pairs))) → part.constant ≡ (none.constant +ℤ (by *ℤ p.constant)) → IsPart m p part
 part_of m p none part by is e h k = record {
   coefficients = λ x. (let here : coefficient x part.pairs ≡ (pos 0 +ℤ (pos m *ℤ coefficient x p.pairs)) =
-    subst₂ (λ (t : Term) (z : ℤ). coefficient x part.pairs ≡ (coefficient x t.pairs +ℤ (z *ℤ coefficient x p.pairs))) e is (h x) in omega (arith, ints, here));
+      subst₂ (λ (t : Term) (z : ℤ). coefficient x part.pairs ≡ (coefficient x t.pairs +ℤ (z *ℤ coefficient x p.pairs))) e is (h x) in omega (arith, ints, here));
   constant = (let here : part.constant ≡ (pos 0 +ℤ (pos m *ℤ p.constant)) =
-    subst₂ (λ (t : Term) (z : ℤ). part.constant ≡ (t.constant +ℤ (z *ℤ p.constant))) e is k in omega (arith, ints, here));
+      subst₂ (λ (t : Term) (z : ℤ). part.constant ≡ (t.constant +ℤ (z *ℤ p.constant))) e is k in omega (arith, ints, here));
 }
 
 alone : (z : ℤ) → (pos 0 +ℤ z) ≡ z
