@@ -20,6 +20,7 @@ use Rattle.ps_demand.proofs.Giving.{demanded, demand_of}
 use Rattle.ps_demand.proofs.Pooling.{found_at}
 use Rattle.ps_demand.specs.Demands.{AreTied, demands}
 use Rattle.ps_demand.specs.Pools.{HasAll, HasEach}
+use Rattle.ps_graph.proofs.Bools.{same_test}
 use Rattle.ps_list.proofs.Mapped.{from_kept, kept}
 use Rattle.ps_list.proofs.Members.{cons_cases, here, nothing}
 use Rattle.ps_member.proofs.Walking.{walk_first, walk_less}
@@ -32,11 +33,6 @@ use Rattle.ps_triple.specs.declared.entry.Entry.{Entry}
 use Rattle.ps_triple.specs.declared.entry.Entry.TheVariants.{Triple as OfTriple, Initial as OfInitial}
 
 -- ---- tests
-
-pub same_test : (a b : Bool) → (a ≡ true → b ≡ true) → (b ≡ true → a ≡ true) → a ≡ b
-same_test true b f g = sym (f refl)
-same_test false true f g = g refl
-same_test false false f g = refl
 
 ties : (o : Ordering) → is_eq o ≡ true → o ≡ Equal
 ties Less h = absurd (false≢true h)
