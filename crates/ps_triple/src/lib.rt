@@ -20,4 +20,5 @@ pub use check::check_entry;
 pub use entry::Entry;
 pub use entry_end::{EntryEnd, EntryFault};
 pub use initial::Initial;
+pub use threads::has_threads_once;
 pub use triple::Triple;

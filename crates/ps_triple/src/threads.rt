@@ -1,4 +1,4 @@
-// Tests of the threads of atoms.
+//! Tests of the threads of atoms.
 ghost use Rattle.std.specs.Prelude.{◌≢◌, ◌↔◌, AllPairs, Contains, IsTrue};
 ghost use Rattle.ps_triple.specs.Tests.{HasDistinctThreads, HasNoFreeThread, HasThreadsOnce, IsTied, IsTiedTo};
 
@@ -34,8 +34,8 @@ pub(crate) fn has_no_free_thread(entry: &Entry) -> bool
     }
 }
 
-// Whether no thread stands twice in the atom.
-fn has_threads_once(atom: &Atom) -> bool
+/// Whether no thread stands twice in the atom. In time of the square of its few threads.
+pub fn has_threads_once(atom: &Atom) -> bool
     ensures { IsTrue result ↔ HasThreadsOnce atom.now }
 {
     are_distinct(atom.threads.as_slice())
