@@ -32,7 +32,7 @@ one_setting : (s t : Setting) → s.globals ≡ t.globals → s.locals ≡ t.loc
     → s.commands ≡ t.commands → s ≡ t
 one_setting s t globals locals once each commands =
     let forms = is_prop→PathP (λ i. (symbols : List SymbolicForm) × (symbols ≡ forms_of (commands i))) (λ i. one_to (forms_of (commands i)))
-        (s.symbols, s.formed) (t.symbols, t.formed) in
+    (s.symbols, s.formed) (t.symbols, t.formed) in
     λ i. record {
       globals = globals i;
       locals = locals i;

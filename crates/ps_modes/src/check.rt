@@ -90,12 +90,7 @@ impl Judge for Check {
 }
 
 /// The answer to the texts of a program and of a proof, the second of which begins at this line.
-fn judge_texts(
-    alloc: Global,
-    program: &[u8],
-    proof: &[u8],
-    line: u32,
-) -> Result<Answer, AllocError>
+fn judge_texts(alloc: Global, program: &[u8], proof: &[u8], line: u32) -> Result<Answer, AllocError>
     requires program { length program.now + 1 < 2 ^ 32 }
     requires from_one { 1 ≤ line }
     requires room { line + length proof.now < 2 ^ 32 }
