@@ -72,10 +72,14 @@ HasFault graph proof (Uncovered config edge mover) =
     (from : Configuration) × IsSource proof.configs config from
     × HasUncovered graph proof.entries proof.configs from edge mover
 
--- steps are ordered by edge, then by thread: those that occur, ascending, and then the fresh one
+-- threads are ordered by number, and the fresh one comes last
+abbrev pub thread_order : Option ℕ → List ℕ
+thread_order (Some thread) = 0 ∷ thread ∷ []
+thread_order None = 1 ∷ []
+
+-- steps are ordered by edge, then by thread
 abbrev pub step_order : ℕ → Option ℕ → List ℕ
-step_order edge (Some thread) = edge ∷ 0 ∷ thread ∷ []
-step_order edge None = edge ∷ 1 ∷ []
+step_order edge mover = edge ∷ thread_order mover
 
 -- Faults are ordered by lists of numbers, of which the first that differ decide: predicates; entries; configurations, of
 -- each its numbers and then its threads; steps back from the start; and again configurations, of each that it is

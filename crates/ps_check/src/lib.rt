@@ -1,10 +1,18 @@
 //! Whether a proof shows that a program never fails, and what is wrong with one that doesn't.
 #![tactic(auto)]
 
-mod check;
+mod branches;
+mod checked;
+mod configs;
+mod counted;
+mod covered;
+mod covering;
+mod entries;
 mod fault;
 mod judgement;
+pub mod laws;
+mod steps;
 
-pub use check::check;
+pub use checked::check;
 pub use fault::CheckFault;
 pub use judgement::Judgement;

@@ -6,8 +6,8 @@ ghost use Rattle.ps_step.specs.inner.Found.{IsFound};
 ghost use Rattle.ps_demand.specs.Pools.{lists_of, AreOfPool};
 
 use ps_atom::Atom;
-use ps_demand::{demands_of, numbered, pool_of};
 use ps_basis::Shown;
+use ps_demand::{demands_of, numbered, pool_of};
 use ps_hit::{Hits, minimal_hits};
 use ps_list::Sequence;
 use std::alloc::{AllocError, Global};

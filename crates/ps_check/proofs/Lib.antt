@@ -1,0 +1,9 @@
+pub mod Adding
+pub mod Below
+pub mod Firsts
+pub mod Before
+pub mod Hitting
+pub mod Stepping
+pub mod Works
+pub mod Naming
+pub mod Viewing
