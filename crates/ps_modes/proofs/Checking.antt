@@ -1,6 +1,6 @@
 -- An input that isn't too long owes `check` one answer.
 use Rattle.std.proofs.Common.{◌≡◌, ℕ, ◌<◌, List, Result, Ok, Err, Option, Some, None, IfSome, refl, sym, ap, ◌∙◌, subst, arith}
-use Rattle.std.specs.Prelude.{slice_get}
+use Rattle.std.specs.Prelude.{slice_get, slice_index}
 use Rattle.std.specs.Cmp.Lexicographic.{slice_cmp}
 use Rattle.std.specs.FinMap.{nat_cmp-IsAntisymmetric, slice_cmp-IsAntisymmetric}
 use Rattle.std.specs.Ordering.{nat_cmp, ordering_reverse}
@@ -103,14 +103,15 @@ told g p (Uncovered (Some n) s (Some t)) (Uncovered (Some m) r (Some u)) x y e =
     let same : n ≡ m = cc in let edge : s ≡ r = cc in let thread : t ≡ u = cc in λ i. Uncovered (Some (same i)) (edge i) (Some (thread i))
 told g p (Uncovered (Some n) s None) (Uncovered (Some m) r None) x y e =
     let same : n ≡ m = cc in let edge : s ≡ r = cc in λ i. Uncovered (Some (same i)) (edge i) None
-told g p _ _ x y e = absurd (cc)
+told g p _ _ x y e =
+    absurd (omega (arith, ap (λ (l : List ℕ). slice_index l 0) e, ap (λ (l : List ℕ). slice_index l 2) e, ap (λ (l : List ℕ). slice_index l 4) e))
 
 -- ---- one answer
 
 one_of : (g : Graph) (p : Proof) (s t : Status) (x y : List ℕ) → OwedOf g p s x → OwedOf g p t y → (s ≡ t) × (x ≡ y)
 one_of g p s t x y (Accepted _ e f) (Accepted _ d c) = (e ∙ sym d, f ∙ sym c)
-one_of g p s t x y (Accepted yes _ _) (Refused _ no _ _ _) = absurd (no yes)
-one_of g p s t x y (Refused _ no _ _ _) (Accepted yes _ _) = absurd (no yes)
+one_of g p s t x y (Accepted accepts _ _) (Refused _ refused _ _ _) = absurd (refused accepts)
+one_of g p s t x y (Refused _ refused _ _ _) (Accepted accepts _ _) = absurd (refused accepts)
 one_of g p s t x y (Refused a _ first e f) (Refused b _ other d c) = (
   e ∙ sym d,
   f ∙ ap not_accepted_line (first_once g p a b first other (told g p a b first.0 other.0)) ∙ sym c,
@@ -165,7 +166,7 @@ fault_said input text (Within short (LongPart _ is _)) = absurd (cc)
 fault_said input text (Within short (Parts p w line texts (NoProgram _ is))) = absurd (cc)
 fault_said input text (Within short (Parts p w line texts (Programs q g says (NotOfForm _ _ is _)))) = absurd (cc)
 fault_said input text (Within short (Parts p w line texts (Programs q g says (Proves v spells (Accepted _ is _))))) = absurd (cc)
-fault_said input text (Within short (Parts p w line texts (Programs q g says (Proves v spells (Refused fault no first _ f))))) = (
+fault_said input text (Within short (Parts p w line texts (Programs q g says (Proves v spells (Refused fault refused first _ f))))) = (
   short,
   (
     fault,
@@ -174,7 +175,7 @@ fault_said input text (Within short (Parts p w line texts (Programs q g says (Pr
       graph = g;
       proof = v;
       says = record { program_text = p; proof_text = w; line = line; texts = texts; reads = says; spells = spells };
-      refused = no;
+      refused = refused;
       first = first;
     },
     f,
@@ -183,15 +184,15 @@ fault_said input text (Within short (Parts p w line texts (Programs q g says (Pr
 
 pub accepted_owed : (input text : List ℕ) → (IsShort input × SaysAccepted input) × (text ≡ ACCEPTED.now) → Owes Owed input Holds text
 accepted_owed input text is =
-    let yes = is.0.1 in let says = yes.says in
+    let accepted = is.0.1 in let says = accepted.says in
     Within is.0.0 (Parts says.program_text says.proof_text says.line says.texts
-    (Programs yes.program yes.graph says.reads (Proves yes.proof says.spells (Accepted yes.accepted refl is.1))))
+    (Programs accepted.program accepted.graph says.reads (Proves accepted.proof says.spells (Accepted accepted.accepted refl is.1))))
 
 pub fault_owed : (input : List ℕ) (fault : CheckFault) → IsShort input → SaysFault input fault → Owes Owed input Fails (not_accepted_line fault)
-fault_owed input fault short no =
-    let says = no.says in
+fault_owed input fault short refusal =
+    let says = refusal.says in
     Within short (Parts says.program_text says.proof_text says.line says.texts
-    (Programs no.program no.graph says.reads (Proves no.proof says.spells (Refused fault no.refused no.first refl refl))))
+    (Programs refusal.program refusal.graph says.reads (Proves refusal.proof says.spells (Refused fault refusal.refused refusal.first refl refl))))
 
 pub exactly_accepted : (left : Option (List ℕ)) (n : ℕ)
     → IfSome left (λ input. (status : Status) → IsVerdict status → Exactly n status (OwesStatus Owed input status))
@@ -215,15 +216,15 @@ exactly_fault (Some input) n each =
 
 -- no execution of the program of an accepted proof fails an assertion
 pub accepted_safe : (input : List ℕ) → SaysAccepted input → SaysSafe input
-accepted_safe input yes =
-    let says = yes.says in record {
+accepted_safe input accepted =
+    let says = accepted.says in record {
       program_text = says.program_text;
       rest = says.proof_text;
-      program = yes.program;
+      program = accepted.program;
       parts = says.texts.parts;
       read = says.reads.read;
-      safe = never_fails yes.program yes.graph yes.proof.predicates yes.proof.entries yes.proof.configs
-          (graph_of yes.program yes.graph (readable says.program_text yes.program says.reads.read).signs says.reads.compiled) yes.accepted;
+      safe = never_fails accepted.program accepted.graph accepted.proof.predicates accepted.proof.entries accepted.proof.configs
+          (graph_of accepted.program accepted.graph (readable says.program_text accepted.program says.reads.read).signs says.reads.compiled) accepted.accepted;
     }
 
 pub safe_where_accepted : (left : Option (List ℕ)) (n : ℕ)
