@@ -103,8 +103,33 @@ told g p (Uncovered (Some n) s (Some t)) (Uncovered (Some m) r (Some u)) x y e =
     let same : n ≡ m = cc in let edge : s ≡ r = cc in let thread : t ≡ u = cc in λ i. Uncovered (Some (same i)) (edge i) (Some (thread i))
 told g p (Uncovered (Some n) s None) (Uncovered (Some m) r None) x y e =
     let same : n ≡ m = cc in let edge : s ≡ r = cc in λ i. Uncovered (Some (same i)) (edge i) None
-told g p _ _ x y e =
-    absurd (omega (arith, ap (λ (l : List ℕ). slice_index l 0) e, ap (λ (l : List ℕ). slice_index l 2) e, ap (λ (l : List ℕ). slice_index l 4) e))
+told g p (Predicate n) (Uncovered None r u) x y e = absurd (omega (arith, ap (λ (l : List ℕ). slice_index l 0) e, ap (λ (l : List ℕ). slice_index l 2) e, ap (λ (l : List ℕ). slice_index l 4) e))
+told g p (Uncovered None r u) (Predicate n) x y e = absurd (omega (arith, ap (λ (l : List ℕ). slice_index l 0) e, ap (λ (l : List ℕ). slice_index l 2) e, ap (λ (l : List ℕ). slice_index l 4) e))
+told g p (Predicate n) (Uncovered (Some m) r u) x y e = absurd (omega (arith, ap (λ (l : List ℕ). slice_index l 0) e, ap (λ (l : List ℕ). slice_index l 2) e, ap (λ (l : List ℕ). slice_index l 4) e))
+told g p (Uncovered (Some m) r u) (Predicate n) x y e = absurd (omega (arith, ap (λ (l : List ℕ). slice_index l 0) e, ap (λ (l : List ℕ). slice_index l 2) e, ap (λ (l : List ℕ). slice_index l 4) e))
+told g p (Entry n f) (Uncovered None r u) x y e = absurd (omega (arith, ap (λ (l : List ℕ). slice_index l 0) e, ap (λ (l : List ℕ). slice_index l 2) e, ap (λ (l : List ℕ). slice_index l 4) e))
+told g p (Uncovered None r u) (Entry n f) x y e = absurd (omega (arith, ap (λ (l : List ℕ). slice_index l 0) e, ap (λ (l : List ℕ). slice_index l 2) e, ap (λ (l : List ℕ). slice_index l 4) e))
+told g p (Entry n f) (Uncovered (Some m) r u) x y e = absurd (omega (arith, ap (λ (l : List ℕ). slice_index l 0) e, ap (λ (l : List ℕ). slice_index l 2) e, ap (λ (l : List ℕ). slice_index l 4) e))
+told g p (Uncovered (Some m) r u) (Entry n f) x y e = absurd (omega (arith, ap (λ (l : List ℕ). slice_index l 0) e, ap (λ (l : List ℕ). slice_index l 2) e, ap (λ (l : List ℕ). slice_index l 4) e))
+told g p (ConfigNumber n) (Uncovered None r u) x y e = absurd (omega (arith, ap (λ (l : List ℕ). slice_index l 0) e, ap (λ (l : List ℕ). slice_index l 2) e, ap (λ (l : List ℕ). slice_index l 4) e))
+told g p (Uncovered None r u) (ConfigNumber n) x y e = absurd (omega (arith, ap (λ (l : List ℕ). slice_index l 0) e, ap (λ (l : List ℕ). slice_index l 2) e, ap (λ (l : List ℕ). slice_index l 4) e))
+told g p (ConfigNumber n) (Uncovered (Some m) r u) x y e = absurd (omega (arith, ap (λ (l : List ℕ). slice_index l 0) e, ap (λ (l : List ℕ). slice_index l 2) e, ap (λ (l : List ℕ). slice_index l 4) e))
+told g p (Uncovered (Some m) r u) (ConfigNumber n) x y e = absurd (omega (arith, ap (λ (l : List ℕ). slice_index l 0) e, ap (λ (l : List ℕ). slice_index l 2) e, ap (λ (l : List ℕ). slice_index l 4) e))
+told g p (ConfigThread n) (Uncovered None r u) x y e = absurd (omega (arith, ap (λ (l : List ℕ). slice_index l 0) e, ap (λ (l : List ℕ). slice_index l 2) e, ap (λ (l : List ℕ). slice_index l 4) e))
+told g p (Uncovered None r u) (ConfigThread n) x y e = absurd (omega (arith, ap (λ (l : List ℕ). slice_index l 0) e, ap (λ (l : List ℕ). slice_index l 2) e, ap (λ (l : List ℕ). slice_index l 4) e))
+told g p (ConfigThread n) (Uncovered (Some m) r u) x y e = absurd (omega (arith, ap (λ (l : List ℕ). slice_index l 0) e, ap (λ (l : List ℕ). slice_index l 2) e, ap (λ (l : List ℕ). slice_index l 4) e))
+told g p (Uncovered (Some m) r u) (ConfigThread n) x y e = absurd (omega (arith, ap (λ (l : List ℕ). slice_index l 0) e, ap (λ (l : List ℕ). slice_index l 2) e, ap (λ (l : List ℕ). slice_index l 4) e))
+told g p (Accepting n) (Uncovered None r u) x y e = absurd (omega (arith, ap (λ (l : List ℕ). slice_index l 0) e, ap (λ (l : List ℕ). slice_index l 2) e, ap (λ (l : List ℕ). slice_index l 4) e))
+told g p (Uncovered None r u) (Accepting n) x y e = absurd (omega (arith, ap (λ (l : List ℕ). slice_index l 0) e, ap (λ (l : List ℕ). slice_index l 2) e, ap (λ (l : List ℕ). slice_index l 4) e))
+told g p (Accepting n) (Uncovered (Some m) r u) x y e = absurd (omega (arith, ap (λ (l : List ℕ). slice_index l 0) e, ap (λ (l : List ℕ). slice_index l 2) e, ap (λ (l : List ℕ). slice_index l 4) e))
+told g p (Uncovered (Some m) r u) (Accepting n) x y e = absurd (omega (arith, ap (λ (l : List ℕ). slice_index l 0) e, ap (λ (l : List ℕ). slice_index l 2) e, ap (λ (l : List ℕ). slice_index l 4) e))
+told g p (Uncovered None s t) (Uncovered (Some m) r u) x y e = absurd (omega (arith, ap (λ (l : List ℕ). slice_index l 0) e, ap (λ (l : List ℕ). slice_index l 2) e, ap (λ (l : List ℕ). slice_index l 4) e))
+told g p (Uncovered (Some m) r u) (Uncovered None s t) x y e = absurd (omega (arith, ap (λ (l : List ℕ). slice_index l 0) e, ap (λ (l : List ℕ). slice_index l 2) e, ap (λ (l : List ℕ). slice_index l 4) e))
+told g p (Uncovered None s (Some t)) (Uncovered None r None) x y e = absurd (omega (arith, ap (λ (l : List ℕ). slice_index l 0) e, ap (λ (l : List ℕ). slice_index l 2) e, ap (λ (l : List ℕ). slice_index l 4) e))
+told g p (Uncovered None s None) (Uncovered None r (Some u)) x y e = absurd (omega (arith, ap (λ (l : List ℕ). slice_index l 0) e, ap (λ (l : List ℕ). slice_index l 2) e, ap (λ (l : List ℕ). slice_index l 4) e))
+told g p (Uncovered (Some n) s (Some t)) (Uncovered (Some m) r None) x y e = absurd (omega (arith, ap (λ (l : List ℕ). slice_index l 0) e, ap (λ (l : List ℕ). slice_index l 2) e, ap (λ (l : List ℕ). slice_index l 4) e))
+told g p (Uncovered (Some n) s None) (Uncovered (Some m) r (Some u)) x y e = absurd (omega (arith, ap (λ (l : List ℕ). slice_index l 0) e, ap (λ (l : List ℕ). slice_index l 2) e, ap (λ (l : List ℕ). slice_index l 4) e))
+told g p _ _ x y e = absurd (omega (arith, ap (λ (l : List ℕ). slice_index l 0) e, ap (λ (l : List ℕ). slice_index l 2) e, ap (λ (l : List ℕ). slice_index l 4) e))
 
 -- ---- one answer
 

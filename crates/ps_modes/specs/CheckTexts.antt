@@ -20,6 +20,11 @@ abbrev pub number_or : Option ℕ → List ℕ → List ℕ
 number_or (Some n) word = decimal n
 number_or None word = word
 
+-- that a step back isn't covered
+abbrev pub uncovered_text : List ℕ → ℕ → List ℕ → List ℕ
+uncovered_text config edge thread =
+    codes "config " ++ (config ++ (codes " edge " ++ (decimal edge ++ (codes " thread " ++ (thread ++ codes " is not covered")))))
+
 -- what is wrong with a proof
 abbrev pub check_fault_text : CheckFault → List ℕ
 check_fault_text (Predicate n) = codes "predicate " ++ (decimal n ++ codes ": bad number")
@@ -28,8 +33,7 @@ check_fault_text (ConfigNumber n) = codes "config " ++ (decimal n ++ codes ": ba
 check_fault_text (ConfigThread n) = codes "config " ++ (decimal n ++ codes ": thread twice")
 check_fault_text (Accepting n) = codes "config " ++ (decimal n ++ codes " is accepting")
 check_fault_text (Uncovered config edge thread) =
-    codes "config " ++ (number_or config (codes "start") ++ (codes " edge " ++ (decimal edge
-    ++ (codes " thread " ++ (number_or thread (codes "new") ++ codes " is not covered")))))
+    uncovered_text (number_or config (codes "start")) edge (number_or thread (codes "new"))
 
 -- the line that tells the first fault
 abbrev pub not_accepted_line : CheckFault → List ℕ

@@ -1,7 +1,7 @@
 //! The lines on proofs that aren't accepted.
 ghost use Rattle.std.specs.Prelude.{◌≡◌, string_bytes, IfOk};
 ghost use Rattle.ps_check.specs.declared.fault.CheckFault.TheVariants.{Entry, Uncovered};
-ghost use Rattle.ps_modes.specs.CheckTexts.{check_fault_text, not_accepted_line, number_or};
+ghost use Rattle.ps_modes.specs.CheckTexts.{check_fault_text, not_accepted_line, number_or, uncovered_text};
 
 use ps_check::CheckFault;
 use ps_triple::EntryFault;
@@ -63,9 +63,15 @@ fn step_text(
         ≡ check_fault_text (Uncovered config edge thread)) }
 {
     let config = number_or(alloc, config, "start")?;
-    let config = config.as_str();
     let thread = number_or(alloc, thread, "new")?;
-    let thread = thread.as_str();
+    step_line(alloc, config.as_str(), edge, thread.as_str())
+}
+
+/// That the step back isn't covered, from and by what is named so.
+fn step_line(alloc: Global, config: &str, edge: u32, thread: &str) -> Result<String, AllocError>
+    ensures { IfOk result (λ text. string_bytes text
+        ≡ uncovered_text config.now edge thread.now) }
+{
     format!(in alloc; "config {config} edge {edge} thread {thread} is not covered")
 }
 
