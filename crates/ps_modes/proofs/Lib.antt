@@ -1,6 +1,8 @@
 pub mod Alike
 pub mod Answering
+pub mod Checking
 pub mod FewEdges
+pub mod OneGraph
 pub mod Owing
 pub mod Programs
 pub mod Refusing

@@ -7,4 +7,6 @@ pub mod Refute
 pub mod Programs
 pub mod Parts
 pub mod Replay
+pub mod CheckTexts
+pub mod Check
 pub mod Inner

@@ -2,6 +2,8 @@
 #![tactic(auto)]
 
 mod answer;
+mod check;
+mod check_texts;
 mod frame;
 mod graphs;
 mod input;
@@ -13,6 +15,7 @@ mod replay;
 mod status;
 mod texts;
 
+pub use check::check_run;
 pub use input::MOST_BYTES;
 pub use program::run;
 pub use refute::refute_run;

@@ -1,7 +1,8 @@
 //! The top call: all that the program does, over any source, sink and gate.
-ghost use Rattle.std.specs.Prelude.{◌≡◌, [], ◌∷◌, map, string_bytes};
+ghost use Rattle.std.specs.Prelude.{◌≡◌, [], ◌∷◌, map, string_bytes, IfSome};
 ghost use Rattle.std.specs.Io.KnownBytes.{Appends};
 ghost use Rattle.ps_io.specs.Bytes.{TookPrefix};
+ghost use Rattle.ps_modes.specs.Check.{SaysSafe};
 ghost use Rattle.ps_modes.specs.Modes.{owed_by};
 ghost use Rattle.ps_modes.specs.Promise.{Answers, HasCauses};
 ghost use Rattle.ps_modes.specs.Status.{code, Exactly, IsOneOf};
@@ -9,6 +10,7 @@ ghost use Rattle.ps_modes.specs.declared.status.Status.TheVariants.{Holds, Fails
 ghost use Rattle.ps_words.specs.Asked.{AskFor, AskForNothing};
 ghost use Rattle.ps_words.specs.declared.words.Words.{Words};
 
+use crate::check::check_run;
 use crate::refute::refute_run;
 use crate::replay::replay_run;
 use crate::status::Status;
@@ -50,6 +52,10 @@ where
         → Answers (owed_by asked.mode) (S.left source.old) (K.written sink.old)
         (K.written sink.new) result }
 
+    // Where a proof is accepted, no execution of the program, with any number of threads, fails an assertion.
+    ensures safe { (asked : Words) → AskFor (map string_bytes words.now) asked → asked.mode ≡ Mode.Check
+        → result ≡ code Holds → IfSome (S.left source.old) SaysSafe }
+
     // Faults of the outside, each with its cause, and want of memory.
     ensures causes { HasCauses
         (record {
@@ -71,6 +77,7 @@ where
         Ok(asked) => match asked.mode {
             Mode::Refute => refute_run(alloc, source, sink),
             Mode::Replay => replay_run(alloc, source, sink),
+            Mode::Check => check_run(alloc, source, sink),
         },
         Err(WordsEnd::Refused) => match write_all(sink, USAGE.as_bytes()) {
             Ok(()) => Status::BadWords.code(),

@@ -11,6 +11,9 @@ pub const YES: &str = "yes\n";
 /// The answer no.
 pub const NO: &str = "no\n";
 
+/// The answer to a proof that is accepted.
+pub const ACCEPTED: &str = "accepted\n";
+
 /// Refuses an input of more bytes than may be read.
 pub const TOO_LONG: &str = "input: too long\n";
 

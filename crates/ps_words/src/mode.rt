@@ -9,6 +9,9 @@ pub const REFUTE: &str = "refute";
 /// The word for `replay`.
 pub const REPLAY: &str = "replay";
 
+/// The word for `check`.
+pub const CHECK: &str = "check";
+
 /// A mode that is built.
 #[derive(Clone, Copy)]
 pub enum Mode {
@@ -16,6 +19,8 @@ pub enum Mode {
     Refute,
     /// Whether a witness reaches a failure of a program.
     Replay,
+    /// Whether a proof is accepted for a program.
+    Check,
 }
 
 impl Mode {
@@ -26,6 +31,7 @@ impl Mode {
         match self {
             Mode::Refute => REFUTE,
             Mode::Replay => REPLAY,
+            Mode::Check => CHECK,
         }
     }
 
@@ -39,6 +45,9 @@ impl Mode {
         }
         if name == Mode::Replay.name() {
             return Some(Mode::Replay);
+        }
+        if name == Mode::Check.name() {
+            return Some(Mode::Check);
         }
         None
     }
