@@ -11,7 +11,7 @@ use crate::pipes::{read_whole, takes, write_whole};
 use crate::programs::{printed, printed_again, read};
 use crate::putting::put_parts;
 use crate::reading::take_parts;
-use crate::runs::{over_sink, over_source, over_zeros, refuting, replaying, with_words};
+use crate::runs::{checking, over_sink, over_source, over_zeros, refuting, replaying, with_words};
 use crate::sets::{below, choices, leans, minimal};
 use crate::solving::{eliminated, refuted, solved, walked};
 use crate::terms::{coefficient, negated, next_variable, substituted, sum, tightened};
@@ -33,6 +33,7 @@ pub fn answer<R: Threads + Wait + Sync>(
     match kind {
         "refute" => refuting(rt, alloc, input),
         "replay" => replaying(rt, alloc, input),
+        "check" => checking(rt, alloc, input),
         "words" => with_words(rt, alloc, input),
         "source" => over_source(rt, alloc, input),
         "sink" => over_sink(rt, alloc, input),
