@@ -69,14 +69,14 @@ fn read_pattern(text: &str) -> Result<(Pattern, &str), AllocError> {
 
 // Whether the question can be asked.
 fn is_question(setting: &Setting, predicates: &[Predicate], question: &Question) -> bool
-    ensures { IsTrue result → IsQuestion setting.now predicates.now question.now }
+    ensures { IsTrue result → IsQuestion setting.now predicates.now question.entry.now }
 {
     is_subject(setting, predicates, question) && question.now as usize <= predicates.len()
 }
 
 fn is_subject(setting: &Setting, predicates: &[Predicate], question: &Question) -> bool
-    ensures { IsTrue result → IsSubject setting.now predicates.now question.now.post
-        question.now.command question.now.pattern }
+    ensures { IsTrue result → IsSubject setting.now predicates.now question.entry.now.post
+        question.entry.now.command question.entry.now.pattern }
 {
     if question.post as usize >= predicates.len()
         || question.command as usize >= setting.commands.as_slice().len()
