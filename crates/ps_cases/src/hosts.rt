@@ -16,6 +16,9 @@ pub fn written(alloc: Global, parts: &[u8]) -> Result<Vec<u8>, AllocError> {
     let mut sink = HostSink::new(into.as_mut_slice());
     let mut out = Vec::new(alloc);
     for part in parts.split(|byte| *byte == b';') {
+        if part.is_empty() {
+            return Err(AllocError);
+        }
         match sink.put(part) {
             Ok(count) => put_digits(&mut out, count as u128)?,
             Err(_) => put_word(&mut out, b"failed")?,
