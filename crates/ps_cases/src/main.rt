@@ -5,57 +5,37 @@
 #![tactic(auto)]
 
 mod answers;
-mod asked;
-mod copies;
+mod case;
 mod decimals;
+mod escapes;
 mod forms;
 mod graphs;
-mod hosts;
-mod lists;
-mod numbers;
 mod pipes;
 mod programs;
-mod putting;
-mod reading;
 mod rows;
 mod runs;
 mod sets;
 mod solving;
-mod terms;
-mod token_texts;
+mod tally;
 mod trees;
-mod unspelled;
-mod vectors;
-mod zeros;
+mod words;
 
-use answers::answer;
-use ps_case::{Case, Cases};
-use std::alloc::{AllocError, Global};
+use case::fault;
 use std::io;
-use std::sync::Wait;
-use std::thread::Threads;
-
-fn came<R: Threads + Wait + Sync>(
-    rt: &R,
-    alloc: Global,
-    cases: &Cases,
-    case: &Case<'_>,
-) -> Result<Vec<u8>, AllocError> {
-    let input = cases.input(alloc, case)?;
-    answer(rt, alloc, case.kind, input.as_slice())
-}
+use tally::{Tally, is_case};
 
 fn main(rt: HostRuntime) -> io::Result<()> {
     let alloc = rt.alloc();
-    let mut cases = Cases::new(alloc);
+    let mut tally = Tally::new(alloc);
     for line in rt.lines(alloc) {
         let line = line?;
-        if let Some(case) = cases.take(alloc, line.as_str())? {
-            let came = came(&rt, alloc, &cases, &case);
-            if let Some(fault) = cases.fault(alloc, &case, came)? {
-                println!(rt; "{fault}")?;
-            }
+        if !is_case(line.as_str()) {
+            continue;
+        }
+        tally.note(alloc, line.as_str())?;
+        if let Some(fault) = fault(&rt, alloc, line.as_str())? {
+            println!(rt; "{fault}")?;
         }
     }
-    println!(rt; "{}", cases.tally(alloc)?)
+    println!(rt; "{}", tally.text(alloc)?)
 }

@@ -1,7 +1,7 @@
 //! Sources that are read to their end and sinks that are written to, in pieces and with a call that fails.
-use ps_case::{number_and_rest, word};
-use ps_io::{MemorySink, MemorySource, ReadEnd, Source, read_all, write_all};
-use ps_text::{put_digits, put_word};
+use crate::words::{number_and_rest, word};
+use ps_io::{MemorySink, MemorySource, ReadEnd, read_all, write_all};
+use ps_text::put_word;
 use std::alloc::{AllocError, Global};
 
 /// What comes of a source: the input is the bytes of a call, the limit, the call that fails (0 for none), and the bytes.
@@ -31,35 +31,4 @@ pub fn write_whole(alloc: Global, input: &[u8]) -> Result<Vec<u8>, AllocError> {
     let mut out = word(alloc, if is_written { "all:" } else { "failed:" })?;
     put_word(&mut out, sink.written())?;
     Ok(out)
-}
-
-/// What comes of so many takes of a source into three bytes, and what is left after each: the input is the bytes of a call,
-/// the call that fails (0 for none), the number of takes, and the bytes.
-pub fn takes(alloc: Global, input: &[u8]) -> Result<Vec<u8>, AllocError> {
-    let (piece, rest) = number_and_rest(input)?;
-    let (fails, rest) = number_and_rest(rest)?;
-    let (count, bytes) = number_and_rest(rest)?;
-    let failing = [u64::from(fails)].to_vec(alloc)?;
-    let mut source = MemorySource::new(bytes.to_vec(alloc)?, (piece as usize).max(1), failing);
-    let mut out = Vec::new(alloc);
-    for _ in 0..count {
-        put_take(&mut out, &mut source)?;
-    }
-    Ok(out)
-}
-
-// Bytes that aren't taken stay as they were.
-fn put_take(out: &mut Vec<u8>, source: &mut MemorySource) -> Result<(), AllocError> {
-    let mut into = *b"...";
-    match source.take(&mut into) {
-        Ok(count) => {
-            put_digits(out, count as u128)?;
-            put_word(out, b":")?;
-            put_word(out, &into)?;
-        }
-        Err(_) => put_word(out, b"failed")?,
-    }
-    put_word(out, b" left ")?;
-    put_word(out, source.left())?;
-    put_word(out, b";")
 }

@@ -1,9 +1,8 @@
 //! Whole runs of the program, over sources and sinks in memory. Their answers are the status, `:`, and what was written.
-use crate::zeros::Zeros;
-use ps_case::number_and_rest;
-use ps_io::{MemorySink, MemorySource, OpenGate, Source};
+use crate::words::number_and_rest;
+use ps_io::{MemorySink, MemorySource, OpenGate};
 use ps_modes::run;
-use ps_text::{put_digits, put_word, read_u32};
+use ps_text::{put_digits, put_word};
 use std::alloc::{AllocError, Global};
 use std::string::String;
 use std::sync::Wait;
@@ -42,8 +41,7 @@ fn sink_of(alloc: Global, outside: Outside) -> Result<MemorySink, AllocError> {
     MemorySink::new(alloc, outside.room as usize, piece, failing)
 }
 
-/// The words of a case, which blanks part.
-pub fn words_of(alloc: Global, words: &[u8]) -> Result<Vec<String>, AllocError> {
+fn words_of(alloc: Global, words: &[u8]) -> Result<Vec<String>, AllocError> {
     let words = str::from_utf8(words).ok().ok_or(AllocError)?;
     let mut list = Vec::new(alloc);
     for word in words.split_whitespace() {
@@ -59,20 +57,17 @@ fn run_on<R: Threads + Wait + Sync>(
     outside: Outside,
     input: &[u8],
 ) -> Result<Vec<u8>, AllocError> {
-    let mut source = source_of(alloc, outside, input)?;
-    run_over(rt, alloc, words, &mut source, outside)
-}
-
-fn run_over<R: Threads + Wait + Sync, S: Source>(
-    rt: &R,
-    alloc: Global,
-    words: &[u8],
-    source: &mut S,
-    outside: Outside,
-) -> Result<Vec<u8>, AllocError> {
     let words = words_of(alloc, words)?;
+    let mut source = source_of(alloc, outside, input)?;
     let mut sink = sink_of(alloc, outside)?;
-    let status = run(rt, alloc, words.as_slice(), source, &mut sink, &OpenGate);
+    let status = run(
+        rt,
+        alloc,
+        words.as_slice(),
+        &mut source,
+        &mut sink,
+        &OpenGate,
+    );
     let mut out = Vec::new(alloc);
     put_digits(&mut out, u128::from(status))?;
     put_word(&mut out, b":")?;
@@ -96,15 +91,6 @@ pub fn replaying<R: Threads + Wait + Sync>(
     input: &[u8],
 ) -> Result<Vec<u8>, AllocError> {
     run_on(rt, alloc, b"proofspace replay", CALM, input)
-}
-
-/// The run of the words `proofspace check` on the input.
-pub fn checking<R: Threads + Wait + Sync>(
-    rt: &R,
-    alloc: Global,
-    input: &[u8],
-) -> Result<Vec<u8>, AllocError> {
-    run_on(rt, alloc, b"proofspace check", CALM, input)
 }
 
 /// The run of these words on rows that the program answers with yes.
@@ -148,15 +134,4 @@ pub fn over_sink<R: Threads + Wait + Sync>(
         ..CALM
     };
     run_on(rt, alloc, b"proofspace refute", outside, input)
-}
-
-/// The run of `refute` over so many bytes that are 0.
-pub fn over_zeros<R: Threads + Wait + Sync>(
-    rt: &R,
-    alloc: Global,
-    input: &[u8],
-) -> Result<Vec<u8>, AllocError> {
-    let left = read_u32(input).ok_or(AllocError)? as usize;
-    let mut source = Zeros { left };
-    run_over(rt, alloc, b"proofspace refute", &mut source, CALM)
 }

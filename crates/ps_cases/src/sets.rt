@@ -1,9 +1,9 @@
 //! Minimal hitting sets, and what falls when nodes are withdrawn.
-use ps_case::{number_and_rest, word};
+use crate::words::{number_and_rest, word};
 use ps_drop::{Pair, descendants, leaning};
 use ps_hit::{Hits, minimal_hits};
 use ps_list::Sequence;
-use ps_text::{put_digits, put_natural, put_word, read_u32};
+use ps_text::{put_digits, put_natural, put_word};
 use std::alloc::{AllocError, Global};
 
 /// The minimal hitting sets of sets of digits, each of which ends with a semicolon, by a copy: the input is how many there may
@@ -45,21 +45,6 @@ fn shown_lists(alloc: Global, lists: &[Sequence<u32>]) -> Result<Vec<u8>, AllocE
         put_word(&mut text, b";")?;
     }
     Ok(text)
-}
-
-/// How many minimal hitting sets there are of so many pairs, of which each choice of one number a pair is one, or that there
-/// are too many: the input is the number of pairs, 16 at the most, and how many there may be.
-pub fn choices(alloc: Global, input: &[u8]) -> Result<Vec<u8>, AllocError> {
-    let (count, most) = number_and_rest(input)?;
-    let most = read_u32(most).ok_or(AllocError)?;
-    let mut pairs = Vec::new(alloc);
-    for pair in 0..count.min(16) {
-        pairs.push(Vec::from_slice(alloc, &[2 * pair, 2 * pair + 1])?)?;
-    }
-    match minimal_hits(alloc, pairs.as_slice(), most)? {
-        Hits::All(lists) => Ok(format!(in alloc; "{}", lists.into_list().len())?.into_bytes()),
-        Hits::TooMany => word(alloc, "too many"),
-    }
 }
 
 /// A node and all below it: the input is the node, and pairs `CHILD-PARENT`.

@@ -1,6 +1,6 @@
 //! Rows that are refuted, eliminated and walked back.
 use crate::rows::{reader_of, take_rows};
-use ps_case::word;
+use crate::words::word;
 use ps_elim::{Elim, Stage, eliminate, has_few_variables};
 use ps_farkas::refutes;
 use ps_list::Sequence;
@@ -32,8 +32,7 @@ pub fn eliminated(alloc: Global, input: &[u8]) -> Result<Vec<u8>, AllocError> {
     shown(alloc, &answer.copy(alloc)?)
 }
 
-/// What the elimination of the rows comes to.
-pub fn elimination_of(alloc: Global, rows: &[Row]) -> Result<Elim, AllocError> {
+fn elimination_of(alloc: Global, rows: &[Row]) -> Result<Elim, AllocError> {
     if rows.len() > 1_000 || !has_few_variables(rows) {
         return Err(AllocError);
     }
