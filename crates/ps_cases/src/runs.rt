@@ -93,6 +93,15 @@ pub fn replaying<R: Threads + Wait + Sync>(
     run_on(rt, alloc, b"proofspace replay", CALM, input)
 }
 
+/// The run of the words `proofspace check` on the input.
+pub fn checking<R: Threads + Wait + Sync>(
+    rt: &R,
+    alloc: Global,
+    input: &[u8],
+) -> Result<Vec<u8>, AllocError> {
+    run_on(rt, alloc, b"proofspace check", CALM, input)
+}
+
 /// The run of these words on rows that the program answers with yes.
 pub fn with_words<R: Threads + Wait + Sync>(
     rt: &R,
