@@ -1,15 +1,7 @@
 -- An input that isn't too long owes `check` one answer.
-use Rattle.std.proofs.Common.{◌≡◌, ℕ, ◌<◌, List, Result, Ok, Err, Option, Some, None, IfSome, refl, sym, ap, ◌∙◌, subst, arith}
-use Rattle.std.specs.Prelude.{slice_get, slice_index}
-use Rattle.std.specs.Cmp.Lexicographic.{slice_cmp}
-use Rattle.std.specs.FinMap.{nat_cmp-IsAntisymmetric, slice_cmp-IsAntisymmetric}
-use Rattle.std.specs.Ordering.{nat_cmp, ordering_reverse}
-use Rattle.std.specs.declared.cmp.Ordering.{Ordering}
-use Rattle.std.specs.declared.cmp.Ordering.TheVariants.{Less, Equal, Greater}
-use Rattle.std.proofs.lemmas.Cmp.{nat_list_cmp_total}
-use Rattle.ps_check.specs.Faults.{HasFault, IsFirstFault, fault_order, table_of}
+use Rattle.std.proofs.Common.{◌≡◌, ℕ, ◌<◌, List, [], ◌∷◌, ◌⊎◌, Contains, Result, inl, inr, Ok, Err, Option, Some, None, IfSome, refl, sym, ap, ◌∙◌, subst, arith, lit<}
+use Rattle.ps_check.proofs.Single.{one_first}
 use Rattle.ps_check.specs.declared.fault.CheckFault.{CheckFault}
-use Rattle.ps_check.specs.declared.fault.CheckFault.TheVariants.{Predicate, Entry, ConfigNumber, ConfigThread, Accepting, Uncovered}
 use Rattle.ps_compile.proofs.Meets.{graph_of}
 use Rattle.ps_compile.proofs.Readable.{readable}
 use Rattle.ps_compile.specs.Compiled.{IsCompiled}
@@ -25,10 +17,6 @@ use Rattle.ps_lines.specs.declared.form_fault.FormFault.{FormFault}
 use Rattle.ps_parts.specs.declared.parts.TheConstants.{MOST_PROOF}
 use Rattle.ps_soundness.proofs.Safe.{accepted_text as never_fails}
 use Rattle.ps_tree.specs.declared.program.Program.{Program}
-use Rattle.ps_triple.proofs.Worth.{one_fault}
-use Rattle.ps_triple.specs.Faults.{IsFirstEntryFault}
-use Rattle.ps_triple.specs.declared.entry.Entry.{Entry as AnEntry}
-use Rattle.ps_triple.specs.declared.entry_end.EntryFault.{EntryFault}
 use Rattle.ps_modes.proofs.OneGraph.{one_graph}
 use Rattle.ps_modes.proofs.Two as two
 use Rattle.ps_modes.specs.Check.{Accepted, FirstFault, NotOfForm, Owed, OwedOf, OwedToProof, Proves, Refused, SaysAccepted, SaysFault, SaysSafe, SpellsProof}
@@ -40,20 +28,6 @@ use Rattle.ps_modes.specs.Texts.{fault_line}
 use Rattle.ps_modes.specs.declared.status.Status.{Status}
 use Rattle.ps_modes.specs.declared.status.Status.TheVariants.{Holds, Fails, Unknown, BadInput, BadWords, ReadFault, WriteFault, NoMemory}
 use Rattle.ps_modes.specs.declared.texts.TheConstants.{ACCEPTED}
-
--- ---- first faults
-
--- of two faults of a proof, one is first
-first_once : (g : Graph) (p : Proof) (a b : CheckFault) → IsFirstFault g p a → IsFirstFault g p b
-    → (fault_order a ≡ fault_order b → a ≡ b) → a ≡ b
-first_once g p a b x y told = go (slice_cmp nat_cmp (fault_order a) (fault_order b)) refl
-  where
-    go : (o : Ordering) → slice_cmp nat_cmp (fault_order a) (fault_order b) ≡ o → a ≡ b
-    go Less less = absurd (y.1 a less x.0)
-    go Equal same = told (slice_cmp-IsAntisymmetric nat_cmp-IsAntisymmetric (fault_order a) (fault_order b) same)
-    go Greater more =
-        let less = nat_list_cmp_total.antisymm (fault_order b) (fault_order a) ∙ ap ordering_reverse more in
-        absurd (x.1 b less y.0)
 
 -- ---- proofs as texts
 
@@ -81,56 +55,6 @@ faulty fault = Err fault
 err_is : (v w : FormFault) → faulty v ≡ faulty w → v ≡ w
 err_is v w e = cc
 
--- ---- faults of one place
-
-some_is : {X : Type 0} (x y : X) → Some x ≡ Some y → x ≡ y
-some_is x y e = cc
-
--- faults that stand at one place in the order are one
-told : (g : Graph) (p : Proof) (a b : CheckFault) → HasFault g p a → HasFault g p b → fault_order a ≡ fault_order b → a ≡ b
-told g p (Predicate n) (Predicate m) x y e = let same : n ≡ m = cc in ap Predicate same
-told g p (Entry n f) (Entry m k) x y e =
-    let same : n ≡ m = cc in
-    let entry : x.0 ≡ y.0 = some_is x.0 y.0 (sym x.1 ∙ ap (slice_get p.entries) same ∙ y.1) in
-    let fault : f ≡ k = one_fault g.setting (table_of p) y.0 f k (subst (λ (w : AnEntry). IsFirstEntryFault g.setting (table_of p) w f) entry x.2) y.2 in
-    λ i. Entry (same i) (fault i)
-told g p (ConfigNumber n) (ConfigNumber m) x y e = let same : n ≡ m = cc in ap ConfigNumber same
-told g p (ConfigThread n) (ConfigThread m) x y e = let same : n ≡ m = cc in ap ConfigThread same
-told g p (Accepting n) (Accepting m) x y e = let same : n ≡ m = cc in ap Accepting same
-told g p (Uncovered None s (Some t)) (Uncovered None r (Some u)) x y e = let edge : s ≡ r = cc in let thread : t ≡ u = cc in λ i. Uncovered None (edge i) (Some (thread i))
-told g p (Uncovered None s None) (Uncovered None r None) x y e = let edge : s ≡ r = cc in λ i. Uncovered None (edge i) None
-told g p (Uncovered (Some n) s (Some t)) (Uncovered (Some m) r (Some u)) x y e =
-    let same : n ≡ m = cc in let edge : s ≡ r = cc in let thread : t ≡ u = cc in λ i. Uncovered (Some (same i)) (edge i) (Some (thread i))
-told g p (Uncovered (Some n) s None) (Uncovered (Some m) r None) x y e =
-    let same : n ≡ m = cc in let edge : s ≡ r = cc in λ i. Uncovered (Some (same i)) (edge i) None
-told g p (Predicate n) (Uncovered None r u) x y e = absurd (omega (arith, ap (λ (l : List ℕ). slice_index l 0) e, ap (λ (l : List ℕ). slice_index l 2) e, ap (λ (l : List ℕ). slice_index l 4) e))
-told g p (Uncovered None r u) (Predicate n) x y e = absurd (omega (arith, ap (λ (l : List ℕ). slice_index l 0) e, ap (λ (l : List ℕ). slice_index l 2) e, ap (λ (l : List ℕ). slice_index l 4) e))
-told g p (Predicate n) (Uncovered (Some m) r u) x y e = absurd (omega (arith, ap (λ (l : List ℕ). slice_index l 0) e, ap (λ (l : List ℕ). slice_index l 2) e, ap (λ (l : List ℕ). slice_index l 4) e))
-told g p (Uncovered (Some m) r u) (Predicate n) x y e = absurd (omega (arith, ap (λ (l : List ℕ). slice_index l 0) e, ap (λ (l : List ℕ). slice_index l 2) e, ap (λ (l : List ℕ). slice_index l 4) e))
-told g p (Entry n f) (Uncovered None r u) x y e = absurd (omega (arith, ap (λ (l : List ℕ). slice_index l 0) e, ap (λ (l : List ℕ). slice_index l 2) e, ap (λ (l : List ℕ). slice_index l 4) e))
-told g p (Uncovered None r u) (Entry n f) x y e = absurd (omega (arith, ap (λ (l : List ℕ). slice_index l 0) e, ap (λ (l : List ℕ). slice_index l 2) e, ap (λ (l : List ℕ). slice_index l 4) e))
-told g p (Entry n f) (Uncovered (Some m) r u) x y e = absurd (omega (arith, ap (λ (l : List ℕ). slice_index l 0) e, ap (λ (l : List ℕ). slice_index l 2) e, ap (λ (l : List ℕ). slice_index l 4) e))
-told g p (Uncovered (Some m) r u) (Entry n f) x y e = absurd (omega (arith, ap (λ (l : List ℕ). slice_index l 0) e, ap (λ (l : List ℕ). slice_index l 2) e, ap (λ (l : List ℕ). slice_index l 4) e))
-told g p (ConfigNumber n) (Uncovered None r u) x y e = absurd (omega (arith, ap (λ (l : List ℕ). slice_index l 0) e, ap (λ (l : List ℕ). slice_index l 2) e, ap (λ (l : List ℕ). slice_index l 4) e))
-told g p (Uncovered None r u) (ConfigNumber n) x y e = absurd (omega (arith, ap (λ (l : List ℕ). slice_index l 0) e, ap (λ (l : List ℕ). slice_index l 2) e, ap (λ (l : List ℕ). slice_index l 4) e))
-told g p (ConfigNumber n) (Uncovered (Some m) r u) x y e = absurd (omega (arith, ap (λ (l : List ℕ). slice_index l 0) e, ap (λ (l : List ℕ). slice_index l 2) e, ap (λ (l : List ℕ). slice_index l 4) e))
-told g p (Uncovered (Some m) r u) (ConfigNumber n) x y e = absurd (omega (arith, ap (λ (l : List ℕ). slice_index l 0) e, ap (λ (l : List ℕ). slice_index l 2) e, ap (λ (l : List ℕ). slice_index l 4) e))
-told g p (ConfigThread n) (Uncovered None r u) x y e = absurd (omega (arith, ap (λ (l : List ℕ). slice_index l 0) e, ap (λ (l : List ℕ). slice_index l 2) e, ap (λ (l : List ℕ). slice_index l 4) e))
-told g p (Uncovered None r u) (ConfigThread n) x y e = absurd (omega (arith, ap (λ (l : List ℕ). slice_index l 0) e, ap (λ (l : List ℕ). slice_index l 2) e, ap (λ (l : List ℕ). slice_index l 4) e))
-told g p (ConfigThread n) (Uncovered (Some m) r u) x y e = absurd (omega (arith, ap (λ (l : List ℕ). slice_index l 0) e, ap (λ (l : List ℕ). slice_index l 2) e, ap (λ (l : List ℕ). slice_index l 4) e))
-told g p (Uncovered (Some m) r u) (ConfigThread n) x y e = absurd (omega (arith, ap (λ (l : List ℕ). slice_index l 0) e, ap (λ (l : List ℕ). slice_index l 2) e, ap (λ (l : List ℕ). slice_index l 4) e))
-told g p (Accepting n) (Uncovered None r u) x y e = absurd (omega (arith, ap (λ (l : List ℕ). slice_index l 0) e, ap (λ (l : List ℕ). slice_index l 2) e, ap (λ (l : List ℕ). slice_index l 4) e))
-told g p (Uncovered None r u) (Accepting n) x y e = absurd (omega (arith, ap (λ (l : List ℕ). slice_index l 0) e, ap (λ (l : List ℕ). slice_index l 2) e, ap (λ (l : List ℕ). slice_index l 4) e))
-told g p (Accepting n) (Uncovered (Some m) r u) x y e = absurd (omega (arith, ap (λ (l : List ℕ). slice_index l 0) e, ap (λ (l : List ℕ). slice_index l 2) e, ap (λ (l : List ℕ). slice_index l 4) e))
-told g p (Uncovered (Some m) r u) (Accepting n) x y e = absurd (omega (arith, ap (λ (l : List ℕ). slice_index l 0) e, ap (λ (l : List ℕ). slice_index l 2) e, ap (λ (l : List ℕ). slice_index l 4) e))
-told g p (Uncovered None s t) (Uncovered (Some m) r u) x y e = absurd (omega (arith, ap (λ (l : List ℕ). slice_index l 0) e, ap (λ (l : List ℕ). slice_index l 2) e, ap (λ (l : List ℕ). slice_index l 4) e))
-told g p (Uncovered (Some m) r u) (Uncovered None s t) x y e = absurd (omega (arith, ap (λ (l : List ℕ). slice_index l 0) e, ap (λ (l : List ℕ). slice_index l 2) e, ap (λ (l : List ℕ). slice_index l 4) e))
-told g p (Uncovered None s (Some t)) (Uncovered None r None) x y e = absurd (omega (arith, ap (λ (l : List ℕ). slice_index l 0) e, ap (λ (l : List ℕ). slice_index l 2) e, ap (λ (l : List ℕ). slice_index l 4) e))
-told g p (Uncovered None s None) (Uncovered None r (Some u)) x y e = absurd (omega (arith, ap (λ (l : List ℕ). slice_index l 0) e, ap (λ (l : List ℕ). slice_index l 2) e, ap (λ (l : List ℕ). slice_index l 4) e))
-told g p (Uncovered (Some n) s (Some t)) (Uncovered (Some m) r None) x y e = absurd (omega (arith, ap (λ (l : List ℕ). slice_index l 0) e, ap (λ (l : List ℕ). slice_index l 2) e, ap (λ (l : List ℕ). slice_index l 4) e))
-told g p (Uncovered (Some n) s None) (Uncovered (Some m) r (Some u)) x y e = absurd (omega (arith, ap (λ (l : List ℕ). slice_index l 0) e, ap (λ (l : List ℕ). slice_index l 2) e, ap (λ (l : List ℕ). slice_index l 4) e))
-told g p _ _ x y e = absurd (omega (arith, ap (λ (l : List ℕ). slice_index l 0) e, ap (λ (l : List ℕ). slice_index l 2) e, ap (λ (l : List ℕ). slice_index l 4) e))
-
 -- ---- one answer
 
 one_of : (g : Graph) (p : Proof) (s t : Status) (x y : List ℕ) → OwedOf g p s x → OwedOf g p t y → (s ≡ t) × (x ≡ y)
@@ -139,7 +63,7 @@ one_of g p s t x y (Accepted accepts _ _) (Refused _ refused _ _ _) = absurd (re
 one_of g p s t x y (Refused _ refused _ _ _) (Accepted accepts _ _) = absurd (refused accepts)
 one_of g p s t x y (Refused a _ first e f) (Refused b _ other d c) = (
   e ∙ sym d,
-  f ∙ ap not_accepted_line (first_once g p a b first other (told g p a b first.0 other.0)) ∙ sym c,
+  f ∙ ap not_accepted_line (one_first g p a b first other) ∙ sym c,
 )
 
 pub one_to_proof : (p : Program) (g h : Graph) (bytes : List ℕ) (line : ℕ) → IsCompiled p g → IsCompiled p h → (s t : Status) (x y : List ℕ)
@@ -206,6 +130,26 @@ fault_said input text (Within short (Parts p w line texts (Programs q g says (Pr
     f,
   ),
 )
+
+status_of : (input : List ℕ) (status : Status) (text : List ℕ) → Owed input status text → (status ≡ Holds) ⊎ ((status ≡ Fails) ⊎ (status ≡ BadInput))
+status_of input status text (NoMark _ is _) = inr (inr is)
+status_of input status text (LongPart _ is _) = inr (inr is)
+status_of input status text (Parts p w line texts (NoProgram _ is)) = inr (inr is)
+status_of input status text (Parts p w line texts (Programs q g says (NotOfForm _ _ is _))) = inr (inr is)
+status_of input status text (Parts p w line texts (Programs q g says (Proves v spells (Accepted _ is _)))) = inl is
+status_of input status text (Parts p w line texts (Programs q g says (Proves v spells (Refused _ _ _ is _)))) = inr (inl is)
+
+pub statuses_owed : (input : List ℕ) (status : Status) (text : List ℕ) → Owes Owed input status text
+    → Contains (Holds ∷ Fails ∷ BadInput ∷ []) status
+statuses_owed input status text (TooLong _ is _) = rw is (2, lit< tt, refl)
+statuses_owed input status text (Within short owed) =
+    elim (status_of input status text owed) [
+      | inl e ↦ rw e (0, lit< tt, refl)
+      | inr other ↦ elim other [
+        | inl e ↦ rw e (1, lit< tt, refl)
+        | inr e ↦ rw e (2, lit< tt, refl)
+      ]
+    ]
 
 pub accepted_owed : (input text : List ℕ) → (IsShort input × SaysAccepted input) × (text ≡ ACCEPTED.now) → Owes Owed input Holds text
 accepted_owed input text is =

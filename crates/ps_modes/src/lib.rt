@@ -14,6 +14,7 @@ mod refute;
 mod replay;
 mod status;
 mod texts;
+pub mod worked;
 
 pub use check::check_run;
 pub use input::MOST_BYTES;
