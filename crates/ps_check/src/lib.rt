@@ -9,10 +9,12 @@ mod covered;
 mod covering;
 mod entries;
 mod fault;
+mod holding;
 mod judgement;
 pub mod laws;
 mod steps;
 
 pub use checked::check;
 pub use fault::CheckFault;
+pub use holding::do_entries_hold;
 pub use judgement::Judgement;
