@@ -1,6 +1,7 @@
 //! Facts about what inputs are owed, which readers and callers cite: each function does no
 //! work, and its clause is the fact.
 ghost use Rattle.std.specs.Prelude.{◌≡◌, ◌↔◌, ℕ, ◌<◌, List, [], ◌∷◌, length, Contains};
+ghost use Rattle.ps_modes.specs.Member.{SaysProved, SaysUnproved};
 ghost use Rattle.ps_modes.specs.Modes.{owed_by};
 ghost use Rattle.ps_modes.specs.Owes.{IsShort, Owes};
 ghost use Rattle.ps_modes.specs.Refute.{SaysYes, SaysNo};
@@ -10,7 +11,7 @@ ghost use Rattle.ps_modes.specs.declared.status.Status.{Status};
 ghost use Rattle.ps_modes.specs.declared.status.Status.TheVariants.{Holds, Fails, BadInput};
 ghost use Rattle.ps_modes.specs.declared.texts.TheConstants.{NO, TOO_LONG, YES};
 ghost use Rattle.ps_words.specs.declared.mode.Mode.{Mode};
-ghost use Rattle.ps_words.specs.declared.mode.Mode.TheVariants.{Refute, Replay};
+ghost use Rattle.ps_words.specs.declared.mode.Mode.TheVariants.{Refute, Replay, Member};
 
 /// An input is owed one status and one text at most, whatever the mode.
 pub fn one_answer_is_owed()
@@ -48,5 +49,18 @@ pub fn replay_owes()
         ↔ ((IsShort input × SaysUnreached input) × (text ≡ NO.now))) }
     ensures statuses { (input : List ℕ) (status : Status) (text : List ℕ)
         → Owes (owed_by Replay) input status text
+        → Contains (Holds ∷ Fails ∷ BadInput ∷ []) status }
+{}
+
+/// `member` owes `yes` exactly where the input says so, `no` likewise, and beside them a refusal alone.
+pub fn member_owes()
+    ensures yes { (input text : List ℕ)
+        → (Owes (owed_by Member) input Holds text
+        ↔ ((IsShort input × SaysProved input) × (text ≡ YES.now))) }
+    ensures no { (input text : List ℕ)
+        → (Owes (owed_by Member) input Fails text
+        ↔ ((IsShort input × SaysUnproved input) × (text ≡ NO.now))) }
+    ensures statuses { (input : List ℕ) (status : Status) (text : List ℕ)
+        → Owes (owed_by Member) input status text
         → Contains (Holds ∷ Fails ∷ BadInput ∷ []) status }
 {}
