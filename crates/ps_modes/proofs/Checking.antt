@@ -28,7 +28,6 @@ use Rattle.ps_tree.specs.declared.program.Program.{Program}
 use Rattle.ps_triple.proofs.Worth.{one_fault}
 use Rattle.ps_triple.specs.Faults.{IsFirstEntryFault}
 use Rattle.ps_triple.specs.declared.entry.Entry.{Entry as AnEntry}
-use Rattle.ps_triple.specs.declared.entry_end.EntryFault.{EntryFault}
 use Rattle.ps_modes.proofs.OneGraph.{one_graph}
 use Rattle.ps_modes.proofs.Two as two
 use Rattle.ps_modes.specs.Check.{Accepted, FirstFault, NotOfForm, Owed, OwedOf, OwedToProof, Proves, Refused, SaysAccepted, SaysFault, SaysSafe, SpellsProof}

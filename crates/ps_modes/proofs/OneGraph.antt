@@ -1,5 +1,5 @@
 -- A program has one graph: what isn't told by equations of its definition follows, and facts have one proof.
-use Rattle.std.proofs.Common.{◌≡◌, ◌∙◌, Bool, List, true, sym, refl}
+use Rattle.std.proofs.Common.{◌≡◌, ◌∙◌, Bool, List, true, sym}
 use Rattle.std.proofs.Math.Bool.{Bool-set}
 use Rattle.std.specs.List.{list_all}
 use Rattle.std.specs.Prelude.{IsTrue}
@@ -8,15 +8,12 @@ use mathlib.Core.Logic.{∥∥₁_prop}
 use mathlib.Core.Path.{PathP, contract'}
 use Rattle.ps_command.specs.Commands.{forms_of}
 use Rattle.ps_command.specs.Named.{is_declared_command, is_declared_row, names_local}
-use Rattle.ps_command.specs.declared.command.Command.{Command}
 use Rattle.ps_command.specs.declared.setting.Setting.{Setting}
 use Rattle.ps_command.specs.declared.symbolic_form.SymbolicForm.{SymbolicForm}
 use Rattle.ps_compile.proofs.Determined.{commands_are_one, edges_are_one}
 use Rattle.ps_compile.specs.Compiled.{IsCompiled}
 use Rattle.ps_graph.specs.Facts.{IsDeterministic, entries_owned, error_is_final, names_exist, picks_fit, stay_in_bodies}
-use Rattle.ps_graph.specs.declared.edge.Edge.{Edge}
 use Rattle.ps_graph.specs.declared.graph.Graph.{Graph}
-use Rattle.ps_term.specs.declared.row.Row.{Row}
 use Rattle.ps_tree.specs.declared.program.Program.{Program}
 
 -- a test that computes along a path holds in one way

@@ -2,7 +2,6 @@
 use Rattle.std.proofs.Common.{◌≡◌, ℕ, ◌<◌, ◌↔◌, Bool, IsTrue, List, [], ◌∷◌, length, All, Contains, Result, Ok, Err, Option, Some, None, IfSome, refl, sym, ap, ◌∙◌, subst, arith, lit<}
 use Rattle.ps_basis.specs.Space.{IsProved}
 use Rattle.ps_check.specs.Faults.{DoEntriesHold}
-use Rattle.ps_compile.specs.Compiled.{IsCompiled}
 use Rattle.ps_demand.specs.Demands.{AreTied}
 use Rattle.ps_file.specs.declared.proof.Proof.{Proof}
 use Rattle.ps_graph.specs.declared.graph.Graph.{Graph}

@@ -1,8 +1,8 @@
 -- An input of three parts owes one answer, where the program and the other two texts do.
-use Rattle.std.proofs.Common.{◌≡◌, ℕ, ◌+◌, ◌<◌, ◌≤◌, ◌^◌, ◌⊎◌, inl, inr, List, ◌++◌, length, sym, ap, ap₂, ◌∙◌, subst, arith, length-append}
+use Rattle.std.proofs.Common.{◌≡◌, ℕ, ◌<◌, ◌≤◌, ◌⊎◌, inl, inr, List, ◌++◌, length, sym, ap, ap₂, ◌∙◌, subst, arith, length-append}
 use Rattle.ps_graph.specs.declared.graph.Graph.{Graph}
 use Rattle.ps_parts.proofs.Marks.{one_cut}
-use Rattle.ps_parts.specs.Cuts.{AreThreeParts, AreTwoParts, HasNoMark, IsCut, IsNumbered}
+use Rattle.ps_parts.specs.Cuts.{AreThreeParts, HasNoMark, IsCut, IsNumbered}
 use Rattle.ps_parts.specs.declared.mark.TheConstants.{MARK}
 use Rattle.ps_parts.specs.declared.parts.TheConstants.{MOST_PROGRAM}
 use Rattle.ps_tree.specs.declared.program.Program.{Program}

@@ -1,7 +1,6 @@
 -- The judgement settles what the proof owes.
 use Rattle.std.proofs.Common.{◌≡◌, ◌∙◌, refl, subst, sym}
 use Rattle.ps_check.specs.Faults.{IfRefused, IsFirstFault}
-use Rattle.ps_check.specs.declared.judgement.Judgement.{Judgement}
 use Rattle.ps_check.specs.declared.judgement.Judgement.TheVariants as judgement
 use Rattle.ps_trace.proofs.Results.{both_ok}
 use Rattle.ps_modes.specs.Check.{Accepted, Refused}

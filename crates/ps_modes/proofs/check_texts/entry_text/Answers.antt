@@ -1,6 +1,4 @@
 -- The longer texts.
-use Rattle.std.proofs.lemmas.Grind.{common_steps}
-use Rattle.std.proofs.Common.{arith, rules}
 use Rattle.ps_modes.proofs.check_texts.entry_text.Goals as goal
 
 pub returns-in-Past128 : goal.returns-in-Past128
