@@ -2,6 +2,7 @@
 #![tactic(auto)]
 
 mod branches;
+mod candidates;
 mod checked;
 mod configs;
 mod counted;
@@ -11,6 +12,9 @@ mod entries;
 mod fault;
 mod judgement;
 pub mod laws;
+mod listed;
+mod located;
+mod starts;
 mod steps;
 
 pub use checked::check;
