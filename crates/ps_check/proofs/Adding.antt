@@ -1,12 +1,12 @@
 -- Branches that are added, and atoms that are compared.
-use Rattle.std.proofs.Common.{◌≡◌, ◌<◌, ◌≤◌, ◌+◌, ℕ, Bool, true, List, [], ◌∷◌, ◌++◌, length, map, get_or, take, refl, sym, ap, subst, ◌∙◌, inl, inr, ◌⊎◌, Contains, Option, Some, Global, append_assoc, length-append, arith}
+use Rattle.std.proofs.Common.{◌≡◌, ◌<◌, ◌≤◌, ◌+◌, ℕ, Bool, true, List, [], ◌∷◌, ◌++◌, length, get_or, take, refl, sym, ap, subst, ◌∙◌, inl, inr, Option, Some, Global, append_assoc, length-append, arith}
 use Rattle.std.specs.Prelude.{slice_get, option_map}
 use Rattle.std.specs.Ordering.{is_eq, ordering_then}
 use Rattle.std.specs.declared.cmp.Ordering.{Ordering}
 use Rattle.std.specs.declared.cmp.Ordering.TheVariants.{Less, Equal, Greater}
 use Rattle.std.specs.declared.vec.Vec.{Vec}
 use Rattle.std.proofs.lemmas.List.{append-nil, length-map, take_all, take_more}
-use Rattle.std.proofs.lemmas.List.Elements.{Contains-append_cases, Contains-append_left, Contains-push, Contains-push_cases}
+use Rattle.std.proofs.lemmas.List.Elements.{Contains-append_left, Contains-push, Contains-push_cases}
 use Rattle.std.proofs.lemmas.Bool.{cases_lt}
 use Rattle.std.proofs.lemmas.Option.{same_Some, slice_get-map, slice_get_read, slice_get_within}
 use Rattle.ps_atom.specs.Atoms.{atom_cmp}
@@ -48,10 +48,10 @@ adds_more chosen some next atom b old mid new a is has at = record {
 }
 
 -- the set of a place as a list
-pub list_at : (sets : List (Vec Atom Global)) (n : ℕ) (v : Vec Atom Global) (slice : List Atom) → n < length sets → v ≡ get_or sets n v → slice ≡ v.items → slice_get (lists_of sets) n ≡ Some slice
-list_at sets n v slice inside is viewed =
-    slice_get-map (λ (set : Vec Atom Global). set.items) sets n
-    ∙ (ap (option_map (λ (set : Vec Atom Global). set.items)) (slice_get_read sets (length sets) n v refl inside is) ∙ ap (λ (qs : List Atom). let o : Option (List Atom) = Some qs in o) (sym viewed))
+pub list_at : {X : Type 0} (sets : List (Vec X Global)) (n : ℕ) (v : Vec X Global) (slice : List X) → n < length sets → v ≡ get_or sets n v → slice ≡ v.items → slice_get (lists_of sets) n ≡ Some slice
+list_at {X} sets n v slice inside is viewed =
+    slice_get-map (λ (set : Vec X Global). set.items) sets n
+    ∙ (ap (option_map (λ (set : Vec X Global). set.items)) (slice_get_read sets (length sets) n v refl inside is) ∙ ap (λ (qs : List X). let o : Option (List X) = Some qs in o) (sym viewed))
 
 -- ---- atoms that compare equal are one
 

@@ -1,27 +1,24 @@
 -- The first fault, by kinds of faults.
-use Rattle.std.proofs.Common.{◌≡◌, ◌≢◌, ◌<◌, ◌≤◌, ◌+◌, ℕ, zero, suc, List, [], ◌∷◌, refl, sym, subst, ◌∙◌, inl, inr, ◌⊎◌, Contains, Option, Some, None, arith}
+use Rattle.std.proofs.Common.{◌≡◌, ◌<◌, ℕ, zero, suc, List, [], ◌∷◌, refl, sym, subst, ◌∙◌, inl, inr, ◌⊎◌, Contains, Option, Some, None, arith}
 use Rattle.std.specs.Prelude.{slice_get}
-use Rattle.std.specs.Cmp.Lexicographic.{slice_cmp}
-use Rattle.std.specs.Ordering.{nat_cmp}
-use Rattle.std.specs.declared.cmp.Ordering.TheVariants.{Less}
 use Rattle.std.proofs.lemmas.List.Elements.{All-nil}
 use Rattle.std.proofs.lemmas.Option.{same_Some}
 use Rattle.ps_atom.specs.Numbers.{false_predicate}
 use Rattle.ps_atom.specs.Range.{IsDeclared, IsInRange}
 use Rattle.ps_atom.specs.declared.predicate.Predicate.{Predicate as APredicate}
-use Rattle.ps_check.specs.Faults.{HasFault, HasNumbers, HasThreadsApart, HasUncovered, IsBefore, IsFirstFault, IsSource, fault_order, step_order, table_of}
+use Rattle.ps_check.specs.Faults.{HasFault, HasNumbers, HasThreadsApart, HasUncovered, IsFirstFault, fault_order, step_order, table_of}
 use Rattle.ps_check.specs.declared.fault.CheckFault.{CheckFault}
 use Rattle.ps_check.specs.declared.fault.CheckFault.TheVariants.{Predicate, Entry, ConfigNumber, ConfigThread, Accepting, Uncovered}
 use Rattle.ps_check.specs.declared.judgement.Judgement.TheVariants.{Accepted, Refused}
 use Rattle.ps_check.specs.declared.steps.Step.{Step}
 use Rattle.ps_check.specs.inner.Stages.{AreAllCovered, AreClosedBefore, AreInRange, AreNamed, DoHold, IsClosedAt, IsFirstUncovered, IsStartCovered}
 use Rattle.ps_check.proofs.Below.{Below, below_is, is_below, last_below, not_below, rest_below}
-use Rattle.ps_check.proofs.Before.{AreBefore, at_place_in, place_in}
+use Rattle.ps_check.proofs.Before.{AreBefore, at_place_in}
 use Rattle.ps_config.specs.Configurations.{Configuration}
 use Rattle.ps_config.specs.Forms.{start_configuration}
 use Rattle.ps_file.specs.declared.proof.Proof.{Proof}
 use Rattle.ps_graph.specs.declared.graph.Graph.{Graph}
-use Rattle.ps_step.specs.Closed.{IsAccepted, IsCovered, IsNamed}
+use Rattle.ps_step.specs.Closed.{IsAccepted, IsNamed}
 use Rattle.ps_step.specs.Steps.{IsAccepting}
 use Rattle.ps_triple.specs.Faults.{EntryHolds, IsFirstEntryFault}
 use Rattle.ps_triple.specs.declared.entry.Entry.{Entry as AnEntry}

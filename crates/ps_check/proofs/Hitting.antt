@@ -1,9 +1,9 @@
 -- Branches of the search for a hitting set that isn't covered.
-use Rattle.std.proofs.Common.{◌≡◌, ◌<◌, ◌≤◌, ◌+◌, ℕ, List, [], ◌∷◌, ◌++◌, length, refl, sym, subst, ◌∙◌, inl, inr, ◌⊎◌, Contains, Some, None, arith}
+use Rattle.std.proofs.Common.{◌≡◌, ◌<◌, ◌≤◌, ◌+◌, ℕ, List, [], ◌∷◌, ◌++◌, refl, sym, subst, ◌∙◌, inl, inr, Contains, Some, None, arith}
 use Rattle.std.specs.Prelude.{slice_get}
 use Rattle.std.proofs.lemmas.Bool.{cases_lt}
 use Rattle.std.proofs.lemmas.List.Elements.{Contains-append_cases, Contains-append_left, Contains-append_right, Contains-push, Contains-push_cases}
-use Rattle.std.proofs.lemmas.Option.{same_Some, slice_get_within}
+use Rattle.std.proofs.lemmas.Option.{same_Some}
 use Rattle.ps_atom.specs.declared.atom.Atom.{Atom}
 use Rattle.ps_check.specs.declared.branches.Branch.{Branch}
 use Rattle.ps_check.specs.inner.Branches.{AddsBranches, AreHitsCovered, HasUncoveredHit, IsChild, IsNextUnmet, MeetsBefore, MeetsFrom}

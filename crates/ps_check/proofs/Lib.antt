@@ -3,7 +3,10 @@ pub mod Below
 pub mod Firsts
 pub mod Before
 pub mod Hitting
+pub mod Indexing
 pub mod Stepping
 pub mod Works
 pub mod Naming
 pub mod Viewing
+pub mod Faultless
+pub mod Single

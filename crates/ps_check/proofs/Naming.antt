@@ -12,7 +12,7 @@ use Rattle.ps_check.specs.inner.Stages.{AreInRange}
 use Rattle.ps_check.proofs.Before.{at_place_in}
 use Rattle.ps_check.proofs.Firsts.{false_in_range}
 use Rattle.ps_command.specs.declared.setting.Setting.{Setting}
-use Rattle.ps_config.specs.Configurations.{Configuration, IsAt}
+use Rattle.ps_config.specs.Configurations.{Configuration}
 use Rattle.ps_file.specs.declared.proof.Proof.{Proof}
 use Rattle.ps_graph.specs.declared.graph.Graph.{Graph}
 use Rattle.ps_list.proofs.Members.{cons_cases}

@@ -1,19 +1,15 @@
 -- Steps back, thread by thread and edge by edge.
-use Rattle.std.proofs.Common.{◌≡◌, ◌≢◌, ◌<◌, ◌≤◌, ◌+◌, ℕ, Bool, true, false, List, [], ◌∷◌, length, refl, sym, ap, subst, ◌∙◌, inl, inr, ◌⊎◌, Contains, Option, Some, None, arith}
+use Rattle.std.proofs.Common.{◌≡◌, ◌<◌, ◌≤◌, ◌+◌, ℕ, Bool, true, false, List, [], ◌∷◌, length, refl, sym, ap, subst, ◌∙◌, inl, inr, Contains, Option, Some, None, arith}
 use Rattle.std.specs.Prelude.{MatchBool, slice_get}
-use Rattle.std.specs.Cmp.Lexicographic.{slice_cmp}
-use Rattle.std.specs.Ordering.{nat_cmp}
-use Rattle.std.specs.declared.cmp.Ordering.TheVariants.{Less}
 use Rattle.std.proofs.lemmas.Bool.{cases_lt, false≢true}
-use Rattle.std.proofs.lemmas.Option.{same_Some, slice_get_within}
+use Rattle.std.proofs.lemmas.Option.{slice_get_within}
 use Rattle.ps_atom.specs.declared.atom.Atom.{Atom}
 use Rattle.ps_check.specs.Faults.{HasUncovered, IsMover, step_order, thread_order}
 use Rattle.ps_check.specs.declared.steps.Step.{Step}
 use Rattle.ps_check.specs.inner.Branches.{AreHitsCovered, HasUncoveredHit}
 use Rattle.ps_check.specs.inner.Stages.{AreAllCovered, IsCoveredAlong, IsCoveredBy, IsFirstAlong, IsFirstUncovered, IsUncoveredBy}
 use Rattle.ps_check.proofs.Below.{Below, below_is, is_below, last_below, not_below, rest_below}
-use Rattle.ps_check.proofs.Hitting.{covered_more}
-use Rattle.ps_config.specs.Configurations.{Configuration, Covers, IsAt, threads_at}
+use Rattle.ps_config.specs.Configurations.{Configuration, threads_at}
 use Rattle.ps_config.specs.Forms.{IsFresh}
 use Rattle.ps_config.specs.Next.{IsNextThread}
 use Rattle.ps_config.proofs.Covering.{covers_more, covers_twice}
@@ -22,7 +18,7 @@ use Rattle.ps_graph.specs.declared.edge.Edge.{Edge}
 use Rattle.ps_graph.specs.declared.graph.Graph.{Graph}
 use Rattle.ps_step.specs.Closed.{IsCovered}
 use Rattle.ps_step.specs.Places.{IsStepTo, located}
-use Rattle.ps_step.specs.Steps.{GoesBack, Stands, StandsBy}
+use Rattle.ps_step.specs.Steps.{Stands, StandsBy}
 use Rattle.ps_step.specs.Successors.{IsTried}
 use Rattle.ps_step.proofs.Demanding.{hits_meets, meets_hits}
 use Rattle.ps_step.proofs.Moved.{goes_same}

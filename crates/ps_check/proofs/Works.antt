@@ -1,11 +1,10 @@
 -- A branch has more to do than all its children.
-use Rattle.std.proofs.Common.{◌≡◌, ◌<◌, ◌≤◌, ◌+◌, ◌*◌, ℕ, zero, suc, List, [], ◌∷◌, ◌++◌, length, drop, refl, sym, ap, subst, ◌∙◌, Contains, Some, None, arith}
+use Rattle.std.proofs.Common.{◌≡◌, ◌<◌, ◌≤◌, ◌+◌, ◌*◌, ℕ, zero, suc, List, [], ◌∷◌, ◌++◌, length, drop, ap, ◌∙◌, Contains, Some, arith}
 use Rattle.std.specs.Prelude.{slice_get}
-use Rattle.std.proofs.lemmas.List.{drop_more}
 use Rattle.std.proofs.lemmas.Option.{same_Some}
 use Rattle.ps_atom.specs.declared.atom.Atom.{Atom}
 use Rattle.ps_check.specs.declared.branches.Branch.{Branch}
-use Rattle.ps_check.specs.inner.Branches.{AddsBranches, IsChild, work, works}
+use Rattle.ps_check.specs.inner.Branches.{AddsBranches, work, works}
 use Rattle.ps_list.proofs.Members.{here, there}
 
 works_append : (sets : List (List Atom)) (some more : List Branch) → works sets (some ++ more) ≡ works sets some + works sets more

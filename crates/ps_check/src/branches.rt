@@ -1,12 +1,13 @@
 //! Whether all that meets the demands of a step is covered.
 ghost use Rattle.std.specs.Prelude.{◌≡◌, ◌<◌, ◌++◌, ◌∷◌, ◌↔◌, [], Contains, IfOk, IfSome, IsTrue, MatchBool, OnOk, length};
 ghost use Rattle.ps_check.specs.inner.Branches.{AddsBranches, AreHitsCovered, HasUncoveredHit, IsNextUnmet};
+ghost use Rattle.ps_check.specs.inner.Index.{AreCandidates};
 ghost use Rattle.ps_demand.specs.Hitting.{MeetsSet};
 ghost use Rattle.ps_demand.specs.Pools.{lists_of};
 
 use crate::covered::is_covered;
+use crate::listed::Listed;
 use ps_atom::Atom;
-use ps_config::Config;
 use ps_list::copies;
 use std::alloc::{AllocError, Global};
 
@@ -25,10 +26,12 @@ pub(crate) struct Branch {
 /// choices. Each that waits takes the memory of its atoms.
 pub(crate) fn are_hits_covered(
     alloc: Global,
-    configs: &[Config],
+    configs: &Listed,
+    candidates: &[u32],
     at: &[(u32, u32)],
     sets: &[Vec<Atom>],
 ) -> Result<bool, AllocError>
+    requires { AreCandidates configs.now at.now candidates.now }
     ensures { IfOk result (λ covered. MatchBool covered
         (AreHitsCovered configs.now at.now (lists_of sets.now))
         (HasUncoveredHit configs.now at.now (lists_of sets.now))) }
@@ -41,7 +44,7 @@ pub(crate) fn are_hits_covered(
     })?;
     while let Some(branch) = waiting.pop() {
         let chosen = branch.chosen.as_slice();
-        if is_covered(configs, at, chosen) {
+        if is_covered(configs, candidates, at, chosen) {
             continue;
         }
         match next_unmet(sets, chosen, branch.next) {

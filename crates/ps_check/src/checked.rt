@@ -20,10 +20,11 @@ use std::alloc::{AllocError, Global};
 /// they are a closed covering under the entries; or else its first fault. No limit on the threads or atoms of a
 /// step back applies. A list of more members than 32 bits can number is answered as want of memory, which so many are.
 ///
-/// In the time of `check_entry` for each entry. For each configuration and the start, each edge and each thread that
-/// occurs and the fresh one, the time of the step's demands, and of a search for a choice of one atom from each demand
-/// that isn't covered, which is exponential in their number at worst. In memory of a copy of the predicates and the
-/// entries, and of one step.
+/// In the time of `check_entry` for each entry, and of a sort of the configurations by their locations. For each
+/// configuration and the start, each edge and each thread that occurs and the fresh one, the time of the step's demands, of
+/// finding the configurations whose locations are within those of the step, and of a search for a choice of one atom from
+/// each demand that none of these covers, which is exponential in the number of demands at worst. In memory of a copy of
+/// the predicates, the entries and the configurations, and of one step.
 pub fn check(alloc: Global, graph: &Graph, proof: &Proof) -> Result<Judgement, AllocError>
     requires predicates { length proof.now.predicates ≤ 127 }
     requires entries { length proof.now.entries ≤ MOST_ENTRIES }

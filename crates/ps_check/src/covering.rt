@@ -7,6 +7,7 @@ ghost use Rattle.ps_step.specs.Closed.{IsAccepted};
 
 use crate::counted::count_of;
 use crate::fault::CheckFault;
+use crate::listed::Listed;
 use crate::steps::first_uncovered;
 use ps_basis::Front;
 use ps_config::Config;
@@ -29,10 +30,11 @@ pub(crate) fn covering_fault(
         (IsAccepted graph.now proof.now.predicates proof.now.entries proof.now.configs)
         (IsFirstFault graph.now proof.now)) }
 {
-    let front = Front::from_list(copies(alloc, proof.entries.as_slice())?);
-    match start_fault(alloc, graph, proof, &front)? {
+    let front = Front::indexed(alloc, copies(alloc, proof.entries.as_slice())?)?;
+    let configs = Listed::new(alloc, proof.configs.as_slice())?;
+    match start_fault(alloc, graph, proof, &front, &configs)? {
         Some(fault) => Ok(Some(fault)),
-        None => closings_fault(alloc, graph, proof, &front),
+        None => closings_fault(alloc, graph, proof, &front, &configs),
     }
 }
 
@@ -42,15 +44,17 @@ fn start_fault(
     graph: &Graph,
     proof: &Proof,
     front: &Front,
+    configs: &Listed,
 ) -> Result<Option<CheckFault>, AllocError>
     requires named { AreNamed graph.now proof.now }
     requires front { front.now ≡ proof.now.entries }
+    requires configs { configs.now ≡ proof.now.configs }
     requires counted { AreCounted graph.now proof.now }
     ensures { IfOk result (λ fault. MatchOption fault
         (IsStartCovered graph.now proof.now) (IsFirstFault graph.now proof.now)) }
 {
     let start = Config::start(alloc)?;
-    match first_uncovered(alloc, graph, front, proof.configs.as_slice(), &start)? {
+    match first_uncovered(alloc, graph, front, configs, &start)? {
         None => Ok(None),
         Some(step) => Ok(Some(CheckFault::Uncovered {
             config: None,
@@ -66,18 +70,19 @@ fn closings_fault(
     graph: &Graph,
     proof: &Proof,
     front: &Front,
+    configs: &Listed,
 ) -> Result<Option<CheckFault>, AllocError>
     requires start { IsStartCovered graph.now proof.now }
     requires front { front.now ≡ proof.now.entries }
+    requires configs { configs.now ≡ proof.now.configs }
     requires counted { AreCounted graph.now proof.now }
     ensures { IfOk result (λ fault. MatchOption fault
         (IsAccepted graph.now proof.now.predicates proof.now.entries proof.now.configs)
         (IsFirstFault graph.now proof.now)) }
 {
-    let configs = proof.configs.as_slice();
-    let count = count_of(configs);
+    let count = count_of(proof.configs.as_slice());
     for number in 0..count {
-        match closing_fault(alloc, graph, proof, front, number)? {
+        match closing_fault(alloc, graph, proof, front, configs, number)? {
             Some(fault) => return Ok(Some(fault)),
             None => {}
         }
@@ -91,10 +96,12 @@ fn closing_fault(
     graph: &Graph,
     proof: &Proof,
     front: &Front,
+    configs: &Listed,
     number: u32,
 ) -> Result<Option<CheckFault>, AllocError>
     requires start { IsStartCovered graph.now proof.now }
     requires front { front.now ≡ proof.now.entries }
+    requires configs { configs.now ≡ proof.now.configs }
     requires counted { AreCounted graph.now proof.now }
     requires exists { number < length proof.now.configs }
     requires before { AreClosedBefore graph.now proof.now number }
@@ -105,7 +112,7 @@ fn closing_fault(
     if accepting(graph, config, front) {
         return Ok(Some(CheckFault::Accepting(number)));
     }
-    match first_uncovered(alloc, graph, front, proof.configs.as_slice(), config)? {
+    match first_uncovered(alloc, graph, front, configs, config)? {
         None => Ok(None),
         Some(step) => Ok(Some(CheckFault::Uncovered {
             config: Some(number),

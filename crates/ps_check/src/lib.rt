@@ -2,6 +2,7 @@
 #![tactic(auto)]
 
 mod branches;
+mod candidates;
 mod checked;
 mod configs;
 mod counted;
@@ -12,6 +13,9 @@ mod fault;
 mod holding;
 mod judgement;
 pub mod laws;
+mod listed;
+mod located;
+mod starts;
 mod steps;
 
 pub use checked::check;

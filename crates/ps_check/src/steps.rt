@@ -6,6 +6,7 @@ ghost use Rattle.ps_demand.specs.Demands.{AreTied};
 
 use crate::branches::are_hits_covered;
 use crate::counted::count_of;
+use crate::listed::Listed;
 use ps_basis::Front;
 use ps_config::Config;
 use ps_demand::demands_of;
@@ -26,7 +27,7 @@ pub(crate) fn first_uncovered(
     alloc: Global,
     graph: &Graph,
     front: &Front,
-    configs: &[Config],
+    configs: &Listed,
     from: &Config,
 ) -> Result<Option<Step>, AllocError>
     requires tied { AreTied front.now }
@@ -52,7 +53,7 @@ fn uncovered_along(
     alloc: Global,
     graph: &Graph,
     front: &Front,
-    configs: &[Config],
+    configs: &Listed,
     from: &Config,
     fresh: u32,
     edge: u32,
@@ -87,7 +88,7 @@ fn is_step_covered(
     alloc: Global,
     graph: &Graph,
     front: &Front,
-    configs: &[Config],
+    configs: &Listed,
     from: &Config,
     edge: u32,
     thread: u32,
@@ -102,8 +103,11 @@ fn is_step_covered(
     match step_to(alloc, graph, from, along, thread)? {
         None => Ok(true),
         Some(at) => {
+            let places = at.as_slice();
             let sets = demands_of(alloc, front, from.atoms(), thread, along.command)?;
-            let covered = are_hits_covered(alloc, configs, at.as_slice(), sets.as_slice())?;
+            let candidates = configs.candidates(alloc, places)?;
+            let numbers = candidates.as_slice();
+            let covered = are_hits_covered(alloc, configs, numbers, places, sets.as_slice())?;
             Ok(covered)
         }
     }

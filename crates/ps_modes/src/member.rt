@@ -188,7 +188,7 @@ fn is_proved(
         return Ok(false);
     }
     let Proof { entries, .. } = proof;
-    let front = Front::from_list(entries.into_list());
+    let front = Front::indexed(alloc, entries.into_list())?;
     member(alloc, graph, &front, trace)
 }
 

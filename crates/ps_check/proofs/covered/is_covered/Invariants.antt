@@ -1,6 +1,7 @@
-use Rattle.std.proofs.Common.{take, Contains}
+use Rattle.std.proofs.Common.{◌≡◌, ℕ, Contains, Some, take}
+use Rattle.std.specs.Prelude.{slice_get}
 use Rattle.ps_config.specs.Configurations.{Configuration, Covers}
 use Rattle.ps_check.proofs.covered.is_covered.Given as goal
 
-abbrev pub invariant-loop-config : goal.invariant-loop-config
-invariant-loop-config l = (c : Configuration) → Contains (take l.config-index l.configs) c → ¬ Covers c (record { at = l.at; atoms = l.atoms })
+abbrev pub invariant-loop-number : goal.invariant-loop-number
+invariant-loop-number l = (n : ℕ) → Contains (take l.number-index l.candidates) n → (c : Configuration) → slice_get l.configs n ≡ Some c → ¬ Covers c (record { at = l.at; atoms = l.atoms })

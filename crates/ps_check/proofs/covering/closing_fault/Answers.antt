@@ -19,7 +19,7 @@ returns-in-None c =
     (read_slice c.args.proof.now.configs c.as_slice.result.now c.args.number c.index-as_slice-number.result c.as_slice.ensures c.requires.exists c.index-as_slice-number.is)
     (record {
       never = λ h. both_ways c.accepting.result c.if-accepting.false (c.accepting.ensures.1 (rw c.requires.front h));
-      next = covered_views c.args.graph.now c.args.proof.now c.args.front.now c.as_slice-2.result.now c.index-as_slice-number.result c.index-as_slice-number.result c.requires.front c.as_slice-2.ensures refl (rw c.in-None.is at c.in_ok-first_uncovered.ensures);
+      next = covered_views c.args.graph.now c.args.proof.now c.args.front.now c.args.configs.now c.index-as_slice-number.result c.index-as_slice-number.result c.requires.front c.requires.configs refl (rw c.in-None.is at c.in_ok-first_uncovered.ensures);
     })
 
 pub returns-in-Some : goal.returns-in-Some
@@ -27,4 +27,4 @@ returns-in-Some c =
     first_step c.args.graph.now c.args.proof.now c.args.number c.index-as_slice-number.result c.in-Some.step c.requires.start c.requires.before
     (read_slice c.args.proof.now.configs c.as_slice.result.now c.args.number c.index-as_slice-number.result c.as_slice.ensures c.requires.exists c.index-as_slice-number.is)
     (λ h. both_ways c.accepting.result c.if-accepting.false (c.accepting.ensures.1 (rw c.requires.front h)))
-    (first_views c.args.graph.now c.args.proof.now c.args.front.now c.as_slice-2.result.now c.index-as_slice-number.result c.index-as_slice-number.result c.in-Some.step c.requires.front c.as_slice-2.ensures refl (rw c.in-Some.is at c.in_ok-first_uncovered.ensures))
+    (first_views c.args.graph.now c.args.proof.now c.args.front.now c.args.configs.now c.index-as_slice-number.result c.index-as_slice-number.result c.in-Some.step c.requires.front c.requires.configs refl (rw c.in-Some.is at c.in_ok-first_uncovered.ensures))

@@ -10,4 +10,4 @@ pub returns : goal.returns
 returns c =
     accepted_of c.args.graph.now c.args.proof.now c.requires.start
     (before_all (IsClosedAt c.args.graph.now c.args.proof.now.entries c.args.proof.now.configs) c.args.proof.now.configs c.loop-number.number c.loop-number.invariant
-    (past_all c.args.proof.now.configs c.as_slice-configs.result.now c.count_of-count.result c.loop-number.number c.as_slice-configs.ensures c.count_of-count.ensures c.loop-number-test.false))
+    (past_all c.args.proof.now.configs c.as_slice.result.now c.count_of-count.result c.loop-number.number c.as_slice.ensures c.count_of-count.ensures c.loop-number-test.false))

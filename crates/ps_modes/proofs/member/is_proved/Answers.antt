@@ -21,7 +21,7 @@ returns-then-not-held c = (
 
 pub member-requires-clause-tied : goal.member-requires-clause-tied
 member-requires-clause-tied c =
-    tied_where_held c.args.graph.now c.args.proof _ (c.from_list-front.ensures ∙ c.into_list.ensures) (c.in_ok-held.ensures.0 c.if-not-held.false)
+    tied_where_held c.args.graph.now c.args.proof _ (c.in_ok-front.ensures ∙ c.into_list.ensures) (c.in_ok-held.ensures.0 c.if-not-held.false)
 
 pub member-requires-clause-edges : goal.member-requires-clause-edges
 member-requires-clause-edges c =
@@ -30,6 +30,6 @@ member-requires-clause-edges c =
 pub returns : goal.returns
 returns c =
     IfOk-weaker c.member.result _ _
-    (λ answer is. proves_exactly c.args.graph.now c.args.proof c.args.trace.now _ answer (c.from_list-front.ensures ∙ c.into_list.ensures) (c.in_ok-held.ensures.0 c.if-not-held.false)
+    (λ answer is. proves_exactly c.args.graph.now c.args.proof c.args.trace.now _ answer (c.in_ok-front.ensures ∙ c.into_list.ensures) (c.in_ok-held.ensures.0 c.if-not-held.false)
     (subst (λ (ls : List Letter). All (λ (l : Letter). l.edge < length c.args.graph.now.edges) ls) c.as_slice.ensures (c.do_edges_exist.ensures.0 c.if-not-do_edges_exist.false)) is)
     c.member.ensures
