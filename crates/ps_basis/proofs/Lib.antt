@@ -1,4 +1,4 @@
 pub mod Counter
+pub mod Indexing
 pub mod Infeasible
-pub mod Looking
 pub mod Rules

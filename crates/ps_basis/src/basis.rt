@@ -4,32 +4,35 @@ ghost use Rattle.ps_basis.specs.Basis.{Growing};
 ghost use Rattle.ps_basis.specs.declared.limits.TheConstants.{MOST_ENTRIES};
 
 use crate::front::Front;
+use crate::index::Index;
+use crate::key::Key;
 use crate::limits::MOST_ENTRIES;
-use crate::look_up;
+use crate::place::Place;
 use crate::shown::Shown;
 use ps_list::copies;
 use ps_triple::Entry;
 use std::alloc::{AllocError, Global};
 use std::marker::Model;
 
-/// A list of at most `MOST_ENTRIES` entries, which are numbered by their places. That they hold for a setting and a table is a
-/// condition of the calls that rest on it.
+/// A list of at most `MOST_ENTRIES` entries, which are numbered by their places, with an index of them. That they hold for a
+/// setting and a table is a condition of the calls that rest on it.
 #[derive(Drop)]
 pub struct Basis {
     list: Vec<Entry>,
+    index: Index,
+    room: usize,
 }
 
 impl Model for Basis {
-    ghost use Rattle.std.specs.Prelude.{◌-◌, ◌≤◌, length};
-    ghost use Rattle.std.specs.Vec.{vec_capacity, vec_len};
     ghost use Rattle.ps_basis.specs.Basis.{Growing};
-    ghost use Rattle.ps_basis.specs.declared.limits.TheConstants.{MOST_ENTRIES};
 
     ghost Value = { Growing };
 
-    ghost view = { λ b. record { entries = b.list.items; room = vec_capacity b.list - vec_len b.list } };
+    ghost view = { λ b. record { entries = b.list.items; room = b.room } };
 
-    ghost invariant = { λ b. length b.list.items ≤ MOST_ENTRIES };
+    ghost use Rattle.ps_basis.specs.inner.Indexed.{IsIndexed};
+
+    ghost invariant = { IsIndexed };
 }
 
 impl Basis {
@@ -39,6 +42,8 @@ impl Basis {
     {
         Basis {
             list: Vec::new(alloc),
+            index: Index::new(alloc),
+            room: 0,
         }
     }
 
@@ -48,11 +53,15 @@ impl Basis {
         ensures room { OnOk result (more ≤ self.new.room) }
         ensures kept { OnErr result (self.new ≡ self.old) }
     {
-        self.list.reserve(more as usize)
+        let more = more as usize;
+        self.list.reserve(more)?;
+        self.index.reserve(more)?;
+        self.room = self.room.max(more);
+        Ok(())
     }
 
     /// Appends an entry, for which room was reserved, and gives its number; where there are `MOST_ENTRIES` it hands the entry
-    /// back. The call needs no memory.
+    /// back. The call needs no memory; of n entries it looks at log n, and moves at most n numbers.
     pub fn push_reserved(&mut self, entry: Entry) -> Result<u32, Entry>
         requires { 0 < self.old.room }
         ensures number { IfOk result (λ number. number ≡ length self.old.entries) }
@@ -67,17 +76,23 @@ impl Basis {
         if number >= MOST_ENTRIES {
             return Err(entry);
         }
+        let number = number as u32;
+        self.index.insert_reserved(Place {
+            key: Key::of(&entry),
+            number,
+        });
         self.list.push_reserved(entry);
-        Ok(number as u32)
+        self.room -= 1;
+        Ok(number)
     }
 
-    /// A copy of the first entries, in time and memory of these.
+    /// A copy of the first entries, in time and memory of these, and a pass over the numbers of all.
     pub fn front(&self, alloc: Global, count: u32) -> Result<Front, AllocError>
         requires { count ≤ length self.now.entries }
         ensures { IfOk result (λ front. front ≡ take count self.now.entries) }
     {
-        let first = &self.list.as_slice()[..count as usize];
-        Ok(Front::from_list(copies(alloc, first)?))
+        let first = copies(alloc, &self.list.as_slice()[..count as usize])?;
+        Ok(Front::new(first, self.index.front(alloc, count)?))
     }
 
     /// The entries in order; the call needs no memory.
@@ -94,6 +109,8 @@ impl Basis {
     {
         Ok(Basis {
             list: copies(alloc, self.list.as_slice())?,
+            index: self.index.copy(alloc)?,
+            room: 0,
         })
     }
 }
@@ -110,10 +127,10 @@ impl Shown for Basis {
     }
 
     fn next_for(&self, post: u32, command: u32, from: u32) -> Option<u32> {
-        look_up::next_for(self.list.as_slice(), post, command, from)
+        self.index.first(Key::triple(post, command), from)
     }
 
     fn is_initial(&self, predicate: u32) -> bool {
-        look_up::is_initial(self.list.as_slice(), predicate)
+        self.index.first(Key::initial(predicate), 0).is_some()
     }
 }

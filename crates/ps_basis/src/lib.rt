@@ -3,9 +3,11 @@
 
 mod basis;
 mod front;
+mod index;
+mod key;
 pub mod laws;
 mod limits;
-mod look_up;
+mod place;
 mod shown;
 pub mod worked;
 

@@ -6,7 +6,7 @@ ghost use Rattle.ps_triple.specs.declared.entry.Entry.{Entry};
 
 use ps_triple::Entry;
 
-/// A list of entries, which are numbered by their places. No call takes memory.
+/// A list of entries, which are numbered by their places. No call takes memory; of n entries a look-up takes time log n.
 pub trait Shown {
     // The entries in the order of their numbers.
     ghost entries: { Self → List Entry };

@@ -4,7 +4,7 @@ use crate::forms::{cut_lines, cut_tokens, read_a_term, reprinted_rows};
 use crate::graphs::{graph, size};
 use crate::pipes::{read_whole, write_whole};
 use crate::programs::{printed, printed_again, read};
-use crate::runs::{checking, over_sink, over_source, refuting, replaying, with_words};
+use crate::runs::{in_mode, over_sink, over_source, with_words};
 use crate::sets::{below, leans, minimal};
 use crate::solving::{eliminated, refuted, solved, walked};
 use crate::trees::tree;
@@ -20,9 +20,7 @@ pub fn answer<R: Threads + Wait + Sync>(
     input: &[u8],
 ) -> Result<Vec<u8>, AllocError> {
     match kind {
-        "refute" => refuting(rt, alloc, input),
-        "replay" => replaying(rt, alloc, input),
-        "check" => checking(rt, alloc, input),
+        "refute" | "replay" | "check" | "member" => in_mode(rt, alloc, kind, input),
         "words" => with_words(rt, alloc, input),
         "source" => over_source(rt, alloc, input),
         "sink" => over_sink(rt, alloc, input),

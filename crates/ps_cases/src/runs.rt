@@ -75,31 +75,17 @@ fn run_on<R: Threads + Wait + Sync>(
     Ok(out)
 }
 
-/// The run of the words `proofspace refute` on the input.
-pub fn refuting<R: Threads + Wait + Sync>(
+/// The run of the program's name and a mode on the input.
+pub fn in_mode<R: Threads + Wait + Sync>(
     rt: &R,
     alloc: Global,
+    mode: &str,
     input: &[u8],
 ) -> Result<Vec<u8>, AllocError> {
-    run_on(rt, alloc, b"proofspace refute", CALM, input)
-}
-
-/// The run of the words `proofspace replay` on the input.
-pub fn replaying<R: Threads + Wait + Sync>(
-    rt: &R,
-    alloc: Global,
-    input: &[u8],
-) -> Result<Vec<u8>, AllocError> {
-    run_on(rt, alloc, b"proofspace replay", CALM, input)
-}
-
-/// The run of the words `proofspace check` on the input.
-pub fn checking<R: Threads + Wait + Sync>(
-    rt: &R,
-    alloc: Global,
-    input: &[u8],
-) -> Result<Vec<u8>, AllocError> {
-    run_on(rt, alloc, b"proofspace check", CALM, input)
+    let mut words = Vec::new(alloc);
+    put_word(&mut words, b"proofspace ")?;
+    put_word(&mut words, mode.as_bytes())?;
+    run_on(rt, alloc, words.as_slice(), CALM, input)
 }
 
 /// The run of these words on rows that the program answers with yes.

@@ -17,13 +17,17 @@ use Rattle.ps_file.specs.declared.proof.Proof.{Proof}
 use Rattle.ps_graph.specs.declared.graph.Graph.{Graph}
 use Rattle.ps_step.specs.Closed.{IsCovered}
 use Rattle.ps_step.specs.Steps.{IsAccepting, Stands}
-use Rattle.ps_triple.specs.Faults.{IsFirstEntryFault}
+use Rattle.ps_triple.specs.Faults.{EntryHolds, IsFirstEntryFault}
 use Rattle.ps_triple.specs.Tests.{HasThreadsOnce, IsAtomOf}
 use Rattle.ps_triple.specs.declared.entry.Entry.{Entry as AnEntry}
 
 -- the predicates by number: false, and then those that the proof lists
 abbrev pub table_of : Proof → List APredicate
 table_of proof = false_predicate ∷ proof.predicates
+
+-- each entry holds, with its predicates from that list
+abbrev pub DoEntriesHold : Graph → Proof → Type 0
+DoEntriesHold graph proof = (entry : AnEntry) → Contains proof.entries entry → EntryHolds graph.setting (table_of proof) entry
 
 -- its locations are some of the graph other than the error, and its atoms have predicates of the list, as many threads as
 -- slots

@@ -41,7 +41,8 @@ fn are_short(setting: &Setting, entries: &[Entry]) -> bool
     true
 }
 
-fn is_entry_short(setting: &Setting, entry: &Entry) -> bool
+/// Whether 32 bits can count the rows and multipliers of the entry.
+pub(crate) fn is_entry_short(setting: &Setting, entry: &Entry) -> bool
     ensures { IsTrue result → AreShort setting.now entry.now }
 {
     let multipliers = match entry {

@@ -30,7 +30,7 @@ pub(crate) fn covering_fault(
         (IsAccepted graph.now proof.now.predicates proof.now.entries proof.now.configs)
         (IsFirstFault graph.now proof.now)) }
 {
-    let front = Front::from_list(copies(alloc, proof.entries.as_slice())?);
+    let front = Front::indexed(alloc, copies(alloc, proof.entries.as_slice())?)?;
     let configs = Listed::new(alloc, proof.configs.as_slice())?;
     match start_fault(alloc, graph, proof, &front, &configs)? {
         Some(fault) => Ok(Some(fault)),

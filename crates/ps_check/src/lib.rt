@@ -10,6 +10,7 @@ mod covered;
 mod covering;
 mod entries;
 mod fault;
+mod holding;
 mod judgement;
 pub mod laws;
 mod listed;
@@ -19,4 +20,5 @@ mod steps;
 
 pub use checked::check;
 pub use fault::CheckFault;
+pub use holding::do_entries_hold;
 pub use judgement::Judgement;

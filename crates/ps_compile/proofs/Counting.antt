@@ -1,14 +1,9 @@
 -- How many alternatives and paths there are, without making them.
 use Rattle.std.proofs.Common.{◌≡◌, Bool, true, false, not, refl, sym, ◌∙◌, ap, ap₂, ℕ, suc, ◌+◌, ◌*◌, List, [], ◌∷◌, ◌++◌, map, length, arith, if◌then◌else◌, length-append}
-use Rattle.ps_graph.specs.Alternatives.{Bound, product, alternatives, one_of_each, one_of_any}
+use Rattle.ps_graph.specs.Alternatives.{Bound, product, alternatives}
 use Rattle.ps_compile.specs.inner.Counts.{going, failing, paths_of}
-use Rattle.ps_compile.specs.inner.Members.{each_of, any_of}
 use Rattle.ps_graph.specs.Paths.{Act, Guards, Assigns, Havocs, Chooses, Fails, is_failing, guarded_by, ways, followed, paths, paths_all}
-use denote.Hole.Carrier.{hidden}
 use Rattle.std.proofs.lemmas.List.{length-map}
-use Rattle.ps_tree.specs.declared.cond.Cond.{Cond, Row_of-Cond, end_of-Cond, more_of-Cond, items-the_row-Cond}
-use Rattle.ps_tree.specs.declared.cond.Cond.TheVariants.{Not, And, Or}
-use Rattle.ps_tree.specs.declared.cond.Cond.TheBlock.{hidden-the_row-Cond-0, hidden-the_row-Cond-1, items_hidden-the_row-Cond-1}
 use Rattle.ps_tree.specs.declared.cond.Test.{Test}
 use Rattle.ps_tree.specs.declared.cond.Test.TheVariants.{Star, Cond as Where}
 use Rattle.ps_tree.specs.declared.stmt.Stmt.{Stmt}
@@ -124,31 +119,6 @@ going_failed alts =
     omega (arith, all_paths (map (λ (bs : List Bound). guarded_by bs ++ Fails ∷ []) alts), failing_failed alts, length-map alts (λ (bs : List Bound). guarded_by bs ++ Fails ∷ []))
 
 -- ---- rows are lists
-
-each_row : (b : Bool) {n : _} (row : Row_of-Cond n) → one_of_each b row ≡ each_of b (items-the_row-Cond n row)
-each_row b end_of-Cond = refl
-each_row b (more_of-Cond c rest) = ap (product (alternatives b c)) (each_row b rest)
-
-any_row : (b : Bool) {n : _} (row : Row_of-Cond n) → one_of_any b row ≡ any_of b (items-the_row-Cond n row)
-any_row b end_of-Cond = refl
-any_row b (more_of-Cond c rest) = ap (λ (l : List (List Bound)). alternatives b c ++ l) (any_row b rest)
-
-pub and_true : (cs : List Cond) → alternatives true (And cs) ≡ each_of true cs
-and_true cs = each_row true (hidden-the_row-Cond-1 cs) ∙ ap (each_of true) (items_hidden-the_row-Cond-1 cs)
-
-pub and_false : (cs : List Cond) → alternatives false (And cs) ≡ any_of false cs
-and_false cs = any_row false (hidden-the_row-Cond-1 cs) ∙ ap (any_of false) (items_hidden-the_row-Cond-1 cs)
-
-pub or_true : (cs : List Cond) → alternatives true (Or cs) ≡ any_of true cs
-or_true cs = any_row true (hidden-the_row-Cond-1 cs) ∙ ap (any_of true) (items_hidden-the_row-Cond-1 cs)
-
-pub or_false : (cs : List Cond) → alternatives false (Or cs) ≡ each_of false cs
-or_false cs = each_row false (hidden-the_row-Cond-1 cs) ∙ ap (each_of false) (items_hidden-the_row-Cond-1 cs)
-
-pub not_is : (b : Bool) (c : Cond) → alternatives b (Not c) ≡ alternatives (not b) c
-unfolding hidden-the_row-Cond-0 hidden
-not_is true c = refl
-not_is false c = refl
 
 paths_row : {n : _} (row : Row_of-Stmt n) → paths_all row ≡ paths_of (items-the_row-Stmt n row)
 paths_row end_of-Stmt = refl

@@ -17,6 +17,12 @@ use Rattle.ps_lines.specs.declared.form_fault.FormFault.{FormFault}
 use Rattle.ps_parts.specs.declared.parts.TheConstants.{MOST_PROOF}
 use Rattle.ps_soundness.proofs.Safe.{accepted_text as never_fails}
 use Rattle.ps_tree.specs.declared.program.Program.{Program}
+<<<<<<< HEAD
+=======
+use Rattle.ps_triple.proofs.Worth.{one_fault}
+use Rattle.ps_triple.specs.Faults.{IsFirstEntryFault}
+use Rattle.ps_triple.specs.declared.entry.Entry.{Entry as AnEntry}
+>>>>>>> a63ed850745348426d0c23fbf83f30e29ea1d399
 use Rattle.ps_modes.proofs.OneGraph.{one_graph}
 use Rattle.ps_modes.proofs.Two as two
 use Rattle.ps_modes.specs.Check.{Accepted, FirstFault, NotOfForm, Owed, OwedOf, OwedToProof, Proves, Refused, SaysAccepted, SaysFault, SaysSafe, SpellsProof}
@@ -43,16 +49,16 @@ proof_reads text line p says =
 ok_is : (p q : Proof) → spelled p ≡ spelled q → p ≡ q
 ok_is p q e = cc
 
-one_proof : (text : List ℕ) (p q : Proof) → SpellsProof text p → SpellsProof text q → p ≡ q
+pub one_proof : (text : List ℕ) (p q : Proof) → SpellsProof text p → SpellsProof text q → p ≡ q
 one_proof text p q a b = ok_is p q (sym (proof_reads text 1 p a) ∙ proof_reads text 1 q b)
 
-no_fault : (text : List ℕ) (line : ℕ) (p : Proof) (fault : FormFault) → SpellsProof text p → FirstFault text line fault → ⊥
+pub no_fault : (text : List ℕ) (line : ℕ) (p : Proof) (fault : FormFault) → SpellsProof text p → FirstFault text line fault → ⊥
 no_fault text line p fault says first = let read = proof_reads text line p says in absurd (cc)
 
-abbrev faulty : FormFault → Result Proof FormFault
+abbrev pub faulty : FormFault → Result Proof FormFault
 faulty fault = Err fault
 
-err_is : (v w : FormFault) → faulty v ≡ faulty w → v ≡ w
+pub err_is : (v w : FormFault) → faulty v ≡ faulty w → v ≡ w
 err_is v w e = cc
 
 -- ---- one answer
@@ -203,7 +209,7 @@ safe_where_accepted None n each zero = tt
 safe_where_accepted (Some input) n each zero =
     let owes = (each Holds (omega arith)).only zero in accepted_safe input (accepted_said input owes.0 owes.1).0.1
 
-fails : (s : Status) → code s ≡ 1 → s ≡ Fails
+pub fails : (s : Status) → code s ≡ 1 → s ≡ Fails
 fails Holds e = absurd (omega (arith, e))
 fails Fails e = refl
 fails Unknown e = absurd (omega (arith, e))
@@ -213,7 +219,7 @@ fails ReadFault e = absurd (omega (arith, e))
 fails WriteFault e = absurd (omega (arith, e))
 fails NoMemory e = absurd (omega (arith, e))
 
-holds : (s : Status) → code s ≡ 0 → s ≡ Holds
+pub holds : (s : Status) → code s ≡ 0 → s ≡ Holds
 holds Holds e = refl
 holds Fails e = absurd (omega (arith, e))
 holds Unknown e = absurd (omega (arith, e))

@@ -5,6 +5,8 @@ pub mod FewEdges
 pub mod OneGraph
 pub mod Owing
 pub mod Programs
+pub mod Proving
 pub mod Refusing
 pub mod Replaying
+pub mod Three
 pub mod Two

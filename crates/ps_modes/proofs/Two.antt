@@ -22,7 +22,7 @@ abbrev pub OwesOnce : (Program → Graph → List ℕ → ℕ → Status → Lis
 OwesOnce OwedTo = (p : Program) (g h : Graph) (bytes : List ℕ) (line : ℕ) → IsCompiled p g → IsCompiled p h → (s t : Status) (x y : List ℕ)
     → OwedTo p g bytes line s x → OwedTo p h bytes line t y → (s ≡ t) × (x ≡ y)
 
-one_to_texts : (OwedTo : Program → Graph → List ℕ → ℕ → Status → List ℕ → Type 0) → OwesOnce OwedTo → (program last : List ℕ) (line : ℕ) (s t : Status) (x y : List ℕ)
+pub one_to_texts : (OwedTo : Program → Graph → List ℕ → ℕ → Status → List ℕ → Type 0) → OwesOnce OwedTo → (program last : List ℕ) (line : ℕ) (s t : Status) (x y : List ℕ)
     → OwedToTexts OwedTo program last line s x → OwedToTexts OwedTo program last line t y → (s ≡ t) × (x ≡ y)
 one_to_texts OwedTo once program last line s t x y (NoProgram by e) (NoProgram other d) = (e ∙ sym d, one_line program x y by other)
 one_to_texts OwedTo once program last line s t x y (NoProgram by e) (Programs q h too _) = absurd (not_refused program q h by.0 too by.1)
@@ -39,13 +39,13 @@ record AreSameTexts (program last : List ℕ) (line : ℕ) (front rest : List �
   pub rest_is : last ≡ rest
   pub line_is : line ≡ at
 
-same_parts : (input program last front rest : List ℕ) → AreTwoParts input program last → AreTwoParts input front rest
+pub same_parts : (input program last front rest : List ℕ) → AreTwoParts input program last → AreTwoParts input front rest
     → (program ≡ front) × (last ≡ rest)
 same_parts input program last front rest a b =
     let same = one_cut input a.0 last b.0 rest a.1 b.1 in
     (a.2 ∙ ap program_before same.0 ∙ sym b.2, same.1)
 
-same_line : (input last rest : List ℕ) (line at : ℕ) → last ≡ rest → IsNumbered input last line → IsNumbered input rest at → line ≡ at
+pub same_line : (input last rest : List ℕ) (line at : ℕ) → last ≡ rest → IsNumbered input last line → IsNumbered input rest at → line ≡ at
 same_line input last rest line at same a b =
     let joined : a.0 ++ rest ≡ b.0 ++ rest = ap (λ (xs : List ℕ). a.0 ++ xs) (sym same) ∙ sym a.1 ∙ b.1 in
     a.2 ∙ ap (λ (xs : List ℕ). 1 + count_by (λ (b : ℕ). b == 10) xs) (append_cancel_right a.0 b.0 rest joined) ∙ sym b.2
@@ -68,7 +68,7 @@ not_long most input program last line texts long =
     ]
 
 -- an input of two parts has a mark
-marked : (input program last : List ℕ) → AreTwoParts input program last → HasNoMark input → ⊥
+pub marked : (input program last : List ℕ) → AreTwoParts input program last → HasNoMark input → ⊥
 marked input program last parts none = none (length parts.0) parts.1.first.mark
 
 pub one_owed : (most : ℕ) (OwedTo : Program → Graph → List ℕ → ℕ → Status → List ℕ → Type 0) → OwesOnce OwedTo → (input : List ℕ) (s t : Status) (x y : List ℕ)

@@ -6,7 +6,9 @@ pub mod Owes
 pub mod Refute
 pub mod Programs
 pub mod Parts
+pub mod ThreeParts
 pub mod Replay
 pub mod CheckTexts
 pub mod Check
+pub mod Member
 pub mod Inner

@@ -4,6 +4,7 @@ ghost use Rattle.std.specs.Prelude.{◌≡◌, ◌↔◌, ℕ, ◌<◌, List, []
 ghost use Rattle.ps_check.specs.declared.fault.CheckFault.{CheckFault};
 ghost use Rattle.ps_modes.specs.Check.{SaysAccepted, SaysFault};
 ghost use Rattle.ps_modes.specs.CheckTexts.{not_accepted_line};
+ghost use Rattle.ps_modes.specs.Member.{SaysProved, SaysUnproved};
 ghost use Rattle.ps_modes.specs.Modes.{owed_by};
 ghost use Rattle.ps_modes.specs.Owes.{IsShort, Owes};
 ghost use Rattle.ps_modes.specs.Refute.{SaysYes, SaysNo};
@@ -13,7 +14,7 @@ ghost use Rattle.ps_modes.specs.declared.status.Status.{Status};
 ghost use Rattle.ps_modes.specs.declared.status.Status.TheVariants.{Holds, Fails, BadInput};
 ghost use Rattle.ps_modes.specs.declared.texts.TheConstants.{ACCEPTED, NO, TOO_LONG, YES};
 ghost use Rattle.ps_words.specs.declared.mode.Mode.{Mode};
-ghost use Rattle.ps_words.specs.declared.mode.Mode.TheVariants.{Refute, Replay, Check};
+ghost use Rattle.ps_words.specs.declared.mode.Mode.TheVariants.{Refute, Replay, Check, Member};
 
 /// An input is owed one status and one text at most, whatever the mode.
 pub fn one_answer_is_owed()
@@ -66,5 +67,18 @@ pub fn check_owes()
         × SaysFault input fault × (text ≡ not_accepted_line fault)))) }
     ensures statuses { (input : List ℕ) (status : Status) (text : List ℕ)
         → Owes (owed_by Check) input status text
+        → Contains (Holds ∷ Fails ∷ BadInput ∷ []) status }
+{}
+
+/// `member` owes `yes` exactly where the input says so, `no` likewise, and beside them a refusal alone.
+pub fn member_owes()
+    ensures yes { (input text : List ℕ)
+        → (Owes (owed_by Member) input Holds text
+        ↔ ((IsShort input × SaysProved input) × (text ≡ YES.now))) }
+    ensures no { (input text : List ℕ)
+        → (Owes (owed_by Member) input Fails text
+        ↔ ((IsShort input × SaysUnproved input) × (text ≡ NO.now))) }
+    ensures statuses { (input : List ℕ) (status : Status) (text : List ℕ)
+        → Owes (owed_by Member) input status text
         → Contains (Holds ∷ Fails ∷ BadInput ∷ []) status }
 {}

@@ -9,6 +9,7 @@ mod graphs;
 mod input;
 mod judge;
 pub mod laws;
+mod member;
 mod program;
 mod refute;
 mod replay;
@@ -18,6 +19,7 @@ pub mod worked;
 
 pub use check::check_run;
 pub use input::MOST_BYTES;
+pub use member::member_run;
 pub use program::run;
 pub use refute::refute_run;
 pub use replay::replay_run;

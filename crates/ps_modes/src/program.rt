@@ -3,6 +3,7 @@ ghost use Rattle.std.specs.Prelude.{◌≡◌, [], ◌∷◌, map, string_bytes,
 ghost use Rattle.std.specs.Io.KnownBytes.{Appends};
 ghost use Rattle.ps_io.specs.Bytes.{TookPrefix};
 ghost use Rattle.ps_modes.specs.Check.{SaysSafe};
+ghost use Rattle.ps_modes.specs.Member.{SaysInfeasible};
 ghost use Rattle.ps_modes.specs.Modes.{owed_by};
 ghost use Rattle.ps_modes.specs.Promise.{Answers, HasCauses};
 ghost use Rattle.ps_modes.specs.Status.{code, Exactly, IsOneOf};
@@ -11,6 +12,7 @@ ghost use Rattle.ps_words.specs.Asked.{AskFor, AskForNothing};
 ghost use Rattle.ps_words.specs.declared.words.Words.{Words};
 
 use crate::check::check_run;
+use crate::member::member_run;
 use crate::refute::refute_run;
 use crate::replay::replay_run;
 use crate::status::Status;
@@ -53,8 +55,14 @@ where
         (K.written sink.new) result }
 
     // Where a proof is accepted, no execution of the program, with any number of threads, fails an assertion.
-    ensures safe { (asked : Words) → AskFor (map string_bytes words.now) asked → asked.mode ≡ Mode.Check
-        → result ≡ code Holds → IfSome (S.left source.old) SaysSafe }
+    ensures safe { (asked : Words) → AskFor (map string_bytes words.now) asked
+        → asked.mode ≡ Mode.Check → result ≡ code Holds
+        → IfSome (S.left source.old) SaysSafe }
+
+    // Where the entries of a proof prove a trace, it isn't both an error trace and feasible.
+    ensures infeasible { (asked : Words) → AskFor (map string_bytes words.now) asked
+        → asked.mode ≡ Mode.Member → result ≡ code Holds
+        → IfSome (S.left source.old) SaysInfeasible }
 
     // Faults of the outside, each with its cause, and want of memory.
     ensures causes { HasCauses
@@ -78,6 +86,7 @@ where
             Mode::Refute => refute_run(alloc, source, sink),
             Mode::Replay => replay_run(alloc, source, sink),
             Mode::Check => check_run(alloc, source, sink),
+            Mode::Member => member_run(alloc, source, sink),
         },
         Err(WordsEnd::Refused) => match write_all(sink, USAGE.as_bytes()) {
             Ok(()) => Status::BadWords.code(),

@@ -1,94 +1,57 @@
--- The laws of refusals of declarations, beside a reading of them that asks nothing of names.
-use Rattle.std.proofs.Common.{◌≡◌, ◌≢◌, ℕ, suc, ◌+◌, ◌<◌, ℤ, Bool, true, false, ◌||◌, ◌⊎◌, inl, inr, List, [], ◌∷◌, ◌++◌, length, Option, Some, None, Err, refl, ap, arith, ◌∙◌, sym}
+-- The laws of refusals of declarations.
+use Rattle.std.proofs.Common.{◌≡◌, ◌≢◌, ℕ, suc, ◌+◌, ◌<◌, ℤ, Bool, true, false, ◌||◌, ◌⊎◌, inl, inr, List, [], ◌∷◌, ◌++◌, length, Option, Some, None, Err, refl, ap, ◌∙◌, sym, arith}
 use Rattle.std.specs.Prelude.{nat_lt, nat_le, if◌then◌else◌}
 use Rattle.std.specs.List.{All, AllByRecursion}
-use Rattle.std.proofs.lemmas.List.Elements.{All-head, All-tail}
-use Rattle.std.proofs.lemmas.List.Elements.{All-from_recursion}
+use Rattle.std.proofs.lemmas.List.Elements.{All-from_recursion, All-head, All-tail}
 use Rattle.ps_token.specs.declared.place.Place.{Place}
 use Rattle.ps_token.specs.declared.token_kind.TokenKind.TheVariants as kind
-use Rattle.ps_term.specs.declared.var.Var.TheVariants.{Global}
 use Rattle.ps_tree.specs.declared.limit_name.LimitName.{LimitName}
 use Rattle.ps_tree.specs.declared.limit_name.LimitName.TheVariants as limit
 use Rattle.ps_tree.specs.declared.relation.Relation.{Relation}
 use Rattle.ps_tree.specs.declared.relation.Sign.TheVariants as sign
 use Rattle.ps_parse.specs.declared.read_refusal.ReadRefusal.{ReadRefusal}
-use Rattle.ps_term.specs.declared.var.Var.{Var}
 use Rattle.ps_parse.specs.declared.read_refusal.ReadRefusal.TheVariants.{Limit, Twice}
 use Rattle.ps_grammar.specs.Grammar.{RelationText, ValueText, ItemText, global, local, init}
 use Rattle.ps_grammar.specs.Words.{Word}
 use Rattle.ps_parse.specs.Inner.Reading.{WordsAhead, ReadWords, next_is, place_at, next_word, after_word, words_while}
-use Rattle.ps_grammar.specs.Names.{Names, variable_of_name}
+use Rattle.ps_grammar.specs.Names.{variable_of_name}
 use Rattle.ps_grammar.specs.Numbers.{number_value}
 use Rattle.ps_parse.specs.Inner.Sums.{init_sign_of, relation_at}
 use Rattle.ps_parse.specs.Inner.Blocks.{ended_at}
-use Rattle.ps_grammar.specs.Declarations.{Declared, most_globals, most_locals, most_rows, nothing_declared, names_of}
+use Rattle.ps_grammar.specs.Declarations.{Declared, most_globals, most_locals, most_rows, names_of}
 use Rattle.ps_parse.specs.Inner.Items.{is_some_variable, refused_name, new_name_at, signed_number_ahead, declared_value_ahead, global_at, local_at, init_at, item_rows, counted_item_at, with_rows, item_at, has_item}
-use Rattle.ps_grammar.specs.Spelling.{Piece, NamePiece, Mark, relation_pieces, value_pieces, item_pieces}
+use Rattle.ps_grammar.specs.Spelling.{Piece, Mark, relation_pieces, value_pieces, item_pieces}
 use Rattle.ps_parse.specs.Reads.{HasInitSigns, refusal_place}
-use Rattle.ps_parse.proofs.Steps.{begins_piece, next_ahead, Not, Always, gets_bind, gets_end, gets_more}
+use Rattle.ps_parse.proofs.Steps.{begins_piece, Not, Always}
 use Rattle.ps_parse.proofs.Sequences.{mapped, both}
 use Rattle.ps_parse.proofs.SumLaws.{number_piece, SumEnds}
 use Rattle.ps_parse.proofs.RelationLaws.{init_signs, every_init_sign, no_init_sign, SignIn}
 use Rattle.ps_parse.proofs.DeclarationLaws.{relations_go_on, number_pieces, negated, with_global, with_local, with_inits, more_is, relations_join}
-use Rattle.ps_parse.proofs.Guards.{Lets, not_grammar, placed_word, Keeps, refused_bind, lets_bind, lets_end, keeps_bind, keeps_end, keeps_more, resumes_word, next_test, Went, Stood, Guards, GuardsWhere, Any, Same, Example, Resumed, resumed_mark, pieces_are, word_guards}
-use Rattle.ps_parse.proofs.GuardSteps.{guards_same, guards_as, mapped_guards, mapped_any, paired, pair_up, nothing_guards, both_guards, after_guards, example_after, example_closed, OfSort, choice_guards}
+use Rattle.ps_parse.proofs.Guards.{IsGrammar, placed_word, Keeps, keeps_bind, keeps_end, next_test, Went, Stood, Guards, GuardsWhere, Example, Resumed, resumed_mark, stood_here, stood_at_word, word_of, pieces_are, word_guards}
+use Rattle.ps_parse.proofs.GuardSteps.{guards_same, guards_as, mapped_guards, paired, pair_up, nothing_guards, both_guards, both_guards_more, after_guards, after_guards_more, example_after, example_closed, mark_example, OfSort, choice_guards}
 use Rattle.ps_parse.proofs.GuardLoops.{while_guards}
-use Rattle.ps_parse.proofs.SumGuards.{Two, Widens, name_example, number_example, relation_guards, relation_example}
+use Rattle.ps_parse.proofs.SumGuards.{name_example, number_example, relation_guards, relation_example}
 use Rattle.ps_parse.proofs.Scopes.{name_piece}
 use Rattle.ps_parse.proofs.StmtGuards.{ended_guards}
 
 -- ---- names
 
-abbrev free_name : ReadWords (List ℕ)
-free_name = mapped (λ (w : Word). w.text) (next_word kind.Name)
-
-new_guards : (n : ℕ) (n' most : ℕ → ℕ) (d : Declared) (count limit' : ℕ) (what : LimitName) → Guards n n' most (new_name_at d count limit' what) (λ i. free_name) name_piece Always Any Always
+new_guards : (n : ℕ) (d : Declared) (count limit' : ℕ) (what : LimitName) → Guards n (new_name_at d count limit' what) name_piece Always Always
 unfolding new_name_at
-new_guards n n' most d count limit' what = record {
-  never = λ i at x rest fine h _. lets_bind _ _ _ _ ((word_guards n n' most kind.Name).never i at x rest tt h tt) (λ w p. lets_end _ _ p);
+new_guards n d count limit' what = record {
   stuck = λ at room.
-      keeps_bind _ _ _ _ _ _ (placed_word n n' most kind.Name at room)
+      keeps_bind _ _ _ _ _ _ (placed_word n kind.Name at room)
       (λ w p. by_tests at w p.0 p.1 (is_some_variable (variable_of_name (names_of d) w.0.text)) (nat_le limit' count))
-      (λ e r. record {
-        text = r.text;
-        fine = tt;
-        front = r.front;
-        rest = r.rest;
-        more = r.more;
-        next = r.next;
-        split = r.split;
-        place = r.place;
-        spelled = r.spelled;
-        same = λ g i at' other room' s h. refused_bind _ _ (r.same g i at' other room' s h);
-      });
+      (λ e q. q);
 }
   where
-    at_name : (at : WordsAhead) (w : Word × WordsAhead) (e : ReadRefusal) → Went n' (λ i. next_word kind.Name) name_piece Always Same at w → place_at at ≡ w.0.place → refusal_place e ≡ Some w.0.place → Lets {A = Var} (Err e) (λ _. ⊥) → Stood n' (λ i. free_name) name_piece Always at e
-    at_name at w e p place is other = record {
-      text = p.text;
-      fine = tt;
-      front = [];
-      rest = at.words;
-      more = p.front;
-      next = λ g. resumes_word at.words p.front w.1.words (NamePiece p.text) p.split p.spelled;
-      split = refl;
-      spelled = p.spelled;
-      place = is ∙ ap (λ (o : Place). Some o) (sym place);
-      same = λ g i at' more room' s h. absurd (not_grammar e other g);
-    }
+    at_name : (at : WordsAhead) (w : Word × WordsAhead) (e : ReadRefusal) → Went name_piece Always Always at w.1 → place_at at ≡ w.0.place → refusal_place e ≡ Some w.0.place → (IsGrammar e → ⊥) → Stood name_piece Always Always at e
+    at_name at w e p place is other = stood_at_word kind.Name at w.1 w.0.place e p place is other p.text tt [] (pieces_are p.front [] (name_piece p.text) [] p.spelled refl)
 
-    by_tests : (at : WordsAhead) (w : Word × WordsAhead) → Went n' (λ i. next_word kind.Name) name_piece Always Same at w → place_at at ≡ w.0.place → (t u : Bool) → Keeps (refused_name t u what w) (Went n' (λ i. free_name) name_piece Always Any at) (Stood n' (λ i. free_name) name_piece Always at)
-    by_tests at w p place true u = record { is = at_name at w (Twice w.0.place) p place refl (record { is = tt }) }
-    by_tests at w p place false true = record { is = at_name at w (Limit w.0.place what) p place refl (record { is = tt }) }
-    by_tests at w p place false false = keeps_end _ _ _ (record {
-      text = p.text;
-      fine = tt;
-      front = p.front;
-      split = p.split;
-      ends = p.ends;
-      spelled = p.spelled;
-      same = λ i at' other room' s h. gets_bind _ _ _ _ (p.same i at' other room' s h) (λ w' a. gets_end _ _ (tt, a.1));
-    })
+    by_tests : (at : WordsAhead) (w : Word × WordsAhead) → Went name_piece Always Always at w.1 → place_at at ≡ w.0.place → (t u : Bool) → Keeps {A = List ℕ × WordsAhead} (refused_name t u what w) (λ y. Went name_piece Always Always at y.1) (Stood name_piece Always Always at)
+    by_tests at w p place true u = record { is = at_name at w (Twice w.0.place) p place refl (λ g. g) }
+    by_tests at w p place false true = record { is = at_name at w (Limit w.0.place what) p place refl (λ g. g) }
+    by_tests at w p place false false = keeps_end _ _ _ p
 
 -- ---- values
 
@@ -96,14 +59,14 @@ number_sort : (negative : Bool) (digits : List ℕ) → OfSort (begins_piece kin
 number_sort true digits = inl (record { text = digits; fine = tt; same = refl; tells = λ rest h. refl })
 number_sort false digits = inr (record { text = digits; fine = tt; same = refl; tells = λ rest h. refl })
 
-number_guards : (n : ℕ) (n' most : ℕ → ℕ) → Guards n n' most signed_number_ahead (λ i. signed_number_ahead) number_pieces Always Any Always
+number_guards : (n : ℕ) → Guards n signed_number_ahead number_pieces Always Always
 unfolding signed_number_ahead
-number_guards n n' most =
-    choice_guards number_pieces Always Always (next_is kind.Minus) (begins_piece kind.Minus) (next_test kind.Minus) (λ k at ps h. next_ahead kind.Minus h)
+number_guards n =
+    choice_guards number_pieces Always Always (next_test kind.Minus)
     (λ d. record { negative = true; digits = d }) (λ d. refl) (λ d h. tt) (λ d. record { negative = false; digits = d }) (λ d. refl) (λ d h. tt)
     (λ v ok. number_sort v.negative v.digits) (λ rest h. tt) (λ rest h. tt)
-    (mapped_guards Any negated (λ x y h. tt) (after_guards {m = n} {m' = n'} kind.Minus (λ u. refl) (omega arith) (λ i. omega arith) (word_guards n n' most kind.Number) number_example))
-    (mapped_guards Any (λ (w : Word). number_value w.text) (λ x y h. tt) (word_guards n n' most kind.Number))
+    (mapped_guards negated (after_guards kind.Minus (λ u. refl) (word_guards n kind.Number) number_example))
+    (mapped_guards (λ (w : Word). number_value w.text) (word_guards n kind.Number))
 
 number_text_example : Example number_pieces Always
 number_text_example = record { text = record { negative = false; digits = number_example.text }; fine = tt; words = number_example.words; spelled = number_example.spelled }
@@ -112,71 +75,33 @@ value_sort : (v : Option ValueText) → Always v → OfSort (begins_piece kind.E
 value_sort None ok = inr (record { text = tt; fine = tt; same = refl; tells = λ rest h. h })
 value_sort (Some v) ok = inl (record { text = v; fine = tt; same = refl; tells = λ rest h. refl })
 
-value_guards : (n : ℕ) (n' most : ℕ → ℕ) → Guards n n' most declared_value_ahead (λ i. declared_value_ahead) value_pieces Always Any (Not kind.Equal)
+value_guards : (n : ℕ) → Guards n declared_value_ahead value_pieces Always (Not kind.Equal)
 unfolding declared_value_ahead
-value_guards n n' most =
-    choice_guards value_pieces Always (Not kind.Equal) (next_is kind.Equal) (begins_piece kind.Equal) (next_test kind.Equal) (λ k at ps h. next_ahead kind.Equal h)
-    (λ v. Some v) (λ v. refl) (λ v h. tt) (λ (u : Unit {0}). None) (λ u. refl) (λ u h. tt) value_sort (λ rest h. tt) (λ rest h. tt)
-    (mapped_guards Any Some (λ x y h. tt) (after_guards {m = n} {m' = n'} kind.Equal (λ u. refl) (omega arith) (λ i. omega arith) (number_guards n n' most) number_text_example))
-    (nothing_guards n n' most None Any tt Always)
+value_guards n =
+    choice_guards value_pieces Always (Not kind.Equal) (next_test kind.Equal) (λ v. Some v) (λ v. refl) (λ v h. tt) (λ (u : Unit {0}). None) (λ u. refl) (λ u h. tt) value_sort (λ rest h. tt) (λ rest h. tt)
+    (mapped_guards Some (after_guards kind.Equal (λ u. refl) (number_guards n) number_text_example))
+    (nothing_guards n None Always)
 
 value_example : Example (λ (v : Option ValueText). value_pieces v ++ Mark kind.Semicolon ∷ []) Always
-value_example = record { text = None; fine = tt; words = record { kind = kind.Semicolon; text = []; place = record { line = 0; column = 0 } } ∷ []; spelled = refl }
+value_example = record { text = None; fine = tt; words = word_of kind.Semicolon ∷ []; spelled = refl }
 
 -- ---- declarations
 
-abbrev free_global : ReadWords Declared
-free_global = mapped (λ (p : List ℕ × Option ℤ). nothing_declared) (both pair_up (after_word kind.Global free_name) (ended_at declared_value_ahead))
-
-global_guards : (n : ℕ) (n' most : ℕ → ℕ) (d : Declared) → Guards n n' most (global_at d) (λ i. free_global) (λ (c : List ℕ × Option ValueText). item_pieces (global c.0 c.1)) Always Any Always
+global_guards : (n : ℕ) (d : Declared) → Guards n (global_at d) (λ (c : List ℕ × Option ValueText). item_pieces (global c.0 c.1)) Always Always
 unfolding global_at
-global_guards n n' most d =
+global_guards n d =
     guards_as _ Always (λ c. c) (λ c. c) (λ c. refl) (λ c. refl) (λ c h. tt) (λ c h. (tt, tt))
-    (guards_same _ _ (paired (with_global d) (after_word kind.Global (new_name_at d (length d.globals) most_globals limit.Globals)) (ended_at declared_value_ahead)) (λ i at. refl)
-    (mapped_any (λ (p : List ℕ × Option ℤ). with_global d p.0 p.1) (λ (p : List ℕ × Option ℤ). nothing_declared)
-    (both_guards {m = n} {m' = n'} Any pair_up (λ x y z w a b. tt) (after_guards {m = n} {m' = n'} kind.Global (λ u. refl) (omega arith) (λ i. omega arith) (new_guards n n' most d (length d.globals) most_globals limit.Globals) name_example)
-    (λ c. omega arith) (λ i c. omega arith) (ended_guards (λ rest. refl) (value_guards n n' most)) value_example (λ v rest h. tt))))
+    (guards_same _ (paired (with_global d) (after_word kind.Global (new_name_at d (length d.globals) most_globals limit.Globals)) (ended_at declared_value_ahead))
+    (mapped_guards (λ (p : List ℕ × Option ℤ). with_global d p.0 p.1)
+    (both_guards pair_up (after_guards kind.Global (λ u. refl) (new_guards n d (length d.globals) most_globals limit.Globals) name_example) (ended_guards (λ rest. refl) (value_guards n)) value_example (λ v rest h. tt))))
 
-abbrev free_local : ReadWords Declared
-free_local = mapped (λ (x : List ℕ). nothing_declared) (after_word kind.Local (ended_at free_name))
-
-local_guards : (n : ℕ) (n' most : ℕ → ℕ) (d : Declared) → Guards n n' most (local_at d) (λ i. free_local) (λ x. item_pieces (local x)) Always Any Always
+local_guards : (n : ℕ) (d : Declared) → Guards n (local_at d) (λ x. item_pieces (local x)) Always Always
 unfolding local_at
-local_guards n n' most d =
-    mapped_any (with_local d) (λ (x : List ℕ). nothing_declared)
-    (after_guards {m = n} {m' = n'} kind.Local (λ u. refl) (omega arith) (λ i. omega arith) (ended_guards (λ rest. tt) (new_guards n n' most d (length d.locals) most_locals limit.Locals)) (example_closed kind.Semicolon (λ u. refl) name_example))
-
--- names beside none
-pub all_pass : (names : Names) → Widens (Some names) None
-all_pass names x v h = (Global 0, refl)
-
-abbrev pub beside : ℕ → Names → Two
-beside n names = record { left = n; left' = λ i. i; most = n; most' = λ i. i; low = omega arith; low' = λ i. omega arith; scope = Some names; scope' = None; widens = all_pass names }
+local_guards n d =
+    mapped_guards (with_local d) (after_guards kind.Local (λ u. refl) (ended_guards (λ rest. tt) (new_guards n d (length d.locals) most_locals limit.Locals)) (example_closed kind.Semicolon (λ u. refl) name_example))
 
 abbrev InitOk : RelationText → Type 0
 InitOk r = SignIn init_sign_of r.sign
-
-abbrev free_init : ℕ → ReadWords Declared
-free_init n = mapped (λ (p : Relation × List Relation). nothing_declared) (both pair_up (after_word kind.Init (relation_at init_sign_of None n)) (ended_at (words_while (next_is kind.And) (after_word kind.And (relation_at init_sign_of None n)) n)))
-
-init_relation_guards : (n : ℕ) (names : Names) → Guards n (λ i. i) (λ i. i) (relation_at init_sign_of (Some names) n) (λ i. relation_at init_sign_of None i) relation_pieces InitOk Any SumEnds
-init_relation_guards n names = loosen (relation_guards (beside n names) init_sign_of init_signs refl)
-  where
-    loosen : Guards n (λ i. i) (λ i. i) (relation_at init_sign_of (Some names) n) (λ i. relation_at init_sign_of None i) relation_pieces InitOk (λ r s. r.sign ≡ s.sign) SumEnds → Guards n (λ i. i) (λ i. i) (relation_at init_sign_of (Some names) n) (λ i. relation_at init_sign_of None i) relation_pieces InitOk Any SumEnds
-    loosen g = record {
-      never = g.never;
-      stuck = λ at room. keeps_more _ _ _ _ _ (g.stuck at room)
-          (λ y p. record {
-            text = p.text;
-            fine = p.fine;
-            front = p.front;
-            split = p.split;
-            ends = p.ends;
-            spelled = p.spelled;
-            same = λ i at' more room' s h. gets_more _ _ _ (p.same i at' more room' s h) (λ z q. (tt, q.1));
-          })
-          (λ p q. q);
-    }
 
 init_example : Example relation_pieces InitOk
 init_example = relation_example init_sign_of refl
@@ -184,19 +109,18 @@ init_example = relation_example init_sign_of refl
 abbrev IsInitSign : RelationText → Type 0
 IsInitSign s = s.sign ≢ sign.NotEqual
 
-init_guards : (n : ℕ) (d : Declared) → Guards (suc n) (λ i. suc i) (λ i. i) (init_at d n) free_init (λ (c : RelationText × List RelationText). item_pieces (init c.0 c.1)) (λ c. HasInitSigns (init c.0 c.1)) Any Always
+init_guards : (n : ℕ) (d : Declared) → Guards (suc n) (init_at d n) (λ (c : RelationText × List RelationText). item_pieces (init c.0 c.1)) (λ c. HasInitSigns (init c.0 c.1)) Always
 unfolding init_at
 init_guards n d =
     guards_as _ _ (λ c. c) (λ c. c) (λ c. refl)
     (λ c. ap (λ (ps : List Piece). Mark kind.Init ∷ (relation_pieces c.0 ++ (ps ++ Mark kind.Semicolon ∷ []))) (more_is c.1))
     (λ c h. All-from_recursion IsInitSign (c.0 ∷ c.1) (no_init_sign c.0.sign h.0, each c.1 h.1))
     (λ c h. (every_init_sign c.0.sign (All-head IsInitSign c.0 c.1 h), back c.1 (All-tail IsInitSign c.0 c.1 h)))
-    (guards_same _ _ (paired (with_inits d) (after_word kind.Init (relation_at init_sign_of (Some (names_of d)) n)) (ended_at (words_while (next_is kind.And) (after_word kind.And (relation_at init_sign_of (Some (names_of d)) n)) n))) (λ i at. refl)
-    (mapped_any (λ (p : Relation × List Relation). with_inits d p.0 p.1) (λ (p : Relation × List Relation). nothing_declared)
-    (both_guards {m = n} {m' = λ i. i} Any pair_up (λ x y z w a b. tt) (after_guards {m = n} {m' = λ i. i} kind.Init (λ u. refl) (omega arith) (λ i. omega arith) (init_relation_guards n (names_of d)) init_example)
-    (λ c. omega arith) (λ i c. omega arith)
-    (ended_guards (λ rest. (refl, (refl, refl))) (while_guards (next_is kind.And) (begins_piece kind.And) (next_test kind.And) relations_go_on (omega arith) (λ i. omega arith) (after_guards {m = n} {m' = λ i. i} kind.And (λ u. refl) (omega arith) (λ i. omega arith) (init_relation_guards n (names_of d)) init_example)))
-    (record { text = []; fine = tt; words = record { kind = kind.Semicolon; text = []; place = record { line = 0; column = 0 } } ∷ []; spelled = refl })
+    (guards_same _ (paired (with_inits d) (after_word kind.Init (relation_at init_sign_of (Some (names_of d)) n)) (ended_at (words_while (next_is kind.And) (after_word kind.And (relation_at init_sign_of (Some (names_of d)) n)) n)))
+    (mapped_guards (λ (p : Relation × List Relation). with_inits d p.0 p.1)
+    (both_guards_more pair_up (after_guards_more kind.Init (λ u. refl) (relation_guards n (Some (names_of d)) init_sign_of init_signs refl) init_example) (λ c. omega arith)
+    (ended_guards (λ rest. (refl, (refl, refl))) (while_guards (next_test kind.And) relations_go_on (after_guards kind.And (λ u. refl) (relation_guards n (Some (names_of d)) init_sign_of init_signs refl) init_example)))
+    (record { text = []; fine = tt; words = word_of kind.Semicolon ∷ []; spelled = refl })
     (λ rs rest h. relations_join rs rest))))
   where
     each : (rs : List RelationText) → AllByRecursion InitOk rs → AllByRecursion (λ (s : RelationText). s.sign ≢ sign.NotEqual) rs
@@ -208,9 +132,6 @@ init_guards n d =
     back (r ∷ rs) h = (every_init_sign r.sign (All-head (λ (s : RelationText). s.sign ≢ sign.NotEqual) r rs h), back rs (All-tail (λ (s : RelationText). s.sign ≢ sign.NotEqual) r rs h))
 
 -- ---- items
-
-abbrev pub free_item : ℕ → ReadWords Declared
-free_item n at = if next_is kind.Global at then free_global at else (if next_is kind.Local at then free_local at else free_init n at)
 
 -- it isn't a global
 abbrev Other : ItemText → Type 0
@@ -233,23 +154,20 @@ local_sort (global x v) ok = absurd ok
 local_sort (local x) ok = inl (record { text = x; fine = tt; same = refl; tells = λ rest h. refl })
 local_sort (init r rs) ok = inr (record { text = (r, rs); fine = ok; same = refl; tells = λ rest h. refl })
 
-counted_guards : (n : ℕ) (d : Declared) → Guards (suc n) (λ i. suc i) (λ i. i) (counted_item_at d n) free_item item_pieces HasInitSigns Any Always
+counted_guards : (n : ℕ) (d : Declared) → Guards (suc n) (counted_item_at d n) item_pieces HasInitSigns Always
 unfolding counted_item_at
 counted_guards n d =
-    choice_guards item_pieces HasInitSigns Always (next_is kind.Global) (begins_piece kind.Global) (next_test kind.Global) (λ k at ps h. next_ahead kind.Global h)
+    choice_guards item_pieces HasInitSigns Always (next_test kind.Global)
     (λ c. global c.0 c.1) (λ c. refl) (λ c h. tt) (λ i. i) (λ i. refl) other_signs global_sort (λ rest h. tt) (λ rest h. tt)
-    (global_guards (suc n) (λ i. suc i) (λ i. i) d)
-    (choice_guards item_pieces Other Always (next_is kind.Local) (begins_piece kind.Local) (next_test kind.Local) (λ k at ps h. next_ahead kind.Local h)
+    (global_guards (suc n) d)
+    (choice_guards item_pieces Other Always (next_test kind.Local)
     local (λ c. refl) (λ c h. tt) (λ c. init c.0 c.1) (λ c. refl) (λ c h. h) local_sort (λ rest h. tt) (λ rest h. tt)
-    (local_guards (suc n) (λ i. suc i) (λ i. i) d) (init_guards n d))
+    (local_guards (suc n) d) (init_guards n d))
 
 global_item : Example item_pieces HasInitSigns
-global_item = record {
-  text = global name_example.text value_example.text;
-  fine = tt;
-  words = record { kind = kind.Global; text = []; place = record { line = 0; column = 0 } } ∷ (name_example.words ++ value_example.words);
-  spelled = ap (λ (ps : List Piece). Mark kind.Global ∷ ps) (pieces_are name_example.words value_example.words (name_piece name_example.text) (value_pieces value_example.text ++ Mark kind.Semicolon ∷ []) name_example.spelled value_example.spelled);
-}
+global_item =
+    let e : Example (λ x. Mark kind.Global ∷ (name_piece x ++ Mark kind.Semicolon ∷ [])) Always = example_after kind.Global (λ u. refl) (example_closed kind.Semicolon (λ u. refl) name_example) in
+    record { text = global e.text None; fine = tt; words = e.words; spelled = e.spelled }
 
 local_item : Example item_pieces HasInitSigns
 local_item =
@@ -276,29 +194,11 @@ item_resumed at refused h = by_global (next_is kind.Global at) refl
     by_global true e = resumed_mark kind.Global (λ u. refl) at.words refused e global_item refl
     by_global false e = by_local (next_is kind.Local at) refl e
 
-pub item_guards : (n : ℕ) (d : Declared) → GuardsWhere has_item (suc n) (λ i. suc i) (λ i. i) (item_at d n) free_item item_pieces HasInitSigns Any Always
+pub item_guards : (n : ℕ) (d : Declared) → GuardsWhere has_item (suc n) (item_at d n) item_pieces HasInitSigns Always
 unfolding item_at
-item_guards n d = record {
-  never = (counted_guards n d).never;
-  stuck = λ at room on. by_test at room on (nat_lt most_rows (d.rows + item_rows n at));
-}
+item_guards n d = record { stuck = λ at room on. by_test at room on (nat_lt most_rows (d.rows + item_rows n at)) }
   where
     by_test : (at : WordsAhead) → length at.words < suc n → has_item at ≡ true → (t : Bool)
-        → Keeps (if t then Err (Limit (place_at at) limit.Init) else counted_item_at (with_rows (d.rows + item_rows n at) d) n at) (Went (λ i. suc i) free_item item_pieces HasInitSigns Any at) (Stood (λ i. suc i) free_item item_pieces HasInitSigns at)
-    by_test at room on true =
-        let r : Resumed item_pieces HasInitSigns at.words (Limit (place_at at) limit.Init) = item_resumed at (Limit (place_at at) limit.Init) on in
-        record {
-          is = record {
-            text = r.example.text;
-            fine = r.example.fine;
-            front = [];
-            rest = at.words;
-            more = r.example.words;
-            next = r.next;
-            split = refl;
-            place = refl;
-            spelled = r.example.spelled;
-            same = λ g i at' more room' s h. absurd (not_grammar {A = Var} (Limit (place_at at) limit.Init) (record { is = tt }) g);
-          };
-        }
+        → Keeps {A = Declared × WordsAhead} (if t then Err (Limit (place_at at) limit.Init) else counted_item_at (with_rows (d.rows + item_rows n at) d) n at) (λ y. Went item_pieces HasInitSigns Always at y.1) (Stood item_pieces HasInitSigns Always at)
+    by_test at room on true = record { is = stood_here at (Limit (place_at at) limit.Init) (item_resumed at (Limit (place_at at) limit.Init) on) refl (λ g. absurd g) }
     by_test at room on false = (counted_guards n (with_rows (d.rows + item_rows n at) d)).stuck at room

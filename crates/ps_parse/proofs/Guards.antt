@@ -1,8 +1,9 @@
--- The laws of refusals, in steps. What is read of a text of the grammar isn't a fault of the grammar; and where there is
--- one, it rests on the words before its place and the next one alone, and the words before it go on as some text.
-use Rattle.std.proofs.Common.{◌≡◌, Some, ℕ, ◌+◌, ◌<◌, ◌≤◌, Bool, true, false, List, [], ◌∷◌, ◌++◌, length, Result, Ok, Err, refl, sym, ap, subst, ◌∙◌, arith, length-append}
+-- The laws of refusals, in steps. What is read is the only text of the grammar that its words and the next one begin; and
+-- where there is a fault of the grammar, no text begins with the words before its place and the next one, but with those
+-- before it some text does.
+use Rattle.std.proofs.Common.{◌≡◌, Some, ℕ, suc, ◌+◌, ◌<◌, ◌≤◌, Bool, true, false, List, [], ◌∷◌, ◌++◌, length, drop, Result, Ok, Err, refl, sym, ap, subst, ◌∙◌, arith, append_assoc, length-append}
 use Rattle.std.specs.Prelude.{if◌then◌else◌}
-use Rattle.std.proofs.lemmas.Bool.{cond-true, cond-false}
+use Rattle.std.proofs.lemmas.Bool.{true≢false}
 use Rattle.std.proofs.lemmas.List.{map-append, length-map}
 use Rattle.ps_token.specs.declared.place.Place.{Place}
 use Rattle.ps_token.specs.declared.token_kind.TokenKind.{TokenKind}
@@ -14,31 +15,14 @@ use Rattle.ps_parse.specs.Kinds.{is_kind, begins_with, place_of_next}
 use Rattle.ps_lines.specs.Steps.{and_then, ◌>>=◌}
 use Rattle.ps_grammar.specs.Spelling.{Piece, Mark, piece_of_kind, pieces}
 use Rattle.ps_parse.specs.Reads.{BeginAlike, PassesGrammar, refusal_place}
-use Rattle.ps_parse.proofs.Steps.{Finds, found_if, one_kind, kind_of, kind_of_piece, begins_piece, begins_pieces, Ahead, Always, Gets, gets_end, gets_true}
-use Rattle.ps_parse.proofs.Sequences.{IsMark, word_exact}
+use Rattle.ps_parse.proofs.Steps.{Finds, found_if, one_kind, same_kind, kind_of, kind_of_piece, begins_piece, begins_pieces, Always}
+use Rattle.ps_parse.proofs.Sequences.{IsMark}
 
--- ---- faults of the grammar
+-- ---- answers
 
 abbrev pub IsGrammar : ReadRefusal → Type 0
 IsGrammar (Grammar p) = Unit {0}
 IsGrammar e = ⊥
-
-abbrev IsRefused : {A : Type 0} → Result A ReadRefusal → Type 0
-IsRefused (Ok x) = ⊥
-IsRefused (Err e) = IsGrammar e
-
--- it is a fault of the grammar
-pub record Refused {A : Type 0} (r : Result A ReadRefusal) : Type 0 where
-  pub is : IsRefused r
-
-abbrev LetsOf : {A : Type 0} → Result A ReadRefusal → (A → Type 0) → Type 0
-LetsOf (Ok x) Q = Q x
-LetsOf (Err (Grammar p)) Q = ⊥
-LetsOf (Err e) Q = Unit {0}
-
--- it is no fault of the grammar
-pub record Lets {A : Type 0} (r : Result A ReadRefusal) (Q : A → Type 0) : Type 0 where
-  pub is : LetsOf r Q
 
 abbrev KeepsOf : {A : Type 0} → Result A ReadRefusal → (A → Type 0) → (ReadRefusal → Type 0) → Type 0
 KeepsOf (Ok x) Q R = Q x
@@ -47,39 +31,6 @@ KeepsOf (Err e) Q R = R e
 -- what holds of what it is, or of the refusal that it is
 pub record Keeps {A : Type 0} (r : Result A ReadRefusal) (Q : A → Type 0) (R : ReadRefusal → Type 0) : Type 0 where
   pub is : KeepsOf r Q R
-
-pub refused_bind : {A B : Type 0} (r : Result A ReadRefusal) (f : A → Result B ReadRefusal) → Refused r → Refused (r >>= f)
-unfolding and_then
-refused_bind (Ok x) f h = absurd h.is
-refused_bind (Err e) f h = record { is = h.is }
-
-pub refused_after : {A B : Type 0} (r : Result A ReadRefusal) (f : A → Result B ReadRefusal) (Q : A → Type 0) → Gets r Q → ((x : A) → Q x → Refused (f x)) → Refused (r >>= f)
-unfolding and_then
-refused_after r f Q h k = subst (λ s. Refused (and_then s f)) (sym h.ok) (k h.value h.is)
-
-pub refused_true : {A : Type 0} (t : Bool) (r s : Result A ReadRefusal) → t ≡ true → Refused r → Refused (if t then r else s)
-refused_true t r s e h = subst Refused (sym (cond-true _ _ _ e)) h
-
-pub refused_false : {A : Type 0} (t : Bool) (r s : Result A ReadRefusal) → t ≡ false → Refused s → Refused (if t then r else s)
-refused_false t r s e h = subst Refused (sym (cond-false _ _ _ e)) h
-
-pub lets_bind : {A B : Type 0} (r : Result A ReadRefusal) (f : A → Result B ReadRefusal) (Q : A → Type 0) (R : B → Type 0) → Lets r Q → ((x : A) → Q x → Lets (f x) R) → Lets (r >>= f) R
-unfolding and_then
-lets_bind (Ok x) f Q R h k = k x h.is
-lets_bind (Err (Grammar p)) f Q R h k = absurd h.is
-lets_bind (Err e) f Q R h k = record { is = tt }
-
-pub lets_end : {A : Type 0} (y : A) (R : A → Type 0) → R y → Lets (Ok y) R
-lets_end y R h = record { is = h }
-
-pub lets_true : {A : Type 0} (t : Bool) (r s : Result A ReadRefusal) (R : A → Type 0) → t ≡ true → Lets r R → Lets (if t then r else s) R
-lets_true t r s R e h = subst (λ u. Lets u R) (sym (cond-true _ _ _ e)) h
-
-pub lets_false : {A : Type 0} (t : Bool) (r s : Result A ReadRefusal) (R : A → Type 0) → t ≡ false → Lets s R → Lets (if t then r else s) R
-lets_false t r s R e h = subst (λ u. Lets u R) (sym (cond-false _ _ _ e)) h
-
-pub lets_gets : {A : Type 0} (r : Result A ReadRefusal) (Q R : A → Type 0) → Gets r Q → ((x : A) → Q x → R x) → Lets r R
-lets_gets r Q R h k = subst (λ u. Lets u R) (sym h.ok) (record { is = k h.value h.is })
 
 pub keeps_bind : {A B : Type 0} (r : Result A ReadRefusal) (f : A → Result B ReadRefusal) (Q : A → Type 0) (R : ReadRefusal → Type 0) (Q' : B → Type 0) (R' : ReadRefusal → Type 0)
     → Keeps r Q R → ((x : A) → Q x → Keeps (f x) Q' R') → ((e : ReadRefusal) → R e → R' e) → Keeps (r >>= f) Q' R'
@@ -98,32 +49,64 @@ pub keeps_found : {A : Type 0} (r : Result A ReadRefusal) (Q : A → Type 0) (R 
 keeps_found (Ok x) Q R P h k = record { is = (h.is, k.is) }
 keeps_found (Err e) Q R P h k = record { is = h.is }
 
-pub not_grammar : {A : Type 0} (e : ReadRefusal) → Lets {A = A} (Err e) (λ _. ⊥) → IsGrammar e → ⊥
-not_grammar (Grammar p) h g = h.is
-not_grammar e h g = g
-
 -- ---- beginnings
 
 pub alike_itself : (ws : List Word) → BeginAlike ws ws
 alike_itself [] = tt
 alike_itself (w ∷ ws) = refl
 
-pub alike_after : (front : List Word) (ws vs : List Word) → BeginAlike ws vs → BeginAlike (front ++ ws) (front ++ vs)
-alike_after [] ws vs h = h
-alike_after (w ∷ front) ws vs h = refl
+-- both begin with the same piece, or both are empty
+abbrev pub Alike : List Piece → List Piece → Type 0
+Alike [] [] = Unit {0}
+Alike [] (q ∷ qs) = ⊥
+Alike (p ∷ ps) [] = ⊥
+Alike (p ∷ ps) (q ∷ qs) = p ≡ q
 
--- a test that the next word decides
-pub record IsTest (goes : WordsAhead → Bool) : Type 0 where
-  pub same : (at at' : WordsAhead) → BeginAlike at.words at'.words → goes at ≡ goes at'
+pub alike_pieces : (ws vs : List Word) → BeginAlike ws vs → Alike (pieces ws) (pieces vs)
+alike_pieces [] [] h = tt
+alike_pieces [] (v ∷ vs) h = h
+alike_pieces (w ∷ ws) [] h = h
+alike_pieces (w ∷ ws) (v ∷ vs) h = h
 
-alike_begins : (k : TokenKind) (ws vs : List Word) → BeginAlike ws vs → begins_with k ws ≡ begins_with k vs
+alike_after : (front ps qs : List Piece) → Alike ps qs → Alike (front ++ ps) (front ++ qs)
+alike_after [] ps qs h = h
+alike_after (p ∷ front) ps qs h = refl
+
+pub none_alike : (ps : List Piece) (q : Piece) (qs : List Piece) → Alike [] ps → ps ≡ q ∷ qs → ⊥
+none_alike [] q qs h e = absurd cc
+none_alike (p ∷ ps) q qs h e = h
+
+pub first_alike : (p : Piece) (ps rs : List Piece) (q : Piece) (qs : List Piece) → Alike (p ∷ ps) rs → rs ≡ q ∷ qs → p ≡ q
+first_alike p ps [] q qs h e = absurd h
+first_alike p ps (r ∷ rs) q qs h e = h ∙ cc
+
+pub pieces_both : (a b : List Word) → pieces (a ++ b) ≡ pieces a ++ pieces b
+pieces_both a b = map-append (λ (w : Word). piece_of_kind w.kind w.text) a b
+
+pub pieces_are : (a b : List Word) (ps qs : List Piece) → pieces a ≡ ps → pieces b ≡ qs → pieces (a ++ b) ≡ ps ++ qs
+pieces_are a b ps qs p q = pieces_both a b ∙ ap (λ (xs : List Piece). xs ++ pieces b) p ∙ ap (λ (xs : List Piece). ps ++ xs) q
+
+-- what follows a front goes on alike
+pub alike_next : (ws front rest : List Word) (ps : List Piece) → ws ≡ front ++ rest → Alike (pieces rest) ps → Alike (pieces ws) (pieces front ++ ps)
+alike_next ws front rest ps e h = subst (λ (qs : List Piece). Alike qs (pieces front ++ ps)) (sym (ap pieces e ∙ pieces_both front rest)) (alike_after (pieces front) (pieces rest) ps h)
+
+-- A test of the next word, on words and on pieces.
+pub record IsTest (goes : WordsAhead → Bool) (begins : List Piece → Bool) : Type 0 where
+  pub is : (at : WordsAhead) → goes at ≡ begins (pieces at.words)
+  pub same : (ps qs : List Piece) → Alike ps qs → begins ps ≡ begins qs
+
+alike_begins : (k : TokenKind) (ps qs : List Piece) → Alike ps qs → begins_piece k ps ≡ begins_piece k qs
 alike_begins k [] [] h = refl
-alike_begins k [] (v ∷ vs) h = absurd h
-alike_begins k (w ∷ ws) [] h = absurd h
-alike_begins k (w ∷ ws) (v ∷ vs) h = ap (λ (j : TokenKind). is_kind j k) (sym (kind_of_piece w.kind w.text) ∙ ap kind_of h ∙ kind_of_piece v.kind v.text)
+alike_begins k [] (q ∷ qs) h = absurd h
+alike_begins k (p ∷ ps) [] h = absurd h
+alike_begins k (p ∷ ps) (q ∷ qs) h = ap (λ (r : Piece). is_kind (kind_of r) k) h
 
-pub next_test : (k : TokenKind) → IsTest (next_is k)
-next_test k = record { same = λ at at' h. alike_begins k at.words at'.words h }
+pub next_test : (k : TokenKind) → IsTest (next_is k) (begins_piece k)
+next_test k = record { is = λ at. begins_pieces k at.words; same = alike_begins k }
+
+-- the test tells how pieces begin that begin with the words of a front and go on alike
+pub told : {goes : WordsAhead → Bool} {begins : List Piece → Bool} → IsTest goes begins → (at : WordsAhead) (front rest : List Word) (ps qs : List Piece) → at.words ≡ front ++ rest → Alike (pieces rest) ps → pieces front ++ ps ≡ qs → goes at ≡ begins qs
+told {begins = begins} test at front rest ps qs split alike e = test.is at ∙ test.same _ _ (alike_next at.words front rest ps split alike) ∙ ap begins e
 
 -- ---- the same first word
 
@@ -161,19 +144,19 @@ resumes_mark k marked (w ∷ ws) (v ∷ vs) e h = record { is = mark_of w e ∙ 
 
 -- ---- the laws
 
--- What was read is spelled so, and is read alike of other words that begin so and go on alike.
-pub record Went {C A : Type 0} (n' : ℕ → ℕ) (read' : ℕ → ReadWords A) (spell : C → List Piece) (okay : C → Type 0) (alike : A → A → Type 0) (at : WordsAhead) (y : A × WordsAhead) : Type 0 where
+-- What was read is spelled so, and any text that begins with these words, where they go on alike, ends with them.
+pub record Went {C : Type 0} (spell : C → List Piece) (okay : C → Type 0) (follows : List Piece → Type 0) (at after : WordsAhead) : Type 0 where
   pub text : C
   pub fine : okay text
   pub front : List Word
-  pub split : at.words ≡ front ++ y.1.words
-  pub ends : y.1.end ≡ at.end
+  pub split : at.words ≡ front ++ after.words
+  pub ends : after.end ≡ at.end
   pub spelled : pieces front ≡ spell text
-  pub same : (i : ℕ) (at' : WordsAhead) (other : List Word) → length at'.words < n' i → BeginAlike y.1.words other → at'.words ≡ front ++ other → Gets (read' i at') (λ z. alike y.0 z.0 × (z.1.words ≡ other))
+  pub only : (c : C) (ps tail : List Piece) → okay c → follows tail → Alike (pieces after.words) ps → pieces front ++ ps ≡ spell c ++ tail → ps ≡ tail
 
 -- Where a refusal stands, the words before it go on as some text, and with the refused word too where no fault of the
--- grammar stands there; and a fault of the grammar have others too that begin so and go on alike.
-pub record Stood {C A : Type 0} (n' : ℕ → ℕ) (read' : ℕ → ReadWords A) (spell : C → List Piece) (okay : C → Type 0) (at : WordsAhead) (refused : ReadRefusal) : Type 0 where
+-- grammar stands there; and where one does, no text begins with the words before it and goes on alike.
+pub record Stood {C : Type 0} (spell : C → List Piece) (okay : C → Type 0) (follows : List Piece → Type 0) (at : WordsAhead) (refused : ReadRefusal) : Type 0 where
   pub text : C
   pub fine : okay text
   pub front : List Word
@@ -183,28 +166,43 @@ pub record Stood {C A : Type 0} (n' : ℕ → ℕ) (read' : ℕ → ReadWords A)
   pub place : refusal_place refused ≡ Some (place_of_next rest at.end)
   pub spelled : pieces (front ++ more) ≡ spell text
   pub next : PassesGrammar refused → Resumes rest more
-  pub same : IsGrammar refused → (i : ℕ) (at' : WordsAhead) (other : List Word) → length at'.words < n' i → BeginAlike rest other → at'.words ≡ front ++ other → Refused (read' i at')
+  pub none : IsGrammar refused → (c : C) (ps tail : List Piece) → okay c → follows tail → Alike (pieces rest) ps → pieces front ++ ps ≡ spell c ++ tail → ⊥
 
--- The laws of a reading function, and of one that is like it with another bound, where fewer words are left than those
--- numbers, and at most so many: one like it for each number.
-pub record Guards {C A : Type 0} (n : ℕ) (n' most : ℕ → ℕ) (read : ReadWords A) (read' : ℕ → ReadWords A) (spell : C → List Piece) (okay : C → Type 0) (alike : A → A → Type 0) (follows : List Piece → Type 0) : Type 0 where
-  pub never : (i : ℕ) (at : WordsAhead) (c : C) (rest : List Piece) → okay c → Ahead (most i) at (spell c ++ rest) → follows rest → Lets (read' i at) (λ y. Ahead (most i) y.1 rest)
-  pub stuck : (at : WordsAhead) → length at.words < n → Keeps (read at) (Went n' read' spell okay alike at) (Stood n' read' spell okay at)
+-- The law of a reading function, where fewer words are left than this number.
+pub record Guards {C A : Type 0} (n : ℕ) (read : ReadWords A) (spell : C → List Piece) (okay : C → Type 0) (follows : List Piece → Type 0) : Type 0 where
+  pub stuck : (at : WordsAhead) → length at.words < n → Keeps (read at) (λ y. Went spell okay follows at y.1) (Stood spell okay follows at)
 
 -- The same where the next word passes a test.
-pub record GuardsWhere {C A : Type 0} (goes : WordsAhead → Bool) (n : ℕ) (n' most : ℕ → ℕ) (read : ReadWords A) (read' : ℕ → ReadWords A) (spell : C → List Piece) (okay : C → Type 0) (alike : A → A → Type 0) (follows : List Piece → Type 0) : Type 0 where
-  pub never : (i : ℕ) (at : WordsAhead) (c : C) (rest : List Piece) → okay c → Ahead (most i) at (spell c ++ rest) → follows rest → Lets (read' i at) (λ y. Ahead (most i) y.1 rest)
-  pub stuck : (at : WordsAhead) → length at.words < n → goes at ≡ true → Keeps (read at) (Went n' read' spell okay alike at) (Stood n' read' spell okay at)
+pub record GuardsWhere {C A : Type 0} (goes : WordsAhead → Bool) (n : ℕ) (read : ReadWords A) (spell : C → List Piece) (okay : C → Type 0) (follows : List Piece → Type 0) : Type 0 where
+  pub stuck : (at : WordsAhead) → length at.words < n → goes at ≡ true → Keeps (read at) (λ y. Went spell okay follows at y.1) (Stood spell okay follows at)
 
-pub guards_where : {C A : Type 0} {n : ℕ} {n' most : ℕ → ℕ} {read : ReadWords A} {read' : ℕ → ReadWords A} {spell : C → List Piece} {okay : C → Type 0} {alike : A → A → Type 0} {follows : List Piece → Type 0}
-    (goes : WordsAhead → Bool) → Guards n n' most read read' spell okay alike follows → GuardsWhere goes n n' most read read' spell okay alike follows
-guards_where goes g = record { never = g.never; stuck = λ at room e. g.stuck at room }
+pub guards_where : {C A : Type 0} {n : ℕ} {read : ReadWords A} {spell : C → List Piece} {okay : C → Type 0} {follows : List Piece → Type 0}
+    (goes : WordsAhead → Bool) → Guards n read spell okay follows → GuardsWhere goes n read spell okay follows
+guards_where goes g = record { stuck = λ at room e. g.stuck at room }
 
-abbrev pub Any : {A : Type 0} → A → A → Type 0
-Any x y = Unit {0}
+-- the same of texts of another sort
+pub went_as : {C D : Type 0} {spell : C → List Piece} {okay : C → Type 0} {follows : List Piece → Type 0} {at after : WordsAhead} (spell' : D → List Piece) (okay' : D → Type 0) (follows' : List Piece → Type 0)
+    (f : C → D) → ((c : C) → spell c ≡ spell' (f c)) → ((c : C) → okay c → okay' (f c)) → (p : Went spell okay follows at after)
+    → ((d : D) (ps tail : List Piece) → okay' d → follows' tail → Alike (pieces after.words) ps → pieces p.front ++ ps ≡ spell' d ++ tail → ps ≡ tail) → Went spell' okay' follows' at after
+went_as spell' okay' follows' f spelled fine p only = record { text = f p.text; fine = fine p.text p.fine; front = p.front; split = p.split; ends = p.ends; spelled = p.spelled ∙ spelled p.text; only = only }
 
-abbrev pub Same : {A : Type 0} → A → A → Type 0
-Same x y = x ≡ y
+pub stood_as : {C D : Type 0} {spell : C → List Piece} {okay : C → Type 0} {follows : List Piece → Type 0} {at : WordsAhead} {e : ReadRefusal} (spell' : D → List Piece) (okay' : D → Type 0) (follows' : List Piece → Type 0)
+    (f : C → D) → ((c : C) → spell c ≡ spell' (f c)) → ((c : C) → okay c → okay' (f c)) → (q : Stood spell okay follows at e)
+    → (IsGrammar e → (d : D) (ps tail : List Piece) → okay' d → follows' tail → Alike (pieces q.rest) ps → pieces q.front ++ ps ≡ spell' d ++ tail → ⊥) → Stood spell' okay' follows' at e
+stood_as spell' okay' follows' f spelled fine q none = record {
+  text = f q.text;
+  fine = fine q.text q.fine;
+  front = q.front;
+  rest = q.rest;
+  more = q.more;
+  split = q.split;
+  place = q.place;
+  spelled = q.spelled ∙ spelled q.text;
+  next = q.next;
+  none = none;
+}
+
+-- ---- examples
 
 -- some text, and words that spell it
 pub record Example {C : Type 0} (spell : C → List Piece) (okay : C → Type 0) : Type 0 where
@@ -222,56 +220,43 @@ pub record Resumed {C : Type 0} (spell : C → List Piece) (okay : C → Type 0)
 pub resumed_mark : {C : Type 0} {spell : C → List Piece} {okay : C → Type 0} (k : TokenKind) → IsMark k → (rest : List Word) (refused : ReadRefusal) → begins_with k rest ≡ true → (e : Example spell okay) → begins_piece k (spell e.text) ≡ true → Resumed spell okay rest refused
 resumed_mark k marked rest refused h e starts = record { example = e; next = λ g. resumes_mark k marked rest e.words h (begins_pieces k e.words ∙ ap (begins_piece k) e.spelled ∙ starts) }
 
-pub pieces_both : (a b : List Word) → pieces (a ++ b) ≡ pieces a ++ pieces b
-pieces_both a b = map-append (λ (w : Word). piece_of_kind w.kind w.text) a b
+-- a refusal at the next word
+pub stood_here : {C : Type 0} {spell : C → List Piece} {okay : C → Type 0} {follows : List Piece → Type 0} (at : WordsAhead) (e : ReadRefusal) → Resumed spell okay at.words e → refusal_place e ≡ Some (place_of_next at.words at.end)
+    → (IsGrammar e → (c : C) (ps tail : List Piece) → okay c → follows tail → Alike (pieces at.words) ps → ps ≡ spell c ++ tail → ⊥) → Stood spell okay follows at e
+stood_here at e r place none = record {
+  text = r.example.text;
+  fine = r.example.fine;
+  front = [];
+  rest = at.words;
+  more = r.example.words;
+  split = refl;
+  place = place;
+  spelled = r.example.spelled;
+  next = r.next;
+  none = none;
+}
 
-pub pieces_are : (a b : List Word) (ps qs : List Piece) → pieces a ≡ ps → pieces b ≡ qs → pieces (a ++ b) ≡ ps ++ qs
-pieces_are a b ps qs p q = pieces_both a b ∙ ap (λ (xs : List Piece). xs ++ pieces b) p ∙ ap (λ (xs : List Piece). ps ++ xs) q
-
--- fewer words are left after a front
-pub room_left : (n m : ℕ) (ws front vs : List Word) (ps : List Piece) → length ws < n → ws ≡ front ++ vs → pieces front ≡ ps → n ≤ length ps + m → length vs < m
-room_left n m ws front vs ps h e k le =
-    let l : length ws ≡ length front + length vs = ap (λ (xs : List Word). length xs) e ∙ length-append front vs in
-    let f : length front ≡ length ps = sym (length-map front (λ (w : Word). piece_of_kind w.kind w.text)) ∙ ap (λ (xs : List Piece). length xs) k in
-    omega (arith, h, l, f, le)
+pub no_fault : {X : Type 0} (e f : ReadRefusal) → e ≡ f → (IsGrammar f → ⊥) → IsGrammar e → X
+no_fault e f same other g = absurd (other (subst IsGrammar same g))
 
 -- ---- words
 
-word_of : TokenKind → Word
+abbrev pub word_of : TokenKind → Word
 word_of k = record { kind = k; text = []; place = record { line = 0; column = 0 } }
-
-no_word : (k : TokenKind) (vs : List Word) (end : Place) → BeginAlike [] vs → Refused (word_from k vs end)
-no_word k [] end h = record { is = tt }
-no_word k (v ∷ vs) end h = absurd h
-
-wrong_word : (k : TokenKind) (w : Word) (ws vs : List Word) (end : Place) → is_kind w.kind k ≡ false → BeginAlike (w ∷ ws) vs → Refused (word_from k vs end)
-wrong_word k w ws [] end e h = absurd h
-wrong_word k w ws (v ∷ vs) end e h = refused_false (is_kind v.kind k) _ _ (sym (alike_begins k (w ∷ ws) (v ∷ vs) h) ∙ e) (record { is = tt })
 
 abbrev pub piece_list : TokenKind → List ℕ → List Piece
 piece_list k t = piece_of_kind k t ∷ []
 
-word_stuck : (n' : ℕ → ℕ) (k : TokenKind) (ws : List Word) (end : Place)
-    → Keeps (word_from k ws end) (Went n' (λ i at. word_from k at.words at.end) (piece_list k) Always Same (record { words = ws; end = end })) (Stood n' (λ (i : ℕ) (at : WordsAhead). word_from k at.words at.end) (piece_list k) Always (record { words = ws; end = end }))
-unfolding word_of
-word_stuck n' k [] end = record {
-  is = record {
-    text = [];
-    fine = tt;
-    front = [];
-    rest = [];
-    more = word_of k ∷ [];
-    next = λ g. absurd g;
-    split = refl;
-    place = refl;
-    spelled = refl;
-    same = λ g i at' other room h e. subst (λ (vs : List Word). Refused (word_from k vs at'.end)) (sym e) (no_word k other at'.end h);
-  };
-}
-word_stuck n' k (w ∷ ws) end = by_test (is_kind w.kind k) refl
+abbrev pub word_example : (k : TokenKind) → Example (piece_list k) Always
+word_example k = record { text = []; fine = tt; words = word_of k ∷ []; spelled = refl }
+
+word_stuck : (k : TokenKind) (ws : List Word) (end : Place)
+    → Keeps (word_from k ws end) (λ y. Went (piece_list k) Always Always (record { words = ws; end = end }) y.1) (Stood (piece_list k) Always Always (record { words = ws; end = end }))
+word_stuck k [] end = record { is = stood_here (record { words = []; end = end }) (Grammar end) (record { example = word_example k; next = λ g. absurd g }) refl (λ g c ps tail fine stop alike e. none_alike ps _ _ alike e) }
+word_stuck k (w ∷ ws) end = by_test (is_kind w.kind k) refl
   where
     by_test : (t : Bool) → is_kind w.kind k ≡ t
-        → Keeps (if t then Ok (w, record { words = ws; end = end }) else Err (Grammar w.place)) (Went n' (λ i at. word_from k at.words at.end) (piece_list k) Always Same (record { words = w ∷ ws; end = end })) (Stood n' (λ (i : ℕ) (at : WordsAhead). word_from k at.words at.end) (piece_list k) Always (record { words = w ∷ ws; end = end }))
+        → Keeps {A = Word × WordsAhead} (if t then Ok (w, record { words = ws; end = end }) else Err (Grammar w.place)) (λ y. Went (piece_list k) Always Always (record { words = w ∷ ws; end = end }) y.1) (Stood (piece_list k) Always Always (record { words = w ∷ ws; end = end }))
     by_test true e = record {
       is = record {
         text = w.text;
@@ -280,38 +265,33 @@ word_stuck n' k (w ∷ ws) end = by_test (is_kind w.kind k) refl
         split = refl;
         ends = refl;
         spelled = ap (λ (j : TokenKind). piece_of_kind j w.text ∷ []) (one_kind w.kind k e);
-        same = λ i at' other room h s. subst (λ (vs : List Word). Gets (word_from k vs at'.end) (λ z. (w ≡ z.0) × (z.1.words ≡ other))) (sym s)
-            (gets_true (is_kind w.kind k) _ _ _ e (gets_end _ _ (refl, refl)));
+        only = λ c ps tail fine stop alike same. ap (λ (qs : List Piece). drop 1 qs) same;
       };
     }
     by_test false e = record {
-      is = record {
-        text = [];
-        fine = tt;
-        front = [];
-        rest = w ∷ ws;
-        more = word_of k ∷ [];
-        next = λ g. absurd g;
-        split = refl;
-        place = refl;
-        spelled = refl;
-        same = λ g i at' other room h s. subst (λ (vs : List Word). Refused (word_from k vs at'.end)) (sym s) (wrong_word k w ws other at'.end e h);
-      };
+      is = stood_here (record { words = w ∷ ws; end = end }) (Grammar w.place) (record { example = word_example k; next = λ g. absurd g }) refl (λ g c ps tail fine stop alike same.
+          let piece : piece_of_kind w.kind w.text ≡ piece_of_kind k c = first_alike _ (pieces ws) ps _ tail alike same in
+          true≢false (sym (same_kind w.kind k (sym (kind_of_piece w.kind w.text) ∙ ap kind_of piece ∙ kind_of_piece k c)) ∙ e));
     }
 
-pub word_guards : (n : ℕ) (n' most : ℕ → ℕ) (k : TokenKind) → Guards n n' most (next_word k) (λ i. next_word k) (piece_list k) Always Same Always
+pub word_guards : (n : ℕ) (k : TokenKind) → Guards n (next_word k) (piece_list k) Always Always
 unfolding next_word
-word_guards n n' most k = record {
-  never = λ i at t rest fine h _. lets_gets _ _ _ ((word_exact (most i) k).again at t rest tt h tt) (λ y p. p.1);
-  stuck = λ at room. word_stuck n' k at.words at.end;
-}
+word_guards n k = record { stuck = λ at room. word_stuck k at.words at.end }
 
 place_found : (k : TokenKind) (ws : List Word) (end : Place) → Finds (word_from k ws end) (λ w. place_of_next ws end ≡ w.0.place)
 place_found k [] end = record { is = tt }
 place_found k (w ∷ ws) end = found_if (is_kind w.kind k) _ _ _ (record { is = refl }) (record { is = tt })
 
 -- the word with its place
-pub placed_word : (n : ℕ) (n' most : ℕ → ℕ) (k : TokenKind) (at : WordsAhead) → length at.words < n
-    → Keeps (next_word k at) (λ w. Went n' (λ i. next_word k) (piece_list k) Always Same at w × (place_of_next at.words at.end ≡ w.0.place)) (Stood n' (λ i. next_word k) (piece_list k) Always at)
+pub placed_word : (n : ℕ) (k : TokenKind) (at : WordsAhead) → length at.words < n
+    → Keeps (next_word k at) (λ w. Went (piece_list k) Always Always at w.1 × (place_of_next at.words at.end ≡ w.0.place)) (Stood (piece_list k) Always Always at)
 unfolding next_word
-placed_word n n' most k at room = keeps_found _ _ _ _ ((word_guards n n' most k).stuck at room) (place_found k at.words at.end)
+placed_word n k at room = keeps_found _ _ _ _ ((word_guards n k).stuck at room) (place_found k at.words at.end)
+
+-- a refusal at a word that was taken
+pub stood_at_word : {C : Type 0} {spell : C → List Piece} {okay : C → Type 0} {follows : List Piece → Type 0} (k : TokenKind) (at after : WordsAhead) (place : Place) (e : ReadRefusal)
+    → (p : Went (piece_list k) Always Always at after) → place_of_next at.words at.end ≡ place → refusal_place e ≡ Some place → (IsGrammar e → ⊥)
+    → (text : C) → okay text → (more : List Word) → pieces (p.front ++ more) ≡ spell text → Stood spell okay follows at e
+stood_at_word k at after place e p here is other text fine more spelled =
+    stood_here at e (record { example = record { text = text; fine = fine; words = p.front ++ more; spelled = spelled }; next = λ g. resumes_more at.words p.front more (resumes_word at.words p.front after.words (piece_of_kind k p.text) p.split p.spelled) })
+    (is ∙ ap (λ (o : Place). Some o) (sym here)) (λ g. absurd (other g))

@@ -12,64 +12,58 @@ use Rattle.ps_parse.specs.declared.read_refusal.ReadRefusal.TheVariants.{Limit, 
 use Rattle.ps_grammar.specs.Grammar.{SumText, TestText, StmtText, assign, havoc, assume, assert, skip, atomic, if_then, if_else, while_do, BlockText, block_end}
 use Rattle.ps_grammar.specs.Words.{Word}
 use Rattle.ps_parse.specs.Inner.Reading.{ReadWords, next_is, place_at, after_word}
+use Rattle.ps_grammar.specs.Names.{Names}
 use Rattle.ps_parse.specs.Inner.Conds.{parens_at}
 use Rattle.ps_parse.specs.Inner.Blocks.{ended_at, assign_at, havoc_at, cond_stmt_at, skip_at, atomic_at, else_at, if_at, while_stmt_at, kind_at, stmt_at, has_more, block_at}
 use Rattle.ps_grammar.specs.Spelling.{Piece, Mark, cond_pieces, test_pieces, stmt_pieces, rest_pieces, block_pieces}
-use Rattle.ps_parse.proofs.Steps.{begins_piece, next_ahead, Not, Always}
+use Rattle.ps_parse.proofs.Steps.{begins_piece, Not, Always}
 use Rattle.ps_parse.proofs.Sequences.{IsMark}
 use Rattle.ps_parse.proofs.StmtLaws.{else_pieces, if_pieces, if_of, if_spelled, if_is, then_spelled}
 use Rattle.ps_parse.proofs.BlockLaws.{stmts_go_on, block_of, stmts_of, block_back, block_spelled, goes_on}
-use Rattle.ps_parse.proofs.Guards.{IsTest, next_test, Guards, GuardsWhere, guards_where, Any, Example, resumed_mark, pieces_are}
+use Rattle.ps_parse.proofs.Guards.{IsTest, next_test, Guards, GuardsWhere, guards_where, Example, resumed_mark, word_of, pieces_are}
 use Rattle.ps_parse.proofs.GuardSteps.{guards_same, guards_as, mapped_guards, placed_guards, refusing_guards, nothing_guards, both_guards, three_is, pair_up, of_pair, after_guards, word_refused_guards, word_alone, mark_example, closed_guards, example_after, example_closed, OfSort, choice_guards, last_guards}
 use Rattle.ps_parse.proofs.GuardLoops.{while_guards}
-use Rattle.ps_parse.proofs.SumGuards.{Two, GuardsIn, all_always, name_example, variable_guards, sum_guards, sum_example}
+use Rattle.ps_parse.proofs.SumGuards.{all_always, name_example, variable_guards, sum_guards, sum_example}
 use Rattle.ps_parse.proofs.CondGuards.{cond_guards, cond_example, parens_guards, test_example}
 
 -- ---- simple statements
 
-pub ended_guards : {C A : Type 0} {n : ℕ} {n' most : ℕ → ℕ} {read : ReadWords A} {read' : ℕ → ReadWords A} {spell : C → List Piece} {okay : C → Type 0} {alike : A → A → Type 0} {follows : List Piece → Type 0}
-    → ((rest : List Piece) → follows (Mark kind.Semicolon ∷ rest)) → Guards n n' most read read' spell okay alike follows → Guards n n' most (ended_at read) (λ i. ended_at (read' i)) (λ c. spell c ++ Mark kind.Semicolon ∷ []) okay alike Always
+pub ended_guards : {C A : Type 0} {n : ℕ} {read : ReadWords A} {spell : C → List Piece} {okay : C → Type 0} {follows : List Piece → Type 0} → ((rest : List Piece) → follows (Mark kind.Semicolon ∷ rest)) → Guards n read spell okay follows
+    → Guards n (ended_at read) (λ c. spell c ++ Mark kind.Semicolon ∷ []) okay Always
 unfolding ended_at
 ended_guards ends g = closed_guards kind.Semicolon (λ u. refl) ends g
 
-assign_guards : (t : Two) → GuardsIn t (assign_at t.scope t.most) (λ i. assign_at t.scope' (t.most' i)) (λ (c : List ℕ × SumText). stmt_pieces (assign c.0 c.1)) Any Always
+assign_guards : (n : ℕ) (scope : Option Names) → Guards n (assign_at scope n) (λ (c : List ℕ × SumText). stmt_pieces (assign c.0 c.1)) Always Always
 unfolding assign_at
-assign_guards t =
+assign_guards n scope =
     guards_as _ Always (λ c. c) (λ c. c) (λ c. refl) (λ c. refl) (λ c h. tt) (λ c h. (tt, tt))
-    (both_guards {m = t.left} {m' = t.left'} Any stmt.Assign (λ x y z w a b. tt) (variable_guards t) (λ c. omega arith) (λ i c. omega arith)
-    (after_guards kind.Becomes (λ u. refl) (omega arith) (λ i. omega arith) (ended_guards (λ rest. (refl, refl)) (sum_guards t)) (example_closed kind.Semicolon (λ u. refl) sum_example))
+    (both_guards stmt.Assign (variable_guards n scope) (after_guards kind.Becomes (λ u. refl) (ended_guards (λ rest. (refl, refl)) (sum_guards n scope)) (example_closed kind.Semicolon (λ u. refl) sum_example))
     (example_after kind.Becomes (λ u. refl) (example_closed kind.Semicolon (λ u. refl) sum_example)) (λ d rest h. tt))
 
-havoc_guards : (t : Two) → GuardsIn t (havoc_at t.scope) (λ i. havoc_at t.scope') (λ x. stmt_pieces (havoc x)) Any Always
+havoc_guards : (n : ℕ) (scope : Option Names) → Guards n (havoc_at scope) (λ x. stmt_pieces (havoc x)) Always Always
 unfolding havoc_at
-havoc_guards t = mapped_guards Any stmt.Havoc (λ x y h. tt) (after_guards kind.Havoc (λ u. refl) (omega arith) (λ i. omega arith) (ended_guards (λ rest. tt) (variable_guards t)) (example_closed kind.Semicolon (λ u. refl) name_example))
+havoc_guards n scope = mapped_guards stmt.Havoc (after_guards kind.Havoc (λ u. refl) (ended_guards (λ rest. tt) (variable_guards n scope)) (example_closed kind.Semicolon (λ u. refl) name_example))
 
-cond_stmt_guards : (t : Two) (levels : ℕ) (word : TokenKind) (of : Cond → StmtKind) → IsMark word
-    → GuardsIn t (cond_stmt_at word of t.scope t.most levels) (λ i. cond_stmt_at word of t.scope' (t.most' i) levels) (λ c. Mark word ∷ (cond_pieces c ++ Mark kind.Semicolon ∷ [])) Any Always
+cond_stmt_guards : (n : ℕ) (scope : Option Names) (levels : ℕ) (word : TokenKind) (of : Cond → StmtKind) → IsMark word
+    → Guards n (cond_stmt_at word of scope n levels) (λ c. Mark word ∷ (cond_pieces c ++ Mark kind.Semicolon ∷ [])) Always Always
 unfolding cond_stmt_at
-cond_stmt_guards t levels word of marked =
-    mapped_guards Any of (λ x y h. tt) (after_guards word marked (omega arith) (λ i. omega arith) (ended_guards (λ rest. (refl, (refl, (refl, refl)))) (cond_guards t levels)) (example_closed kind.Semicolon (λ u. refl) cond_example))
+cond_stmt_guards n scope levels word of marked = mapped_guards of (after_guards word marked (ended_guards (λ rest. (refl, (refl, (refl, refl)))) (cond_guards n scope levels)) (example_closed kind.Semicolon (λ u. refl) cond_example))
 
-skip_guards : (t : Two) → GuardsIn t skip_at (λ i. skip_at) (λ (u : Unit {0}). stmt_pieces skip) Any Always
+skip_guards : (n : ℕ) → Guards n skip_at (λ (u : Unit {0}). stmt_pieces skip) Always Always
 unfolding skip_at
-skip_guards t = mapped_guards Any (λ (w : Word). stmt.Skip) (λ x y h. tt) (after_guards kind.Skip (λ u. refl) (omega arith) (λ i. omega arith) (word_alone t.left t.left' t.most' kind.Semicolon (λ u. refl)) (mark_example kind.Semicolon (λ u. refl)))
+skip_guards n = mapped_guards (λ (w : Word). stmt.Skip) (after_guards kind.Skip (λ u. refl) (word_alone n kind.Semicolon (λ u. refl)) (mark_example kind.Semicolon (λ u. refl)))
 
 -- ---- statements with blocks
 
-abbrev BlockGuards : Two → ReadWords (List Stmt) → (ℕ → ReadWords (List Stmt)) → Type 0
-BlockGuards t block block' = GuardsIn t block block' block_pieces Any Always
+abbrev BlockGuards : ℕ → ReadWords (List Stmt) → Type 0
+BlockGuards n block = Guards n block block_pieces Always Always
 
 pub block_example : Example block_pieces Always
-block_example = record {
-  text = block_end;
-  fine = tt;
-  spelled = refl;
-  words = record { kind = kind.OpenBrace; text = []; place = record { line = 0; column = 0 } } ∷ record { kind = kind.CloseBrace; text = []; place = record { line = 0; column = 0 } } ∷ [];
-}
+block_example = record { text = block_end; fine = tt; spelled = refl; words = word_of kind.OpenBrace ∷ word_of kind.CloseBrace ∷ [] }
 
-atomic_guards : (t : Two) (block : ReadWords (List Stmt)) (block' : ℕ → ReadWords (List Stmt)) → BlockGuards t block block' → GuardsIn t (atomic_at block) (λ i. atomic_at (block' i)) (λ b. stmt_pieces (atomic b)) Any Always
+atomic_guards : (n : ℕ) (block : ReadWords (List Stmt)) → BlockGuards n block → Guards n (atomic_at block) (λ b. stmt_pieces (atomic b)) Always Always
 unfolding atomic_at
-atomic_guards t block block' g = mapped_guards Any stmt.Atomic (λ x y h. tt) (after_guards kind.Atomic (λ u. refl) (omega arith) (λ i. omega arith) g block_example)
+atomic_guards n block g = mapped_guards stmt.Atomic (after_guards kind.Atomic (λ u. refl) g block_example)
 
 abbrev while_pieces : TestText × BlockText → List Piece
 while_pieces c = stmt_pieces (while_do c.0 c.1)
@@ -78,39 +72,37 @@ while_example : Example while_pieces Always
 while_example = record {
   text = (test_example.text, block_example.text);
   fine = tt;
-  words = record { kind = kind.While; text = []; place = record { line = 0; column = 0 } } ∷ (test_example.words ++ block_example.words);
+  words = word_of kind.While ∷ (test_example.words ++ block_example.words);
   spelled = ap (λ (ps : List Piece). Mark kind.While ∷ ps) (pieces_are test_example.words block_example.words (test_pieces test_example.text) (block_pieces block_example.text) test_example.spelled block_example.spelled);
 }
 
-while_stmt_guards : (t : Two) (levels : ℕ) (inside : Bool) (block : ReadWords (List Stmt)) (block' : ℕ → ReadWords (List Stmt)) → BlockGuards t block block'
-    → GuardsWhere (next_is kind.While) t.left t.left' t.most' (while_stmt_at inside block t.scope t.most levels) (λ i. while_stmt_at inside (block' i) t.scope' (t.most' i) levels) while_pieces Always Any Always
+while_stmt_guards : (n : ℕ) (scope : Option Names) (levels : ℕ) (inside : Bool) (block : ReadWords (List Stmt)) → BlockGuards n block → GuardsWhere (next_is kind.While) n (while_stmt_at inside block scope n levels) while_pieces Always Always
 unfolding while_stmt_at while_example
-while_stmt_guards t levels true block block' g =
-    refusing_guards (next_is kind.While) t.left t.left' t.most' (λ at. LoopInAtomic (place_at at)) while_pieces Always Any Always (λ at. record { is = tt }) (λ at. refl)
+while_stmt_guards n scope levels true block g =
+    refusing_guards (next_is kind.While) n (λ at. LoopInAtomic (place_at at)) while_pieces Always Always (λ at g. g) (λ at. refl)
     (λ at e. resumed_mark kind.While (λ u. refl) at.words (LoopInAtomic (place_at at)) e while_example refl)
-while_stmt_guards t levels false block block' g =
+while_stmt_guards n scope levels false block g =
     guards_where (next_is kind.While)
     (guards_as while_pieces Always (λ c. c) (λ c. c) (λ c. refl) (λ c. refl) (λ c h. tt) (λ c h. (tt, tt))
-    (both_guards {m = t.left} {m' = t.left'} Any stmt.While (λ x y z w a b. tt) (after_guards kind.While (λ u. refl) (omega arith) (λ i. omega arith) (parens_guards t levels) test_example) (λ c. omega arith) (λ i c. omega arith) g block_example (λ d rest h. tt)))
+    (both_guards stmt.While (after_guards kind.While (λ u. refl) (parens_guards n scope levels) test_example) g block_example (λ d rest h. tt)))
 
 else_sort : (o : Option BlockText) → Always o → OfSort (begins_piece kind.Else) true (λ (b : BlockText). Mark kind.Else ∷ block_pieces b) Always (Not kind.Else) (else_pieces o) ⊎ OfSort (begins_piece kind.Else) false (λ (u : Unit {0}). []) Always (Not kind.Else) (else_pieces o)
 else_sort None ok = inr (record { text = tt; fine = tt; same = refl; tells = λ rest h. h })
 else_sort (Some b) ok = inl (record { text = b; fine = tt; same = refl; tells = λ rest h. refl })
 
-else_guards : (t : Two) (block : ReadWords (List Stmt)) (block' : ℕ → ReadWords (List Stmt)) → BlockGuards t block block' → GuardsIn t (else_at block) (λ i. else_at (block' i)) else_pieces Any (Not kind.Else)
+else_guards : (n : ℕ) (block : ReadWords (List Stmt)) → BlockGuards n block → Guards n (else_at block) else_pieces Always (Not kind.Else)
 unfolding else_at
-else_guards t block block' g =
-    choice_guards else_pieces Always (Not kind.Else) (next_is kind.Else) (begins_piece kind.Else) (next_test kind.Else) (λ k at ps h. next_ahead kind.Else h)
-    (λ b. Some b) (λ b. refl) (λ b h. tt) (λ (u : Unit {0}). None) (λ u. refl) (λ u h. tt) else_sort (λ rest h. tt) (λ rest h. tt)
-    (after_guards kind.Else (λ u. refl) (omega arith) (λ i. omega arith) g block_example) (nothing_guards t.left t.left' t.most' [] Any tt Always)
+else_guards n block g =
+    choice_guards else_pieces Always (Not kind.Else) (next_test kind.Else) (λ b. Some b) (λ b. refl) (λ b h. tt) (λ (u : Unit {0}). None) (λ u. refl) (λ u h. tt) else_sort (λ rest h. tt) (λ rest h. tt)
+    (after_guards kind.Else (λ u. refl) g block_example) (nothing_guards n [] Always)
 
-if_guards : (t : Two) (levels : ℕ) (block : ReadWords (List Stmt)) (block' : ℕ → ReadWords (List Stmt)) → BlockGuards t block block' → GuardsIn t (if_at block t.scope t.most levels) (λ i. if_at (block' i) t.scope' (t.most' i) levels) if_pieces Any (Not kind.Else)
+if_guards : (n : ℕ) (scope : Option Names) (levels : ℕ) (block : ReadWords (List Stmt)) → BlockGuards n block → Guards n (if_at block scope n levels) if_pieces Always (Not kind.Else)
 unfolding if_at
-if_guards t levels block block' g =
+if_guards n scope levels block g =
     guards_as if_pieces Always (λ c. record { test = c.0; held = c.1.0; failed = c.1.1 }) (λ c. (c.test, (c.held, c.failed))) (λ c. refl) (λ c. refl) (λ c h. tt) (λ c h. (tt, (tt, tt)))
-    (guards_same _ _ (three_is stmt.If (after_word kind.If (parens_at t.scope t.most levels)) block (else_at block)) (λ i. three_is stmt.If (after_word kind.If (parens_at t.scope' (t.most' i) levels)) (block' i) (else_at (block' i)))
-    (both_guards {m = t.left} {m' = t.left'} Any (of_pair stmt.If) (λ x y z w a b. tt) (after_guards kind.If (λ u. refl) (omega arith) (λ i. omega arith) (parens_guards t levels) test_example) (λ c. omega arith) (λ i c. omega arith)
-    (both_guards Any pair_up (λ x y z w a b. tt) g (λ c. omega arith) (λ i c. omega arith) (else_guards t block block' g) (record { text = None; fine = tt; words = []; spelled = refl }) (λ d rest h. tt))
+    (guards_same _ (three_is stmt.If (after_word kind.If (parens_at scope n levels)) block (else_at block))
+    (both_guards (of_pair stmt.If) (after_guards kind.If (λ u. refl) (parens_guards n scope levels) test_example)
+    (both_guards pair_up g (else_guards n block g) (record { text = None; fine = tt; words = []; spelled = refl }) (λ d rest h. tt))
     (record { text = (block_example.text, None); fine = (tt, tt); words = block_example.words ++ []; spelled = pieces_are block_example.words [] (block_pieces block_example.text) [] block_example.spelled refl }) (λ d rest h. tt)))
 
 -- ---- which statement
@@ -163,47 +155,44 @@ sort_if (if_else t b c) ok = inl (record { text = record { test = t; held = b; f
 sort_if (while_do t b) ok = inr (record { text = (t, b); fine = tt; same = refl; tells = λ rest h. refl })
 sort_if s ok = absurd (omega (arith, ok))
 
-kind_guards : (t : Two) (levels : ℕ) (block : Bool → ReadWords (List Stmt)) (block' : ℕ → Bool → ReadWords (List Stmt)) → ((inside : Bool) → BlockGuards t (block inside) (λ i. block' i inside)) → (inside : Bool)
-    → GuardsIn t (kind_at block inside t.scope t.most levels) (λ i. kind_at (block' i) inside t.scope' (t.most' i) levels) stmt_pieces Any (Not kind.Else)
+kind_guards : (n : ℕ) (scope : Option Names) (levels : ℕ) (block : Bool → ReadWords (List Stmt)) → ((inside : Bool) → BlockGuards n (block inside)) → (inside : Bool) → Guards n (kind_at block inside scope n levels) stmt_pieces Always (Not kind.Else)
 unfolding kind_at
-kind_guards t levels block block' g inside =
+kind_guards n scope levels block g inside =
     guards_as stmt_pieces Always (λ s. s) (λ s. s) (λ s. refl) (λ s. refl) (λ s h. tt) (λ s h. omega arith)
-    (choice_guards stmt_pieces (From 0) (Not kind.Else) (next_is kind.Name) (begins_piece kind.Name) (next_test kind.Name) (λ k at ps h. next_ahead kind.Name h)
-    (λ c. assign c.0 c.1) (λ c. refl) (λ c h. omega arith) (λ s. s) (λ s. refl) (λ s h. omega arith) sort_assign (λ rest h. tt) (λ rest h. h) (assign_guards t)
-    (choice_guards stmt_pieces (From 1) (Not kind.Else) (next_is kind.Havoc) (begins_piece kind.Havoc) (next_test kind.Havoc) (λ k at ps h. next_ahead kind.Havoc h)
-    havoc (λ c. refl) (λ c h. omega arith) (λ s. s) (λ s. refl) (λ s h. omega (arith, h)) sort_havoc (λ rest h. tt) (λ rest h. h) (havoc_guards t)
-    (choice_guards stmt_pieces (From 2) (Not kind.Else) (next_is kind.Assume) (begins_piece kind.Assume) (next_test kind.Assume) (λ k at ps h. next_ahead kind.Assume h)
-    assume (λ c. refl) (λ c h. omega arith) (λ s. s) (λ s. refl) (λ s h. omega (arith, h)) sort_assume (λ rest h. tt) (λ rest h. h) (cond_stmt_guards t levels kind.Assume stmt.Assume (λ u. refl))
-    (choice_guards stmt_pieces (From 3) (Not kind.Else) (next_is kind.Assert) (begins_piece kind.Assert) (next_test kind.Assert) (λ k at ps h. next_ahead kind.Assert h)
-    assert (λ c. refl) (λ c h. omega arith) (λ s. s) (λ s. refl) (λ s h. omega (arith, h)) sort_assert (λ rest h. tt) (λ rest h. h) (cond_stmt_guards t levels kind.Assert stmt.Assert (λ u. refl))
-    (choice_guards stmt_pieces (From 4) (Not kind.Else) (next_is kind.Skip) (begins_piece kind.Skip) (next_test kind.Skip) (λ k at ps h. next_ahead kind.Skip h)
-    (λ (u : Unit {0}). skip) (λ c. refl) (λ c h. omega arith) (λ s. s) (λ s. refl) (λ s h. omega (arith, h)) sort_skip (λ rest h. tt) (λ rest h. h) (skip_guards t)
-    (choice_guards stmt_pieces (From 5) (Not kind.Else) (next_is kind.Atomic) (begins_piece kind.Atomic) (next_test kind.Atomic) (λ k at ps h. next_ahead kind.Atomic h)
-    atomic (λ c. refl) (λ c h. omega arith) (λ s. s) (λ s. refl) (λ s h. omega (arith, h)) sort_atomic (λ rest h. tt) (λ rest h. h) (atomic_guards t (block true) (λ i. block' i true) (g true))
-    (choice_guards stmt_pieces (From 6) (Not kind.Else) (next_is kind.If) (begins_piece kind.If) (next_test kind.If) (λ k at ps h. next_ahead kind.If h)
-    if_of if_spelled (λ c h. if_is (From 6) (λ u b. omega arith) (λ u b d. omega arith) c) (λ c. while_do c.0 c.1) (λ c. refl) (λ c h. omega arith) sort_if (λ rest h. h) (λ rest h. tt) (if_guards t levels (block inside) (λ i. block' i inside) (g inside))
-    (last_guards kind.While (λ c rest h. refl) while_example (while_stmt_guards t levels inside (block inside) (λ i. block' i inside) (g inside))))))))))
+    (choice_guards stmt_pieces (From 0) (Not kind.Else) (next_test kind.Name)
+    (λ c. assign c.0 c.1) (λ c. refl) (λ c h. omega arith) (λ s. s) (λ s. refl) (λ s h. omega arith) sort_assign (λ rest h. tt) (λ rest h. h) (assign_guards n scope)
+    (choice_guards stmt_pieces (From 1) (Not kind.Else) (next_test kind.Havoc)
+    havoc (λ c. refl) (λ c h. omega arith) (λ s. s) (λ s. refl) (λ s h. omega (arith, h)) sort_havoc (λ rest h. tt) (λ rest h. h) (havoc_guards n scope)
+    (choice_guards stmt_pieces (From 2) (Not kind.Else) (next_test kind.Assume)
+    assume (λ c. refl) (λ c h. omega arith) (λ s. s) (λ s. refl) (λ s h. omega (arith, h)) sort_assume (λ rest h. tt) (λ rest h. h) (cond_stmt_guards n scope levels kind.Assume stmt.Assume (λ u. refl))
+    (choice_guards stmt_pieces (From 3) (Not kind.Else) (next_test kind.Assert)
+    assert (λ c. refl) (λ c h. omega arith) (λ s. s) (λ s. refl) (λ s h. omega (arith, h)) sort_assert (λ rest h. tt) (λ rest h. h) (cond_stmt_guards n scope levels kind.Assert stmt.Assert (λ u. refl))
+    (choice_guards stmt_pieces (From 4) (Not kind.Else) (next_test kind.Skip)
+    (λ (u : Unit {0}). skip) (λ c. refl) (λ c h. omega arith) (λ s. s) (λ s. refl) (λ s h. omega (arith, h)) sort_skip (λ rest h. tt) (λ rest h. h) (skip_guards n)
+    (choice_guards stmt_pieces (From 5) (Not kind.Else) (next_test kind.Atomic)
+    atomic (λ c. refl) (λ c h. omega arith) (λ s. s) (λ s. refl) (λ s h. omega (arith, h)) sort_atomic (λ rest h. tt) (λ rest h. h) (atomic_guards n (block true) (g true))
+    (choice_guards stmt_pieces (From 6) (Not kind.Else) (next_test kind.If)
+    if_of if_spelled (λ c h. if_is (From 6) (λ u b. omega arith) (λ u b d. omega arith) c) (λ c. while_do c.0 c.1) (λ c. refl) (λ c h. omega arith) sort_if (λ rest h. h) (λ rest h. tt) (if_guards n scope levels (block inside) (g inside))
+    (last_guards kind.While (λ c rest h. refl) while_example (while_stmt_guards n scope levels inside (block inside) (g inside))))))))))
 
-stmt_guards : (t : Two) (levels : ℕ) (block : Bool → ReadWords (List Stmt)) (block' : ℕ → Bool → ReadWords (List Stmt)) → ((inside : Bool) → BlockGuards t (block inside) (λ i. block' i inside)) → (inside : Bool)
-    → GuardsIn t (stmt_at block inside t.scope t.most levels) (λ i. stmt_at (block' i) inside t.scope' (t.most' i) levels) stmt_pieces Any (Not kind.Else)
+stmt_guards : (n : ℕ) (scope : Option Names) (levels : ℕ) (block : Bool → ReadWords (List Stmt)) → ((inside : Bool) → BlockGuards n (block inside)) → (inside : Bool) → Guards n (stmt_at block inside scope n levels) stmt_pieces Always (Not kind.Else)
 unfolding stmt_at
-stmt_guards t levels block block' g inside = placed_guards Any (λ at k. record { place = place_at at; kind = k }) (λ at k. record { place = place_at at; kind = k }) (λ at at' x y h. tt) (kind_guards t levels block block' g inside)
+stmt_guards n scope levels block g inside = placed_guards (λ at k. record { place = place_at at; kind = k }) (kind_guards n scope levels block g inside)
 
 -- ---- blocks
 
-more_test : IsTest has_more
-more_test = record { same = λ at at' h. ap not ((next_test kind.CloseBrace).same at at' h) }
+more_test : IsTest has_more goes_on
+more_test = record { is = λ at. ap not ((next_test kind.CloseBrace).is at); same = λ ps qs h. ap not ((next_test kind.CloseBrace).same ps qs h) }
 
 rest_example : Example rest_pieces Always
-rest_example = record { text = block_end; fine = tt; words = record { kind = kind.CloseBrace; text = []; place = record { line = 0; column = 0 } } ∷ []; spelled = refl }
+rest_example = record { text = block_end; fine = tt; words = word_of kind.CloseBrace ∷ []; spelled = refl }
 
-pub block_guards : (t : Two) (levels : ℕ) (inside : Bool) → BlockGuards t (block_at t.scope t.most levels inside) (λ i. block_at t.scope' (t.most' i) levels inside)
+pub block_guards : (n : ℕ) (scope : Option Names) (levels : ℕ) (inside : Bool) → BlockGuards n (block_at scope n levels inside)
 unfolding block_at after_word
-block_guards t zero inside =
-    word_refused_guards t.left t.left' t.most' kind.OpenBrace (λ w. Limit w.place limit.Depth) rest_pieces Always Any Always (λ u. refl) (λ w. record { is = tt }) (λ w. refl) rest_example
-block_guards t (suc levels) inside =
-    after_guards kind.OpenBrace (λ u. refl) (omega arith) (λ i. omega arith)
+block_guards n scope zero inside = word_refused_guards n kind.OpenBrace (λ w. Limit w.place limit.Depth) rest_pieces Always Always (λ u. refl) (λ w g. g) (λ w. refl) rest_example
+block_guards n scope (suc levels) inside =
+    after_guards kind.OpenBrace (λ u. refl)
     (guards_as rest_pieces Always block_of stmts_of block_back block_spelled (λ ss h. tt) (λ b h. all_always (stmts_of b))
     (closed_guards kind.CloseBrace (λ u. refl) (λ rest. (refl, refl))
-    (while_guards has_more goes_on more_test stmts_go_on t.low t.low' (stmt_guards t levels (block_at t.scope t.most levels) (λ i. block_at t.scope' (t.most' i) levels) (λ u. block_guards t levels u) inside))))
+    (while_guards more_test stmts_go_on (stmt_guards n scope levels (block_at scope n levels) (λ u. block_guards n scope levels u) inside))))
     rest_example

@@ -20,7 +20,7 @@ pub fn membership(alloc: Global, input: &str) -> Result<Vec<u8>, AllocError> {
     let (space, letters) = space_and_rest(alloc, input)?;
     let trace = read_letters(alloc, letters)?;
     let Space { graph, entries, .. } = space;
-    let front = front_of(entries)?;
+    let front = front_of(alloc, entries)?;
     let is_member = is_proved(alloc, &graph, &front, &trace)?;
     word(alloc, if is_member { "yes" } else { "no" })
 }
@@ -58,11 +58,11 @@ fn read_letters(alloc: Global, text: &str) -> Result<IndexedTrace, AllocError> {
     })
 }
 
-fn front_of(entries: Vec<Entry>) -> Result<Front, AllocError> {
+fn front_of(alloc: Global, entries: Vec<Entry>) -> Result<Front, AllocError> {
     if entries.len() > MOST_ENTRIES {
         return Err(AllocError);
     }
-    Ok(Front::from_list(entries))
+    Front::indexed(alloc, entries)
 }
 
 // Whether each edge of a letter exists.

@@ -28,10 +28,10 @@ use std::alloc::{AllocError, Global};
 /// order. Of minimal sets one more than the most is counted; of atoms and threads those of the first
 /// configuration that is too great.
 ///
-/// In time and memory of a copy of the entries, and for each step of its demands: each atom takes a walk
-/// over the entries, or what `next_for` of the front takes. The fresh thread steps along all edges that
-/// don't enter the error, so each edge is looked at. A step takes the time of `minimal_hits` of its
-/// demands, which isn't bounded by its answer.
+/// In time and memory of a copy of the entries, and for each step of its demands: each atom takes a look-up
+/// by `next_for`, and one for each triple that it finds. The fresh thread steps along all edges that don't
+/// enter the error, so each edge is looked at. A step takes the time of `minimal_hits` of its demands, which
+/// isn't bounded by its answer.
 pub fn expand<B: Shown>(
     alloc: Global,
     graph: &Graph,

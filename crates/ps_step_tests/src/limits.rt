@@ -77,7 +77,7 @@ fn demanding(alloc: Global, count: u32) -> Result<Option<Space>, AllocError> {
     let Some(graph) = counter(alloc) else {
         return Ok(None);
     };
-    Ok(front_from(list).map(|front| Space { graph, front }))
+    Ok(front_from(alloc, list)?.map(|front| Space { graph, front }))
 }
 
 fn demands(alloc: Global, count: u32, from: &str, answer: &str) -> Result<bool, AllocError> {

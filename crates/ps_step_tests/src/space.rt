@@ -72,11 +72,11 @@ pub fn counter(alloc: Global) -> Option<Graph> {
 }
 
 /// The entries as they are, where they aren't too many.
-pub fn front_from(list: Vec<Entry>) -> Option<Front> {
+pub fn front_from(alloc: Global, list: Vec<Entry>) -> Result<Option<Front>, AllocError> {
     if list.len() > MOST_ENTRIES {
-        return None;
+        return Ok(None);
     }
-    Some(Front::from_list(list))
+    Ok(Some(Front::indexed(alloc, list)?))
 }
 
 fn front_of(alloc: Global, text: &str) -> Result<Option<Front>, AllocError> {
@@ -87,7 +87,7 @@ fn front_of(alloc: Global, text: &str) -> Result<Option<Front>, AllocError> {
         };
         list.push(entry)?;
     }
-    Ok(front_from(list))
+    front_from(alloc, list)
 }
 
 /// The graph of the counter with the entries of the lines.

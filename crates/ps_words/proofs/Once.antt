@@ -6,13 +6,14 @@ use Rattle.clap.specs.Walk.{Row, Text}
 use Rattle.ps_words.specs.Asked.{AskFor, IsMatched}
 use Rattle.ps_words.specs.Modes.{mode_name}
 use Rattle.ps_words.specs.declared.mode.Mode.{Mode}
-use Rattle.ps_words.specs.declared.mode.Mode.TheVariants.{Refute, Replay, Check}
+use Rattle.ps_words.specs.declared.mode.Mode.TheVariants.{Refute, Replay, Check, Member}
 use Rattle.ps_words.specs.declared.words.Words.{Words}
 
 alike : (a b : Mode) → bytes_eq (mode_name a) (mode_name b) ≡ true → a ≡ b
 alike Refute Refute e = refl
 alike Replay Replay e = refl
 alike Check Check e = refl
+alike Member Member e = refl
 alike _ _ e = absurd (cc)
 
 -- modes with one name are one mode

@@ -33,7 +33,7 @@ use Rattle.ps_words.specs.Modes.{mode_name}
 use Rattle.ps_words.specs.Options.{Takes, default_number, default_text, least_number, most_number, option_name}
 use Rattle.ps_words.specs.Plain.{AreTaken, Given, is_given, number_given, option_words, plain_words, same_option, words_given}
 use Rattle.ps_words.specs.declared.mode.Mode.{Mode}
-use Rattle.ps_words.specs.declared.mode.Mode.TheVariants.{Refute, Replay, Check}
+use Rattle.ps_words.specs.declared.mode.Mode.TheVariants.{Refute, Replay, Check, Member}
 use Rattle.ps_words.specs.declared.option_name.OptionName.{OptionName}
 use Rattle.ps_words.specs.declared.option_name.OptionName.TheVariants.{Explorers, Provers, Nodes, Traces, Width, Size}
 
@@ -251,22 +251,26 @@ unfolding clap_on_literals
 mode_word Refute = refl
 mode_word Replay = refl
 mode_word Check = refl
+mode_word Member = refl
 
 mode_turn : (mode : Mode) → turn_fault top [] (walk_from nothing_held) (mode_name mode) ≡ []
 unfolding clap_on_literals
 mode_turn Refute = refl
 mode_turn Replay = refl
 mode_turn Check = refl
+mode_turn Member = refl
 
 mode_fault : (mode : Mode) → settle_fault top.rules false (between [] (codes "MODE") (mode_name mode)).held ≡ []
 mode_fault Refute = refl
 mode_fault Replay = refl
 mode_fault Check = refl
+mode_fault Member = refl
 
 mode_settled : (mode : Mode) → settled_rows top.rules (Some (codes "MODE", mode_name mode ∷ [])) [] ≡ mode_row mode ∷ []
 mode_settled Refute = refl
 mode_settled Replay = refl
 mode_settled Check = refl
+mode_settled Member = refl
 
 -- ---- names
 

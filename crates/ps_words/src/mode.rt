@@ -12,6 +12,9 @@ pub const REPLAY: &str = "replay";
 /// The word for `check`.
 pub const CHECK: &str = "check";
 
+/// The word for `member`.
+pub const MEMBER: &str = "member";
+
 /// A mode that is built.
 #[derive(Clone, Copy)]
 pub enum Mode {
@@ -21,6 +24,8 @@ pub enum Mode {
     Replay,
     /// Whether a proof is accepted for a program.
     Check,
+    /// Whether the entries of a proof prove a trace of a program.
+    Member,
 }
 
 impl Mode {
@@ -32,6 +37,7 @@ impl Mode {
             Mode::Refute => REFUTE,
             Mode::Replay => REPLAY,
             Mode::Check => CHECK,
+            Mode::Member => MEMBER,
         }
     }
 
@@ -48,6 +54,9 @@ impl Mode {
         }
         if name == Mode::Check.name() {
             return Some(Mode::Check);
+        }
+        if name == Mode::Member.name() {
+            return Some(Mode::Member);
         }
         None
     }

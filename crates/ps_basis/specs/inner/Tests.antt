@@ -1,12 +1,7 @@
 -- Tests of single entries.
-use Rattle.std.specs.Prelude.{ℕ, Bool, false, ◌&&◌, ◌==◌}
+use Rattle.std.specs.Prelude.{ℕ, Bool, false, ◌==◌}
 use Rattle.ps_triple.specs.declared.entry.Entry.{Entry}
 use Rattle.ps_triple.specs.declared.entry.Entry.TheVariants.{Triple as OfTriple, Initial as OfInitial}
-
--- a triple with this command whose atom after has this predicate
-abbrev pub is_for : Entry → ℕ → ℕ → Bool
-is_for (OfTriple t) post command = t.post.predicate == post && t.command == command
-is_for (OfInitial i) post command = false
 
 -- an initial entry of this predicate
 abbrev pub is_initial_for : Entry → ℕ → Bool

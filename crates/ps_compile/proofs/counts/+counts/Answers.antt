@@ -1,7 +1,7 @@
 use Rattle.std.proofs.Common.{rules, ◌<◌, ◌≤◌, length, min, true, false, not, ap, sym, ◌∙◌, List}
 use Rattle.ps_graph.specs.Alternatives.{Bound, alternatives}
 use Rattle.ps_compile.specs.inner.Members.{any_of, each_of}
-use Rattle.ps_compile.proofs.Counting.{and_true, and_false, or_true, or_false, not_is}
+use Rattle.ps_compile.proofs.Members.{and_true, and_false, or_true, or_false, not_is}
 use Rattle.ps_tree.specs.declared.cond.Cond.TheVariants.{And, Or}
 use Rattle.ps_compile.proofs.Counted.{rel_counts, members_count, each_step, any_step, each_end, any_end}
 use Rattle.ps_compile.proofs.counts.+counts.Goals as goal

@@ -6,13 +6,14 @@ use Rattle.ps_words.proofs.Refused.{faulty_words, nameless_words}
 use Rattle.ps_words.specs.Examples.{after_refute}
 use Rattle.ps_words.specs.Modes.{mode_name}
 use Rattle.ps_words.specs.declared.mode.Mode.{Mode}
-use Rattle.ps_words.specs.declared.mode.Mode.TheVariants.{Refute, Replay, Check}
+use Rattle.ps_words.specs.declared.mode.Mode.TheVariants.{Refute, Replay, Check, Member}
 use Rattle.ps_words.proofs.worked.one_mode_is_wanted.Goals as goal
 
 unlike : (mode : Mode) → bytes_eq (mode_name mode) (codes "refut") ≡ false
 unlike Refute = refl
 unlike Replay = refl
 unlike Check = refl
+unlike Member = refl
 
 pub returns : goal.returns
 unfolding clap_on_literals
