@@ -17,12 +17,6 @@ use Rattle.ps_lines.specs.declared.form_fault.FormFault.{FormFault}
 use Rattle.ps_parts.specs.declared.parts.TheConstants.{MOST_PROOF}
 use Rattle.ps_soundness.proofs.Safe.{accepted_text as never_fails}
 use Rattle.ps_tree.specs.declared.program.Program.{Program}
-<<<<<<< HEAD
-=======
-use Rattle.ps_triple.proofs.Worth.{one_fault}
-use Rattle.ps_triple.specs.Faults.{IsFirstEntryFault}
-use Rattle.ps_triple.specs.declared.entry.Entry.{Entry as AnEntry}
->>>>>>> a63ed850745348426d0c23fbf83f30e29ea1d399
 use Rattle.ps_modes.proofs.OneGraph.{one_graph}
 use Rattle.ps_modes.proofs.Two as two
 use Rattle.ps_modes.specs.Check.{Accepted, FirstFault, NotOfForm, Owed, OwedOf, OwedToProof, Proves, Refused, SaysAccepted, SaysFault, SaysSafe, SpellsProof}
