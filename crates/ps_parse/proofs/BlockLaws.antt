@@ -1,5 +1,5 @@
 -- The laws of statements and blocks.
-use Rattle.std.proofs.Common.{◌≡◌, ℕ, zero, suc, ◌≤◌, Bool, true, false, List, [], ◌∷◌, ◌++◌, length, drop, Some, None, Result, refl, sym, ap, subst, ◌∙◌, arith, append_assoc, length-append}
+use Rattle.std.proofs.Common.{◌≡◌, ℕ, zero, suc, ◌≤◌, Bool, true, false, List, [], ◌∷◌, ◌++◌, length, drop, Some, None, ◌⊎◌, inl, inr, true≢false, refl, sym, ap, subst, ◌∙◌, arith, append_assoc, length-append}
 use Rattle.std.specs.Prelude.{not}
 use Rattle.std.specs.List.{flat_map, AllByRecursion}
 use Rattle.ps_token.specs.declared.place.Place.{Place}
@@ -8,20 +8,20 @@ use Rattle.ps_token.specs.declared.token_kind.TokenKind.TheVariants as kind
 use Rattle.ps_tree.specs.declared.stmt.Stmt.{Stmt}
 use Rattle.ps_tree.specs.declared.stmt.StmtKind.{StmtKind}
 use Rattle.ps_tree.specs.declared.stmt.StmtKind.TheVariants as stmt
-use Rattle.ps_parse.specs.declared.read_refusal.ReadRefusal.{ReadRefusal}
-use Rattle.ps_grammar.specs.Grammar.{StmtText, assign, havoc, assume, assert, skip, atomic, if_then, if_else, while_do, BlockText, block_end, block_more}
+use Rattle.ps_parse.specs.declared.read_refusal.ReadRefusal.TheVariants.{Grammar, LoopInAtomic}
+use Rattle.ps_grammar.specs.Grammar.{SumText, TestText, StmtText, assign, havoc, assume, assert, skip, atomic, if_then, if_else, while_do, BlockText, block_end, block_more}
 use Rattle.ps_grammar.specs.Words.{Word}
-use Rattle.ps_parse.specs.Inner.Reading.{WordsAhead, ReadWords, next_is, place_at, after_word}
+use Rattle.ps_parse.specs.Inner.Reading.{WordsAhead, ReadWords, place_at, after_word}
 use Rattle.ps_parse.specs.Kinds.{is_kind, place_of_next}
 use Rattle.ps_grammar.specs.Names.{Names}
 use Rattle.ps_parse.specs.Inner.Blocks.{while_stmt_at, kind_at, stmt_at, has_more, block_at}
 use Rattle.ps_grammar.specs.Spelling.{Piece, Mark, pieces, stmt_pieces, rest_pieces, block_pieces}
 use Rattle.ps_grammar.specs.Trees.{place_of_first, stmt_tree, block_trees}
 use Rattle.ps_grammar.specs.Fits.{StmtFits, RestFits}
-use Rattle.ps_parse.proofs.Steps.{places, takes_pieces, Ahead, ahead_so, begins_piece, next_ahead, Not, Finds, Gets, found_bind, found_end, found_if, gets_bind, gets_end, gets_true, gets_false, gets_more, Spelled, Exact}
-use Rattle.ps_parse.proofs.Sequences.{mark_found, exact_as, after_exact, closed_exact, ListSays, GoesOn, while_exact}
+use Rattle.ps_parse.proofs.Steps.{places, takes_pieces, begins_piece, next_ahead, Not, Always, found_bind, found_end, gets_bind, gets_end, Exact, next_test}
+use Rattle.ps_parse.proofs.Sequences.{mark_found, exact_as, exact_fits, refusing_exact, OfSort, choice_exact, after_exact, closed_exact, ListSays, GoesOn, while_exact}
 use Rattle.ps_parse.proofs.CondLaws.{one_less}
-use Rattle.ps_parse.proofs.StmtLaws.{BlockFits, BlockIs, BlockExact, assign_exact, havoc_exact, cond_stmt_exact, skip_exact, atomic_exact, while_do_exact, if_exact, IfText, if_of, if_spelled, if_fit, if_said, then_spelled, then_said, else_said, found_as, StmtIs}
+use Rattle.ps_parse.proofs.StmtLaws.{BlockFits, BlockIs, BlockExact, assign_exact, havoc_exact, cond_stmt_exact, skip_exact, atomic_exact, while_do_exact, if_exact, if_of, if_spelled, if_fit, if_unfit, if_said, if_is, StmtIs}
 
 -- ---- what a statement begins with
 
@@ -54,93 +54,88 @@ stmt_some (while_do t u) = omega arith
 abbrev Blocks : ℕ → Names → ℕ → (Bool → ReadWords (List Stmt)) → Type 0
 Blocks n names levels block = (inside : Bool) → BlockExact n names levels inside (block inside)
 
-kind_found : (n : ℕ) (names : Names) (levels : ℕ) (block : Bool → ReadWords (List Stmt)) → Blocks n names levels block → (inside : Bool) (at : WordsAhead)
-    → Finds (kind_at block inside (Some names) n levels at) (Spelled stmt_pieces (StmtFits names levels inside) (StmtIs names) at)
-unfolding kind_at while_stmt_at
-kind_found n names levels block exact inside at =
-    found_if (next_is kind.Name at) _ _ _ (as_stmt (λ c. assign c.0 c.1) (λ c. refl) (λ c h. h) (λ c ps y h. h) at _ ((assign_exact n names).found at))
-    (found_if (next_is kind.Havoc at) _ _ _ (as_stmt havoc (λ c. refl) (λ c h. h) (λ c ps y h. h) at _ ((havoc_exact n names).found at))
-    (found_if (next_is kind.Assume at) _ _ _ (as_stmt assume (λ c. refl) (λ c h. h) (λ c ps y h. h) at _ ((cond_stmt_exact n names levels kind.Assume stmt.Assume (λ t. refl)).found at))
-    (found_if (next_is kind.Assert at) _ _ _ (as_stmt assert (λ c. refl) (λ c h. h) (λ c ps y h. h) at _ ((cond_stmt_exact n names levels kind.Assert stmt.Assert (λ t. refl)).found at))
-    (found_if (next_is kind.Skip at) _ _ _ (as_stmt (λ c. skip) (λ c. refl) (λ c h. h) (λ c ps y h. h) at _ ((skip_exact n).found at))
-    (found_if (next_is kind.Atomic at) _ _ _ (as_stmt atomic (λ c. refl) (λ c h. h) (λ c ps y h. h) at _ ((atomic_exact n names levels (block true) (exact true)).found at))
-    (found_if (next_is kind.If at) _ _ _ (as_stmt if_of if_spelled (if_fit names levels inside) (if_said names) at _ ((if_exact n names levels inside (block inside) (exact inside)).found at))
-    (found_if (next_is kind.While at) _ _ _ (by_inside inside (exact inside))
-    (record { is = tt }))))))))
+-- the statements in the order of the tests
+abbrev pub order : StmtText → ℕ
+order (assign x s) = 0
+order (havoc x) = 1
+order (assume c) = 2
+order (assert c) = 3
+order skip = 4
+order (atomic b) = 5
+order (if_then t b) = 6
+order (if_else t b c) = 6
+order (while_do t b) = 7
+
+abbrev pub Later : (StmtText → Type 0) → ℕ → StmtText → Type 0
+Later P k s = P s × (k ≤ order s)
+
+abbrev SortOf : {C : Type 0} → (StmtText → Type 0) → TokenKind → ℕ → (C → StmtText) → StmtText → Type 0
+SortOf P k next f s = OfSort (begins_piece k) true stmt_pieces (Not kind.Else) f (λ c. P (f c)) s ⊎ OfSort (begins_piece k) false stmt_pieces (Not kind.Else) (λ (u : StmtText). u) (Later P next) s
+
+pub sort_assign : (P : StmtText → Type 0) (s : StmtText) → Later P 0 s → SortOf P kind.Name 1 (λ (c : List ℕ × SumText). assign c.0 c.1) s
+sort_assign P (assign x u) ok = inl (record { text = (x, u); same = refl; fit = ok.0; tells = λ rest h. refl })
+sort_assign P s ok = inr (record { text = s; same = refl; fit = (ok.0, omega (arith, ok.1)); tells = λ rest h. refl })
+
+pub sort_havoc : (P : StmtText → Type 0) (s : StmtText) → Later P 1 s → SortOf P kind.Havoc 2 havoc s
+sort_havoc P (havoc x) ok = inl (record { text = x; same = refl; fit = ok.0; tells = λ rest h. refl })
+sort_havoc P s ok = inr (record { text = s; same = refl; fit = (ok.0, omega (arith, ok.1)); tells = λ rest h. refl })
+
+pub sort_assume : (P : StmtText → Type 0) (s : StmtText) → Later P 2 s → SortOf P kind.Assume 3 assume s
+sort_assume P (assume c) ok = inl (record { text = c; same = refl; fit = ok.0; tells = λ rest h. refl })
+sort_assume P s ok = inr (record { text = s; same = refl; fit = (ok.0, omega (arith, ok.1)); tells = λ rest h. refl })
+
+pub sort_assert : (P : StmtText → Type 0) (s : StmtText) → Later P 3 s → SortOf P kind.Assert 4 assert s
+sort_assert P (assert c) ok = inl (record { text = c; same = refl; fit = ok.0; tells = λ rest h. refl })
+sort_assert P s ok = inr (record { text = s; same = refl; fit = (ok.0, omega (arith, ok.1)); tells = λ rest h. refl })
+
+pub sort_skip : (P : StmtText → Type 0) (s : StmtText) → Later P 4 s → SortOf P kind.Skip 5 (λ (u : Unit {0}). skip) s
+sort_skip P skip ok = inl (record { text = tt; same = refl; fit = ok.0; tells = λ rest h. refl })
+sort_skip P s ok = inr (record { text = s; same = refl; fit = (ok.0, omega (arith, ok.1)); tells = λ rest h. refl })
+
+pub sort_atomic : (P : StmtText → Type 0) (s : StmtText) → Later P 5 s → SortOf P kind.Atomic 6 atomic s
+sort_atomic P (atomic b) ok = inl (record { text = b; same = refl; fit = ok.0; tells = λ rest h. refl })
+sort_atomic P s ok = inr (record { text = s; same = refl; fit = (ok.0, omega (arith, ok.1)); tells = λ rest h. refl })
+
+abbrev pub while_pieces : TestText × BlockText → List Piece
+while_pieces c = stmt_pieces (while_do c.0 c.1)
+
+pub sort_if : (P : StmtText → Type 0) (s : StmtText) → Later P 6 s → OfSort (begins_piece kind.If) true stmt_pieces (Not kind.Else) if_of (λ c. P (if_of c)) s ⊎ OfSort (begins_piece kind.If) false stmt_pieces (Not kind.Else) (λ (c : TestText × BlockText). while_do c.0 c.1) (λ c. P (while_do c.0 c.1)) s
+unfolding if_of
+sort_if P (if_then t b) ok = inl (record { text = record { test = t; held = b; failed = None }; same = refl; fit = ok.0; tells = λ rest h. refl })
+sort_if P (if_else t b c) ok = inl (record { text = record { test = t; held = b; failed = Some c }; same = refl; fit = ok.0; tells = λ rest h. refl })
+sort_if P (while_do t b) ok = inr (record { text = (t, b); same = refl; fit = ok.0; tells = λ rest h. refl })
+sort_if P s ok = absurd (omega (arith, ok.1))
+
+while_stmt_exact : (n : ℕ) (names : Names) (levels : ℕ) (inside : Bool) (block : ReadWords (List Stmt)) → BlockExact n names levels inside block
+    → Exact n (while_stmt_at inside block (Some names) n levels) while_pieces (λ c. StmtFits names levels inside (while_do c.0 c.1)) (λ c. StmtIs names (while_do c.0 c.1)) Always
+unfolding while_stmt_at
+while_stmt_exact n names levels true block exact = refusing_exact n (λ at. LoopInAtomic (place_at at)) _ _ _ Always (λ c h. true≢false h.0)
+while_stmt_exact n names levels false block exact = exact_fits _ (λ c h. (refl, h.0, h.1.0, h.1.1)) (λ c h. (h.1, (h.2, h.3))) (while_do_exact n names levels false block exact)
+
+kind_exact : (n : ℕ) (names : Names) (levels : ℕ) (block : Bool → ReadWords (List Stmt)) → Blocks n names levels block → (inside : Bool) → Exact n (kind_at block inside (Some names) n levels) stmt_pieces (StmtFits names levels inside) (StmtIs names) (Not kind.Else)
+unfolding kind_at
+kind_exact n names levels block exact inside =
+    exact_fits Fits (λ s h. h.0) (λ s h. (h, omega arith))
+    (choice_exact stmt_pieces (Later Fits 0) (StmtIs names) (Not kind.Else) (next_test kind.Name) (λ c. assign c.0 c.1) (λ c. refl) (λ c h. (h, omega arith)) (λ c ps y h. h)
+    (λ s. s) (λ s. refl) (λ s h. (h.0, omega arith)) (λ s ps y h. h) (sort_assign Fits) (λ rest h. tt) (λ rest h. h) (assign_exact n names)
+    (choice_exact stmt_pieces (Later Fits 1) (StmtIs names) (Not kind.Else) (next_test kind.Havoc) havoc (λ c. refl) (λ c h. (h, omega arith)) (λ c ps y h. h)
+    (λ s. s) (λ s. refl) (λ s h. (h.0, omega (arith, h.1))) (λ s ps y h. h) (sort_havoc Fits) (λ rest h. tt) (λ rest h. h) (havoc_exact n names)
+    (choice_exact stmt_pieces (Later Fits 2) (StmtIs names) (Not kind.Else) (next_test kind.Assume) assume (λ c. refl) (λ c h. (h, omega arith)) (λ c ps y h. h)
+    (λ s. s) (λ s. refl) (λ s h. (h.0, omega (arith, h.1))) (λ s ps y h. h) (sort_assume Fits) (λ rest h. tt) (λ rest h. h) (cond_stmt_exact n names levels kind.Assume stmt.Assume (λ t. refl))
+    (choice_exact stmt_pieces (Later Fits 3) (StmtIs names) (Not kind.Else) (next_test kind.Assert) assert (λ c. refl) (λ c h. (h, omega arith)) (λ c ps y h. h)
+    (λ s. s) (λ s. refl) (λ s h. (h.0, omega (arith, h.1))) (λ s ps y h. h) (sort_assert Fits) (λ rest h. tt) (λ rest h. h) (cond_stmt_exact n names levels kind.Assert stmt.Assert (λ t. refl))
+    (choice_exact stmt_pieces (Later Fits 4) (StmtIs names) (Not kind.Else) (next_test kind.Skip) (λ (u : Unit {0}). skip) (λ c. refl) (λ c h. (h, omega arith)) (λ c ps y h. h)
+    (λ s. s) (λ s. refl) (λ s h. (h.0, omega (arith, h.1))) (λ s ps y h. h) (sort_skip Fits) (λ rest h. tt) (λ rest h. h) (skip_exact n)
+    (choice_exact stmt_pieces (Later Fits 5) (StmtIs names) (Not kind.Else) (next_test kind.Atomic) atomic (λ c. refl) (λ c h. (h, omega arith)) (λ c ps y h. h)
+    (λ s. s) (λ s. refl) (λ s h. (h.0, omega (arith, h.1))) (λ s ps y h. h) (sort_atomic Fits) (λ rest h. tt) (λ rest h. h) (atomic_exact n names levels (block true) (exact true))
+    (choice_exact stmt_pieces (Later Fits 6) (StmtIs names) (Not kind.Else) (next_test kind.If) if_of if_spelled (λ c h. (h, if_is (λ s. 6 ≤ order s) (λ t u. omega arith) (λ t u v. omega arith) c)) (if_said names)
+    (λ c. while_do c.0 c.1) (λ c. refl) (λ c h. (h, omega arith)) (λ c ps y h. h) (sort_if Fits) (λ rest h. h) (λ rest h. tt) (exact_fits (λ c. Fits (if_of c)) (if_fit names levels inside) (if_unfit names levels inside) (if_exact n names levels inside (block inside) (exact inside)))
+    (choice_exact while_pieces (λ c. Fits (while_do c.0 c.1)) (λ c. StmtIs names (while_do c.0 c.1)) Always (next_test kind.While) (λ c. c) (λ c. refl) (λ c h. h) (λ c ps y h. h)
+    (λ (c : TestText × BlockText). c) (λ c. refl) (λ c none. absurd none) (λ c ps y h. h) (λ c h. inl (record { text = c; same = refl; fit = h; tells = λ rest stop. refl })) (λ rest h. tt) (λ rest h. h)
+    (while_stmt_exact n names levels inside (block inside) (exact inside)) (refusing_exact n (λ at. Grammar (place_at at)) while_pieces (λ c. ⊥) (λ c. StmtIs names (while_do c.0 c.1)) Always (λ c none. none))))))))))
   where
-    as_stmt : {C : Type 0} {spell : C → List Piece} {fits : C → Type 0} {says : C → List Place → StmtKind → Type 0} (f : C → StmtText)
-        → ((c : C) → spell c ≡ stmt_pieces (f c)) → ((c : C) → fits c → StmtFits names levels inside (f c)) → ((c : C) (ps : List Place) (y : StmtKind) → says c ps y → StmtIs names (f c) ps y)
-        → (at : WordsAhead) (r : Result (StmtKind × WordsAhead) ReadRefusal) → Finds r (Spelled spell fits says at) → Finds r (Spelled stmt_pieces (StmtFits names levels inside) (StmtIs names) at)
-    as_stmt f a b c at r h = found_as stmt_pieces (StmtFits names levels inside) (StmtIs names) f a b c at r h
-
-    by_inside : (t : Bool) → BlockExact n names levels t (block t) → Finds (while_stmt_at t (block t) (Some names) n levels at) (Spelled stmt_pieces (StmtFits names levels t) (StmtIs names) at)
-    by_inside true ex = record { is = tt }
-    by_inside false ex = found_as stmt_pieces (StmtFits names levels false) (StmtIs names) (λ c. while_do c.0 c.1) (λ c. refl) (λ c h. (refl, h.0, h.1.0, h.1.1)) (λ c ps y h. h) at _ ((while_do_exact n names levels false (block false) ex).found at)
-
-kind_again : (n : ℕ) (names : Names) (levels : ℕ) (block : Bool → ReadWords (List Stmt)) → Blocks n names levels block → (inside : Bool) (at : WordsAhead) (s : StmtText) (rest : List Piece) → StmtFits names levels inside s → Ahead n at (stmt_pieces s ++ rest) → Not kind.Else rest
-    → Gets (kind_at block inside (Some names) n levels at) (λ y. StmtIs names s (places at.words) y.0 × Ahead n y.1 rest)
-unfolding kind_at while_stmt_at
-kind_again n names levels block exact inside at (assign x s) rest fit h stop =
-    gets_true (next_is kind.Name at) _ _ _ (next_ahead kind.Name h) ((assign_exact n names).again at (x, s) rest fit h tt)
-kind_again n names levels block exact inside at (havoc x) rest fit h stop =
-    gets_false (next_is kind.Name at) _ _ _ (next_ahead kind.Name h)
-    (gets_true (next_is kind.Havoc at) _ _ _ (next_ahead kind.Havoc h) ((havoc_exact n names).again at x rest fit h tt))
-kind_again n names levels block exact inside at (assume c) rest fit h stop =
-    gets_false (next_is kind.Name at) _ _ _ (next_ahead kind.Name h)
-    (gets_false (next_is kind.Havoc at) _ _ _ (next_ahead kind.Havoc h)
-    (gets_true (next_is kind.Assume at) _ _ _ (next_ahead kind.Assume h) ((cond_stmt_exact n names levels kind.Assume stmt.Assume (λ t. refl)).again at c rest fit h tt)))
-kind_again n names levels block exact inside at (assert c) rest fit h stop =
-    gets_false (next_is kind.Name at) _ _ _ (next_ahead kind.Name h)
-    (gets_false (next_is kind.Havoc at) _ _ _ (next_ahead kind.Havoc h)
-    (gets_false (next_is kind.Assume at) _ _ _ (next_ahead kind.Assume h)
-    (gets_true (next_is kind.Assert at) _ _ _ (next_ahead kind.Assert h) ((cond_stmt_exact n names levels kind.Assert stmt.Assert (λ t. refl)).again at c rest fit h tt))))
-kind_again n names levels block exact inside at skip rest fit h stop =
-    gets_false (next_is kind.Name at) _ _ _ (next_ahead kind.Name h)
-    (gets_false (next_is kind.Havoc at) _ _ _ (next_ahead kind.Havoc h)
-    (gets_false (next_is kind.Assume at) _ _ _ (next_ahead kind.Assume h)
-    (gets_false (next_is kind.Assert at) _ _ _ (next_ahead kind.Assert h)
-    (gets_true (next_is kind.Skip at) _ _ _ (next_ahead kind.Skip h) ((skip_exact n).again at [] rest tt h tt)))))
-kind_again n names levels block exact inside at (atomic b) rest fit h stop =
-    gets_false (next_is kind.Name at) _ _ _ (next_ahead kind.Name h)
-    (gets_false (next_is kind.Havoc at) _ _ _ (next_ahead kind.Havoc h)
-    (gets_false (next_is kind.Assume at) _ _ _ (next_ahead kind.Assume h)
-    (gets_false (next_is kind.Assert at) _ _ _ (next_ahead kind.Assert h)
-    (gets_false (next_is kind.Skip at) _ _ _ (next_ahead kind.Skip h)
-    (gets_true (next_is kind.Atomic at) _ _ _ (next_ahead kind.Atomic h) ((atomic_exact n names levels (block true) (exact true)).again at b rest fit h tt))))))
-kind_again n names levels block exact inside at (if_then t b) rest fit h stop =
-    let c : IfText = record { test = t; held = b; failed = None } in
-    gets_false (next_is kind.Name at) _ _ _ (next_ahead kind.Name h)
-    (gets_false (next_is kind.Havoc at) _ _ _ (next_ahead kind.Havoc h)
-    (gets_false (next_is kind.Assume at) _ _ _ (next_ahead kind.Assume h)
-    (gets_false (next_is kind.Assert at) _ _ _ (next_ahead kind.Assert h)
-    (gets_false (next_is kind.Skip at) _ _ _ (next_ahead kind.Skip h)
-    (gets_false (next_is kind.Atomic at) _ _ _ (next_ahead kind.Atomic h)
-    (gets_true (next_is kind.If at) _ _ _ (next_ahead kind.If h)
-    (gets_more _ _ _ ((if_exact n names levels inside (block inside) (exact inside)).again at c rest (fit.0, (fit.1, fit.2), tt) (ahead_so (ap (λ (ps : List Piece). ps ++ rest) (sym (then_spelled t b))) h) stop) (λ y p. (then_said names t b (places at.words) y.0 p.0, p.1)))))))))
-kind_again n names levels block exact inside at (if_else t b d) rest fit h stop =
-    let c : IfText = record { test = t; held = b; failed = Some d } in
-    gets_false (next_is kind.Name at) _ _ _ (next_ahead kind.Name h)
-    (gets_false (next_is kind.Havoc at) _ _ _ (next_ahead kind.Havoc h)
-    (gets_false (next_is kind.Assume at) _ _ _ (next_ahead kind.Assume h)
-    (gets_false (next_is kind.Assert at) _ _ _ (next_ahead kind.Assert h)
-    (gets_false (next_is kind.Skip at) _ _ _ (next_ahead kind.Skip h)
-    (gets_false (next_is kind.Atomic at) _ _ _ (next_ahead kind.Atomic h)
-    (gets_true (next_is kind.If at) _ _ _ (next_ahead kind.If h)
-    (gets_more _ _ _ ((if_exact n names levels inside (block inside) (exact inside)).again at c rest (fit.0, (fit.1, fit.2), (fit.1, fit.3)) h stop) (λ y p. (else_said names t b d (places at.words) y.0 p.0, p.1)))))))))
-kind_again n names levels block exact inside at (while_do t b) rest fit h stop =
-    gets_false (next_is kind.Name at) _ _ _ (next_ahead kind.Name h)
-    (gets_false (next_is kind.Havoc at) _ _ _ (next_ahead kind.Havoc h)
-    (gets_false (next_is kind.Assume at) _ _ _ (next_ahead kind.Assume h)
-    (gets_false (next_is kind.Assert at) _ _ _ (next_ahead kind.Assert h)
-    (gets_false (next_is kind.Skip at) _ _ _ (next_ahead kind.Skip h)
-    (gets_false (next_is kind.Atomic at) _ _ _ (next_ahead kind.Atomic h)
-    (gets_false (next_is kind.If at) _ _ _ (next_ahead kind.If h)
-    (gets_true (next_is kind.While at) _ _ _ (next_ahead kind.While h)
-    (gets_false inside _ _ _ fit.0
-    ((while_do_exact n names levels inside (block inside) (exact inside)).again at (t, b) rest (fit.1, (fit.2, fit.3)) h tt)))))))))
-
-abbrev kind_exact : (n : ℕ) (names : Names) (levels : ℕ) (block : Bool → ReadWords (List Stmt)) → Blocks n names levels block → (inside : Bool) → Exact n (kind_at block inside (Some names) n levels) stmt_pieces (StmtFits names levels inside) (StmtIs names) (Not kind.Else)
-kind_exact n names levels block exact inside = record { found = kind_found n names levels block exact inside; again = kind_again n names levels block exact inside }
+    Fits : StmtText → Type 0
+    Fits = StmtFits names levels inside
 
 -- ---- with its place
 

@@ -1,5 +1,5 @@
 -- The laws of conditions and tests.
-use Rattle.std.proofs.Common.{◌≡◌, ◌↔◌, ℕ, zero, suc, ◌-◌, Bool, ◌||◌, List, [], ◌∷◌, ◌++◌, map, length, drop, Some, refl, sym, ap, subst, ◌∙◌, arith, append_assoc}
+use Rattle.std.proofs.Common.{◌≡◌, ◌↔◌, ℕ, zero, suc, ◌-◌, Bool, true, false, ◌||◌, ◌⊎◌, inl, inr, List, [], ◌∷◌, ◌++◌, map, length, drop, Some, refl, sym, ap, subst, ◌∙◌, arith, append_assoc}
 use Rattle.std.specs.List.{flat_map, AllByRecursion}
 use Rattle.std.proofs.lemmas.List.{append-nil}
 use Rattle.ps_token.specs.declared.place.Place.{Place}
@@ -8,18 +8,21 @@ use Rattle.ps_token.specs.declared.token_kind.TokenKind.TheVariants as kind
 use Rattle.ps_tree.specs.declared.cond.Cond.{Cond}
 use Rattle.ps_tree.specs.declared.cond.Cond.TheVariants as cond
 use Rattle.ps_tree.specs.declared.cond.Test.TheVariants as test
-use Rattle.ps_grammar.specs.Grammar.{CondText, last_conj, or_else, ConjText, last_unary, and_also, UnaryText, negation, in_parens, relation, TestText, either, condition}
-use Rattle.ps_parse.specs.Inner.Reading.{WordsAhead, ReadWords, next_is, after_word}
+use Rattle.ps_tree.specs.declared.limit_name.LimitName.TheVariants as limit
+use Rattle.ps_parse.specs.declared.read_refusal.ReadRefusal.TheVariants.{Limit}
+use Rattle.ps_grammar.specs.Words.{Word}
+use Rattle.ps_grammar.specs.Grammar.{RelationText, CondText, last_conj, or_else, ConjText, last_unary, and_also, UnaryText, negation, in_parens, relation, TestText, either, condition}
+use Rattle.ps_parse.specs.Inner.Reading.{ReadWords, next_is, place_at, after_word}
 use Rattle.ps_grammar.specs.Names.{Names}
 use Rattle.ps_parse.specs.Inner.Sums.{sign_of, relation_at}
 use Rattle.ps_parse.specs.Inner.Conds.{one_or_all, members_at, conj_with, cond_with, opens_at, unary_at, cond_at, test_at, parens_at}
 use Rattle.ps_grammar.specs.Spelling.{Piece, Mark, relation_pieces, cond_pieces, conj_pieces, unary_pieces, test_pieces}
 use Rattle.ps_grammar.specs.Trees.{relation_tree, gathered, cond_members, conj_members, unary_tree, cond_tree, test_tree}
-use Rattle.ps_grammar.specs.Fits.{CondFits, ConjFits, UnaryFits, TestFits}
-use Rattle.ps_parse.proofs.Steps.{same_kind, Ahead, begins_piece, next_ahead, Not, Always, Finds, Gets, found_bind, found_end, found_if, found_more, gets_bind, gets_end, gets_true, gets_false, Spelled, Exact}
-use Rattle.ps_parse.proofs.Sequences.{IsMark, mark_found, mark_again, exact_as, mapped, mapped_exact, after_exact, both_exact, closed, closed_exact, ListSays, GoesOn, Ends, while_exact}
+use Rattle.ps_grammar.specs.Fits.{RelationFits, CondFits, ConjFits, UnaryFits, TestFits}
+use Rattle.ps_parse.proofs.Steps.{same_kind, begins_piece, next_ahead, Not, Always, found_bind, Exact, IsTest, next_test, either_test}
+use Rattle.ps_parse.proofs.Sequences.{IsMark, mark_found, mark_exact, exact_as, exact_fits, refusing_exact, OfSort, choice_exact, mapped, mapped_exact, after_exact, both_exact, closed, closed_exact, ListSays, GoesOn, Ends, while_exact}
 use Rattle.ps_parse.proofs.SumLaws.{SumEnds}
-use Rattle.ps_parse.proofs.RelationLaws.{all_signs, every_sign, RelationIn, relation_exact, relation_begins}
+use Rattle.ps_parse.proofs.RelationLaws.{all_signs, every_sign, relation_exact, relation_begins}
 
 -- ---- members with a word between them
 
@@ -176,11 +179,8 @@ cond_with_exact n names levels unary exact =
 pub one_less : (levels : ℕ) → suc levels - 1 ≡ levels
 one_less levels = omega arith
 
-rel_exact : (n : ℕ) (names : Names) → Exact n (mapped cond.Rel (relation_at sign_of (Some names) n)) relation_pieces (RelationIn sign_of (Some names)) (Is (λ r. cond.Rel (relation_tree names r))) SumEnds
-rel_exact n names = mapped_exact _ cond.Rel (λ r ps y h. ap cond.Rel h.1) (relation_exact n sign_of all_signs (Some names))
-
-rel_found : (n : ℕ) (names : Names) (levels : ℕ) (at : WordsAhead) → Finds (mapped cond.Rel (relation_at sign_of (Some names) n) at) (Spelled unary_pieces (UnaryFits names levels) (Is (unary_tree names)) at)
-rel_found n names levels at = found_more _ _ _ ((rel_exact n names).found at) (λ y p. record { text = relation p.text; taken = p.taken; fit = p.fit.0; is = p.is })
+rel_exact : (n : ℕ) (names : Names) → Exact n (mapped cond.Rel (relation_at sign_of (Some names) n)) relation_pieces (RelationFits names) (Is (λ r. cond.Rel (relation_tree names r))) SumEnds
+rel_exact n names = exact_fits (RelationFits names) (λ r h. h.0) (λ r h. (h, every_sign r.sign)) (mapped_exact _ cond.Rel (λ r ps y h. ap cond.Rel h.1) (relation_exact n sign_of all_signs (Some names)))
 
 not_exact : (n : ℕ) (names : Names) (levels : ℕ) (unary : ReadWords Cond) → UnaryExact n names levels unary → Exact n (mapped cond.Not (after_word kind.Not unary)) (λ u. unary_pieces (negation u)) (UnaryFits names levels) (Is (λ u. unary_tree names (negation u))) SumEnds
 not_exact n names levels unary exact = mapped_exact _ cond.Not (λ c ps y h. ap cond.Not h) (after_exact kind.Not (λ t. refl) exact)
@@ -188,54 +188,58 @@ not_exact n names levels unary exact = mapped_exact _ cond.Not (λ c ps y h. ap 
 in_parens_exact : (n : ℕ) (names : Names) (levels : ℕ) (unary : ReadWords Cond) → UnaryExact n names levels unary → Exact n (closed kind.CloseParen (after_word kind.OpenParen (cond_with unary n))) (λ c. unary_pieces (in_parens c)) (CondFits names levels) (Is (cond_tree names)) Always
 in_parens_exact n names levels unary exact = closed_exact kind.CloseParen (λ t. refl) (λ rest. (refl, (refl, (refl, refl)))) (after_exact kind.OpenParen (λ t. refl) (cond_with_exact n names levels unary exact))
 
-unary_found : (n : ℕ) (names : Names) (levels : ℕ) → UnaryExact n names levels (unary_at (Some names) n levels) → (at : WordsAhead) → Finds (unary_at (Some names) n (suc levels) at) (Spelled unary_pieces (UnaryFits names (suc levels)) (Is (unary_tree names)) at)
-unfolding unary_at
-unary_found n names levels exact at =
-    found_if (next_is kind.Not at) _ _ _
-    (found_more _ _ _ ((not_exact n names levels (unary_at (Some names) n levels) exact).found at) (λ y p. record {
-      text = negation p.text;
-      taken = p.taken;
-      fit = (omega arith, subst (λ (l : ℕ). UnaryFits names l p.text) (sym (one_less levels)) p.fit);
-      is = p.is;
-    }))
-    (found_if (next_is kind.OpenParen at) _ _ _
-    (found_more _ _ _ ((in_parens_exact n names levels (unary_at (Some names) n levels) exact).found at) (λ y p. record {
-      text = in_parens p.text;
-      taken = p.taken;
-      fit = (omega arith, subst (λ (l : ℕ). CondFits names l p.text) (sym (one_less levels)) p.fit);
-      is = p.is;
-    }))
-    (rel_found n names (suc levels) at))
+abbrev pub begins_opening : List Piece → Bool
+begins_opening ps = begins_piece kind.Not ps || begins_piece kind.OpenParen ps
 
-unary_again : (n : ℕ) (names : Names) (levels : ℕ) → UnaryExact n names levels (unary_at (Some names) n levels) → (at : WordsAhead) (u : UnaryText) (rest : List Piece) → UnaryFits names (suc levels) u → Ahead n at (unary_pieces u ++ rest) → SumEnds rest → Gets (unary_at (Some names) n (suc levels) at) (λ y. (y.0 ≡ unary_tree names u) × Ahead n y.1 rest)
-unfolding unary_at
-unary_again n names levels exact at (negation u) rest fit h stop =
-    gets_true (next_is kind.Not at) _ _ _ (next_ahead kind.Not h)
-    ((not_exact n names levels (unary_at (Some names) n levels) exact).again at u rest (subst (λ (l : ℕ). UnaryFits names l u) (one_less levels) fit.1) h stop)
-unary_again n names levels exact at (in_parens c) rest fit h stop =
-    gets_false (next_is kind.Not at) _ _ _ (next_ahead kind.Not h)
-    (gets_true (next_is kind.OpenParen at) _ _ _ (next_ahead kind.OpenParen h)
-    ((in_parens_exact n names levels (unary_at (Some names) n levels) exact).again at c rest (subst (λ (l : ℕ). CondFits names l c) (one_less levels) fit.1) h tt))
-unary_again n names levels exact at (relation r) rest fit h stop =
-    gets_false (next_is kind.Not at) _ _ _ (next_ahead kind.Not h ∙ relation_begins kind.Not refl refl refl r rest)
-    (gets_false (next_is kind.OpenParen at) _ _ _ (next_ahead kind.OpenParen h ∙ relation_begins kind.OpenParen refl refl refl r rest)
-    ((rel_exact n names).again at r rest (fit, every_sign r.sign) h stop))
+pub opens_test : IsTest opens_at begins_opening
+unfolding opens_at
+opens_test = either_test (next_test kind.Not) (next_test kind.OpenParen)
 
-last_found : (n : ℕ) (names : Names) (at : WordsAhead) → Finds (unary_at (Some names) n zero at) (Spelled unary_pieces (UnaryFits names zero) (Is (unary_tree names)) at)
-unfolding unary_at
-last_found n names at = found_if (opens_at at) _ _ _ (record { is = tt }) (rel_found n names zero at)
+pub opens_nothing : (r : RelationText) (rest : List Piece) → begins_opening (relation_pieces r ++ rest) ≡ false
+opens_nothing r rest = ap (λ (t : Bool). t || begins_piece kind.OpenParen (relation_pieces r ++ rest)) (relation_begins kind.Not refl refl refl r rest) ∙ relation_begins kind.OpenParen refl refl refl r rest
 
-last_again : (n : ℕ) (names : Names) (at : WordsAhead) (u : UnaryText) (rest : List Piece) → UnaryFits names zero u → Ahead n at (unary_pieces u ++ rest) → SumEnds rest → Gets (unary_at (Some names) n zero at) (λ y. (y.0 ≡ unary_tree names u) × Ahead n y.1 rest)
-unfolding unary_at opens_at
-last_again n names at (negation u) rest fit h stop = absurd (omega (arith, fit.0))
-last_again n names at (in_parens c) rest fit h stop = absurd (omega (arith, fit.0))
-last_again n names at (relation r) rest fit h stop =
-    gets_false (next_is kind.Not at || next_is kind.OpenParen at) _ _ _ (ap (λ (t : Bool). t || next_is kind.OpenParen at) (next_ahead kind.Not h ∙ relation_begins kind.Not refl refl refl r rest) ∙ (next_ahead kind.OpenParen h ∙ relation_begins kind.OpenParen refl refl refl r rest))
-    ((rel_exact n names).again at r rest (fit, every_sign r.sign) h stop)
+last_sort : (names : Names) (u : UnaryText) → UnaryFits names zero u → OfSort begins_opening true unary_pieces SumEnds (λ (v : UnaryText). v) (λ (v : UnaryText). ⊥) u ⊎ OfSort begins_opening false unary_pieces SumEnds relation (λ r. UnaryFits names zero (relation r)) u
+last_sort names (negation u) ok = absurd (omega (arith, ok.0))
+last_sort names (in_parens c) ok = absurd (omega (arith, ok.0))
+last_sort names (relation r) ok = inr (record { text = r; same = refl; fit = ok; tells = λ rest h. opens_nothing r rest })
+
+abbrev pub OtherThanNot : (UnaryText → Type 0) → UnaryText → Type 0
+OtherThanNot P (negation u) = ⊥
+OtherThanNot P u = P u
+
+pub not_sort : (P : UnaryText → Type 0) (u : UnaryText) → P u → OfSort (begins_piece kind.Not) true unary_pieces SumEnds negation (λ v. P (negation v)) u ⊎ OfSort (begins_piece kind.Not) false unary_pieces SumEnds (λ (v : UnaryText). v) (OtherThanNot P) u
+not_sort P (negation u) ok = inl (record { text = u; same = refl; fit = ok; tells = λ rest h. refl })
+not_sort P (in_parens c) ok = inr (record { text = in_parens c; same = refl; fit = ok; tells = λ rest h. refl })
+not_sort P (relation r) ok = inr (record { text = relation r; same = refl; fit = ok; tells = λ rest h. relation_begins kind.Not refl refl refl r rest })
+
+pub parens_sort : (P : UnaryText → Type 0) (u : UnaryText) → OtherThanNot P u → OfSort (begins_piece kind.OpenParen) true unary_pieces SumEnds in_parens (λ c. P (in_parens c)) u ⊎ OfSort (begins_piece kind.OpenParen) false unary_pieces SumEnds relation (λ r. P (relation r)) u
+parens_sort P (negation u) ok = absurd ok
+parens_sort P (in_parens c) ok = inl (record { text = c; same = refl; fit = ok; tells = λ rest h. refl })
+parens_sort P (relation r) ok = inr (record { text = r; same = refl; fit = ok; tells = λ rest h. relation_begins kind.OpenParen refl refl refl r rest })
+
+other_fits : (P : UnaryText → Type 0) (u : UnaryText) → OtherThanNot P u → P u
+other_fits P (negation u) h = absurd h
+other_fits P (in_parens c) h = h
+other_fits P (relation r) h = h
+
+more_exact : (n : ℕ) (names : Names) (levels : ℕ) → UnaryExact n names levels (unary_at (Some names) n levels) → UnaryExact n names (suc levels) (unary_at (Some names) n (suc levels))
+unfolding unary_at
+more_exact n names levels exact =
+    choice_exact unary_pieces Fits (Is (unary_tree names)) SumEnds (next_test kind.Not) negation (λ u. refl) (λ u h. h) (λ u ps y h. h) (λ u. u) (λ u. refl) (other_fits Fits) (λ u ps y h. h) (not_sort Fits) (λ rest h. h) (λ rest h. h)
+    (exact_fits (λ u. Fits (negation u)) (λ u h. (omega arith, subst (λ (l : ℕ). UnaryFits names l u) (sym (one_less levels)) h)) (λ u h. subst (λ (l : ℕ). UnaryFits names l u) (one_less levels) h.1) (not_exact n names levels (unary_at (Some names) n levels) exact))
+    (choice_exact unary_pieces (OtherThanNot Fits) (Is (unary_tree names)) SumEnds (next_test kind.OpenParen) in_parens (λ c. refl) (λ c h. h) (λ c ps y h. h) relation (λ r. refl) (λ r h. h) (λ r ps y h. h) (parens_sort Fits) (λ rest h. tt) (λ rest h. h)
+    (exact_fits (λ c. Fits (in_parens c)) (λ c h. (omega arith, subst (λ (l : ℕ). CondFits names l c) (sym (one_less levels)) h)) (λ c h. subst (λ (l : ℕ). CondFits names l c) (one_less levels) h.1) (in_parens_exact n names levels (unary_at (Some names) n levels) exact))
+    (rel_exact n names))
+  where
+    Fits : UnaryText → Type 0
+    Fits = UnaryFits names (suc levels)
 
 unary_exact : (n : ℕ) (names : Names) (levels : ℕ) → UnaryExact n names levels (unary_at (Some names) n levels)
-unary_exact n names zero = record { found = last_found n names; again = last_again n names }
-unary_exact n names (suc levels) = record { found = unary_found n names levels (unary_exact n names levels); again = unary_again n names levels (unary_exact n names levels) }
+unfolding unary_at
+unary_exact n names zero =
+    choice_exact unary_pieces (UnaryFits names zero) (Is (unary_tree names)) SumEnds opens_test (λ u. u) (λ u. refl) (λ u none. absurd none) (λ u ps y h. h) relation (λ r. refl) (λ r h. h) (λ r ps y h. h) (last_sort names) (λ rest h. h) (λ rest h. h)
+    (refusing_exact n (λ at. Limit (place_at at) limit.Depth) unary_pieces (λ u. ⊥) (Is (unary_tree names)) SumEnds (λ u none. none)) (rel_exact n names)
+unary_exact n names (suc levels) = more_exact n names levels (unary_exact n names levels)
 
 pub cond_exact : (n : ℕ) (names : Names) (levels : ℕ) → CondExact n names levels (cond_at (Some names) n levels)
 unfolding cond_at
@@ -265,28 +269,15 @@ pub cond_begins : (c : CondText) (rest : List Piece) → Not kind.Star (cond_pie
 cond_begins (last_conj c) rest = conj_begins c rest
 cond_begins (or_else c d) rest = subst (Not kind.Star) (sym (append_assoc (conj_pieces c) (Mark kind.Or ∷ cond_pieces d) rest)) (conj_begins c _)
 
-inner_found : (n : ℕ) (names : Names) (levels : ℕ) (at : WordsAhead) → Finds (test_at (Some names) n levels at) (Spelled inner_pieces (InnerFits names levels) (Is (test_tree names)) at)
-unfolding test_at
-inner_found n names levels at =
-    found_if (next_is kind.Star at) _ _ _
-    (found_bind _ _ _ _ (mark_found n kind.Star (λ t. refl) at) (λ w p.
-    found_end _ _ (record { text = either; taken = p; fit = tt; is = refl })))
-    (found_bind _ _ _ _ ((cond_exact n names levels).found at) (λ c p.
-    found_end _ _ (record { text = condition p.text; taken = p.taken; fit = p.fit; is = ap test.Cond p.is })))
-
-inner_again : (n : ℕ) (names : Names) (levels : ℕ) (at : WordsAhead) (t : TestText) (rest : List Piece) → InnerFits names levels t → Ahead n at (inner_pieces t ++ rest) → CondEnds rest → Gets (test_at (Some names) n levels at) (λ y. (y.0 ≡ test_tree names t) × Ahead n y.1 rest)
-unfolding test_at
-inner_again n names levels at either rest fit h stop =
-    gets_true (next_is kind.Star at) _ _ _ (next_ahead kind.Star h)
-    (gets_bind _ _ _ _ (mark_again n kind.Star (λ t. refl) at rest h) (λ w p.
-    gets_end _ _ (refl, p)))
-inner_again n names levels at (condition c) rest fit h stop =
-    gets_false (next_is kind.Star at) _ _ _ (next_ahead kind.Star h ∙ cond_begins c rest)
-    (gets_bind _ _ _ _ ((cond_exact n names levels).again at c rest fit h stop) (λ y p.
-    gets_end _ _ (ap test.Cond p.0, p.1)))
+pub inner_sort : (P : TestText → Type 0) (t : TestText) → P t → OfSort (begins_piece kind.Star) true inner_pieces CondEnds (λ (u : Unit {0}). either) (λ u. P either) t ⊎ OfSort (begins_piece kind.Star) false inner_pieces CondEnds condition (λ c. P (condition c)) t
+inner_sort P either ok = inl (record { text = tt; same = refl; fit = ok; tells = λ rest h. refl })
+inner_sort P (condition c) ok = inr (record { text = c; same = refl; fit = ok; tells = λ rest h. cond_begins c rest })
 
 inner_exact : (n : ℕ) (names : Names) (levels : ℕ) → Exact n (test_at (Some names) n levels) inner_pieces (InnerFits names levels) (Is (test_tree names)) CondEnds
-inner_exact n names levels = record { found = inner_found n names levels; again = inner_again n names levels }
+unfolding test_at
+inner_exact n names levels =
+    choice_exact inner_pieces (InnerFits names levels) (Is (test_tree names)) CondEnds (next_test kind.Star) (λ u. either) (λ u. refl) (λ u h. tt) (λ u ps y h. h) condition (λ c. refl) (λ c h. h) (λ c ps y h. h) (inner_sort (InnerFits names levels)) (λ rest h. tt) (λ rest h. h)
+    (mapped_exact (λ (u : Unit {0}) ps y. y ≡ test.Star) (λ (w : Word). test.Star) (λ u ps y h. refl) (mark_exact n kind.Star (λ t. refl))) (mapped_exact _ test.Cond (λ c ps y h. ap test.Cond h) (cond_exact n names levels))
 
 pub test_spelled : (t : TestText) → Mark kind.OpenParen ∷ (inner_pieces t ++ Mark kind.CloseParen ∷ []) ≡ test_pieces t
 test_spelled either = refl

@@ -1,9 +1,8 @@
 -- The laws of refusals of declarations.
-use Rattle.std.proofs.Common.{◌≡◌, ◌≢◌, ℕ, suc, ◌+◌, ◌<◌, ℤ, Bool, true, false, ◌||◌, ◌⊎◌, inl, inr, List, [], ◌∷◌, ◌++◌, length, Option, Some, None, Err, refl, ap, ◌∙◌, sym, arith}
+use Rattle.std.proofs.Common.{◌≡◌, ◌≢◌, ℕ, suc, ◌+◌, ◌<◌, ℤ, Bool, true, false, ◌||◌, List, [], ◌∷◌, ◌++◌, length, Option, Some, None, Err, refl, ap, ◌∙◌, sym, arith}
 use Rattle.std.specs.Prelude.{nat_lt, nat_le, if◌then◌else◌}
 use Rattle.std.specs.List.{All, AllByRecursion}
 use Rattle.std.proofs.lemmas.List.Elements.{All-from_recursion, All-head, All-tail}
-use Rattle.ps_token.specs.declared.place.Place.{Place}
 use Rattle.ps_token.specs.declared.token_kind.TokenKind.TheVariants as kind
 use Rattle.ps_tree.specs.declared.limit_name.LimitName.{LimitName}
 use Rattle.ps_tree.specs.declared.limit_name.LimitName.TheVariants as limit
@@ -11,9 +10,9 @@ use Rattle.ps_tree.specs.declared.relation.Relation.{Relation}
 use Rattle.ps_tree.specs.declared.relation.Sign.TheVariants as sign
 use Rattle.ps_parse.specs.declared.read_refusal.ReadRefusal.{ReadRefusal}
 use Rattle.ps_parse.specs.declared.read_refusal.ReadRefusal.TheVariants.{Limit, Twice}
-use Rattle.ps_grammar.specs.Grammar.{RelationText, ValueText, ItemText, global, local, init}
+use Rattle.ps_grammar.specs.Grammar.{RelationText, ValueText, global, local, init}
 use Rattle.ps_grammar.specs.Words.{Word}
-use Rattle.ps_parse.specs.Inner.Reading.{WordsAhead, ReadWords, next_is, place_at, next_word, after_word, words_while}
+use Rattle.ps_parse.specs.Inner.Reading.{WordsAhead, next_is, place_at, after_word, words_while}
 use Rattle.ps_grammar.specs.Names.{variable_of_name}
 use Rattle.ps_grammar.specs.Numbers.{number_value}
 use Rattle.ps_parse.specs.Inner.Sums.{init_sign_of, relation_at}
@@ -22,15 +21,14 @@ use Rattle.ps_grammar.specs.Declarations.{Declared, most_globals, most_locals, m
 use Rattle.ps_parse.specs.Inner.Items.{is_some_variable, refused_name, new_name_at, signed_number_ahead, declared_value_ahead, global_at, local_at, init_at, item_rows, counted_item_at, with_rows, item_at, has_item}
 use Rattle.ps_grammar.specs.Spelling.{Piece, Mark, relation_pieces, value_pieces, item_pieces}
 use Rattle.ps_parse.specs.Reads.{HasInitSigns, refusal_place}
-use Rattle.ps_parse.proofs.Steps.{begins_piece, Not, Always}
-use Rattle.ps_parse.proofs.Sequences.{mapped, both}
-use Rattle.ps_parse.proofs.SumLaws.{number_piece, SumEnds}
+use Rattle.ps_parse.proofs.Steps.{Not, Always, next_test}
+use Rattle.ps_parse.proofs.Sequences.{pair_up, paired}
 use Rattle.ps_parse.proofs.RelationLaws.{init_signs, every_init_sign, no_init_sign, SignIn}
-use Rattle.ps_parse.proofs.DeclarationLaws.{relations_go_on, number_pieces, negated, with_global, with_local, with_inits, more_is, relations_join}
-use Rattle.ps_parse.proofs.Guards.{IsGrammar, placed_word, Keeps, keeps_bind, keeps_end, next_test, Went, Stood, Guards, GuardsWhere, Example, Resumed, resumed_mark, stood_here, stood_at_word, word_of, pieces_are, word_guards}
-use Rattle.ps_parse.proofs.GuardSteps.{guards_same, guards_as, mapped_guards, paired, pair_up, nothing_guards, both_guards, both_guards_more, after_guards, after_guards_more, example_after, example_closed, mark_example, OfSort, choice_guards}
+use Rattle.ps_parse.proofs.DeclarationLaws.{number_sort, value_sort, NotGlobal, not_global, global_sort, local_sort, relations_go_on, number_pieces, negated, with_global, with_local, with_inits, more_is, relations_join}
+use Rattle.ps_parse.proofs.Guards.{IsGrammar, example_of, placed_word, Keeps, keeps_bind, keeps_end, Went, Stood, Guards, GuardsWhere, Example, Resumed, resumed_mark, stood_here, stood_at_word, pieces_are, word_guards}
+use Rattle.ps_parse.proofs.GuardSteps.{guards_same, guards_as, mapped_guards, nothing_guards, both_guards, both_guards_more, after_guards, after_guards_more, choice_guards}
 use Rattle.ps_parse.proofs.GuardLoops.{while_guards}
-use Rattle.ps_parse.proofs.SumGuards.{name_example, number_example, relation_guards, relation_example}
+use Rattle.ps_parse.proofs.SumGuards.{name_example, number_example, relation_guards, relation_text, relation_example}
 use Rattle.ps_parse.proofs.Scopes.{name_piece}
 use Rattle.ps_parse.proofs.StmtGuards.{ended_guards}
 
@@ -55,10 +53,6 @@ new_guards n d count limit' what = record {
 
 -- ---- values
 
-number_sort : (negative : Bool) (digits : List ℕ) → OfSort (begins_piece kind.Minus) true (λ (d : List ℕ). Mark kind.Minus ∷ number_piece d) Always Always (number_pieces (record { negative = negative; digits = digits })) ⊎ OfSort (begins_piece kind.Minus) false number_piece Always Always (number_pieces (record { negative = negative; digits = digits }))
-number_sort true digits = inl (record { text = digits; fine = tt; same = refl; tells = λ rest h. refl })
-number_sort false digits = inr (record { text = digits; fine = tt; same = refl; tells = λ rest h. refl })
-
 number_guards : (n : ℕ) → Guards n signed_number_ahead number_pieces Always Always
 unfolding signed_number_ahead
 number_guards n =
@@ -68,22 +62,12 @@ number_guards n =
     (mapped_guards negated (after_guards kind.Minus (λ u. refl) (word_guards n kind.Number) number_example))
     (mapped_guards (λ (w : Word). number_value w.text) (word_guards n kind.Number))
 
-number_text_example : Example number_pieces Always
-number_text_example = record { text = record { negative = false; digits = number_example.text }; fine = tt; words = number_example.words; spelled = number_example.spelled }
-
-value_sort : (v : Option ValueText) → Always v → OfSort (begins_piece kind.Equal) true (λ (c : ValueText). Mark kind.Equal ∷ number_pieces c) Always (Not kind.Equal) (value_pieces v) ⊎ OfSort (begins_piece kind.Equal) false (λ (u : Unit {0}). []) Always (Not kind.Equal) (value_pieces v)
-value_sort None ok = inr (record { text = tt; fine = tt; same = refl; tells = λ rest h. h })
-value_sort (Some v) ok = inl (record { text = v; fine = tt; same = refl; tells = λ rest h. refl })
-
 value_guards : (n : ℕ) → Guards n declared_value_ahead value_pieces Always (Not kind.Equal)
 unfolding declared_value_ahead
 value_guards n =
     choice_guards value_pieces Always (Not kind.Equal) (next_test kind.Equal) (λ v. Some v) (λ v. refl) (λ v h. tt) (λ (u : Unit {0}). None) (λ u. refl) (λ u h. tt) value_sort (λ rest h. tt) (λ rest h. tt)
-    (mapped_guards Some (after_guards kind.Equal (λ u. refl) (number_guards n) number_text_example))
+    (mapped_guards Some (after_guards kind.Equal (λ u. refl) (number_guards n) (example_of (record { negative = false; digits = [] }) tt refl)))
     (nothing_guards n None Always)
-
-value_example : Example (λ (v : Option ValueText). value_pieces v ++ Mark kind.Semicolon ∷ []) Always
-value_example = record { text = None; fine = tt; words = word_of kind.Semicolon ∷ []; spelled = refl }
 
 -- ---- declarations
 
@@ -93,12 +77,12 @@ global_guards n d =
     guards_as _ Always (λ c. c) (λ c. c) (λ c. refl) (λ c. refl) (λ c h. tt) (λ c h. (tt, tt))
     (guards_same _ (paired (with_global d) (after_word kind.Global (new_name_at d (length d.globals) most_globals limit.Globals)) (ended_at declared_value_ahead))
     (mapped_guards (λ (p : List ℕ × Option ℤ). with_global d p.0 p.1)
-    (both_guards pair_up (after_guards kind.Global (λ u. refl) (new_guards n d (length d.globals) most_globals limit.Globals) name_example) (ended_guards (λ rest. refl) (value_guards n)) value_example (λ v rest h. tt))))
+    (both_guards pair_up (after_guards kind.Global (λ u. refl) (new_guards n d (length d.globals) most_globals limit.Globals) name_example) (ended_guards (λ rest. refl) (value_guards n)) (example_of None tt refl) (λ v rest h. tt))))
 
 local_guards : (n : ℕ) (d : Declared) → Guards n (local_at d) (λ x. item_pieces (local x)) Always Always
 unfolding local_at
 local_guards n d =
-    mapped_guards (with_local d) (after_guards kind.Local (λ u. refl) (ended_guards (λ rest. tt) (new_guards n d (length d.locals) most_locals limit.Locals)) (example_closed kind.Semicolon (λ u. refl) name_example))
+    mapped_guards (with_local d) (after_guards kind.Local (λ u. refl) (ended_guards (λ rest. tt) (new_guards n d (length d.locals) most_locals limit.Locals)) (example_of [] tt refl))
 
 abbrev InitOk : RelationText → Type 0
 InitOk r = SignIn init_sign_of r.sign
@@ -120,7 +104,7 @@ init_guards n d =
     (mapped_guards (λ (p : Relation × List Relation). with_inits d p.0 p.1)
     (both_guards_more pair_up (after_guards_more kind.Init (λ u. refl) (relation_guards n (Some (names_of d)) init_sign_of init_signs refl) init_example) (λ c. omega arith)
     (ended_guards (λ rest. (refl, (refl, refl))) (while_guards (next_test kind.And) relations_go_on (after_guards kind.And (λ u. refl) (relation_guards n (Some (names_of d)) init_sign_of init_signs refl) init_example)))
-    (record { text = []; fine = tt; words = word_of kind.Semicolon ∷ []; spelled = refl })
+    (example_of [] tt refl)
     (λ rs rest h. relations_join rs rest))))
   where
     each : (rs : List RelationText) → AllByRecursion InitOk rs → AllByRecursion (λ (s : RelationText). s.sign ≢ sign.NotEqual) rs
@@ -133,51 +117,24 @@ init_guards n d =
 
 -- ---- items
 
--- it isn't a global
-abbrev Other : ItemText → Type 0
-Other (global x v) = ⊥
-Other (local x) = Unit {0}
-Other (init r rs) = HasInitSigns (init r rs)
-
-other_signs : (i : ItemText) → Other i → HasInitSigns i
-other_signs (global x v) h = absurd h
-other_signs (local x) h = tt
-other_signs (init r rs) h = h
-
-global_sort : (i : ItemText) → HasInitSigns i → OfSort (begins_piece kind.Global) true (λ (c : List ℕ × Option ValueText). item_pieces (global c.0 c.1)) Always Always (item_pieces i) ⊎ OfSort (begins_piece kind.Global) false item_pieces Other Always (item_pieces i)
-global_sort (global x v) ok = inl (record { text = (x, v); fine = tt; same = refl; tells = λ rest h. refl })
-global_sort (local x) ok = inr (record { text = local x; fine = tt; same = refl; tells = λ rest h. refl })
-global_sort (init r rs) ok = inr (record { text = init r rs; fine = ok; same = refl; tells = λ rest h. refl })
-
-local_sort : (i : ItemText) → Other i → OfSort (begins_piece kind.Local) true (λ (x : List ℕ). item_pieces (local x)) Always Always (item_pieces i) ⊎ OfSort (begins_piece kind.Local) false (λ (c : RelationText × List RelationText). item_pieces (init c.0 c.1)) (λ c. HasInitSigns (init c.0 c.1)) Always (item_pieces i)
-local_sort (global x v) ok = absurd ok
-local_sort (local x) ok = inl (record { text = x; fine = tt; same = refl; tells = λ rest h. refl })
-local_sort (init r rs) ok = inr (record { text = (r, rs); fine = ok; same = refl; tells = λ rest h. refl })
-
 counted_guards : (n : ℕ) (d : Declared) → Guards (suc n) (counted_item_at d n) item_pieces HasInitSigns Always
 unfolding counted_item_at
 counted_guards n d =
     choice_guards item_pieces HasInitSigns Always (next_test kind.Global)
-    (λ c. global c.0 c.1) (λ c. refl) (λ c h. tt) (λ i. i) (λ i. refl) other_signs global_sort (λ rest h. tt) (λ rest h. tt)
+    (λ c. global c.0 c.1) (λ c. refl) (λ c h. tt) (λ i. i) (λ i. refl) (not_global HasInitSigns) (global_sort HasInitSigns) (λ rest h. tt) (λ rest h. tt)
     (global_guards (suc n) d)
-    (choice_guards item_pieces Other Always (next_test kind.Local)
-    local (λ c. refl) (λ c h. tt) (λ c. init c.0 c.1) (λ c. refl) (λ c h. h) local_sort (λ rest h. tt) (λ rest h. tt)
+    (choice_guards item_pieces (NotGlobal HasInitSigns) Always (next_test kind.Local)
+    local (λ c. refl) (λ c h. tt) (λ c. init c.0 c.1) (λ c. refl) (λ c h. h) (local_sort HasInitSigns) (λ rest h. tt) (λ rest h. tt)
     (local_guards (suc n) d) (init_guards n d))
 
 global_item : Example item_pieces HasInitSigns
-global_item =
-    let e : Example (λ x. Mark kind.Global ∷ (name_piece x ++ Mark kind.Semicolon ∷ [])) Always = example_after kind.Global (λ u. refl) (example_closed kind.Semicolon (λ u. refl) name_example) in
-    record { text = global e.text None; fine = tt; words = e.words; spelled = e.spelled }
+global_item = example_of (global [] None) tt refl
 
 local_item : Example item_pieces HasInitSigns
-local_item =
-    let e : Example (λ x. Mark kind.Local ∷ (name_piece x ++ Mark kind.Semicolon ∷ [])) Always = example_after kind.Local (λ u. refl) (example_closed kind.Semicolon (λ u. refl) name_example) in
-    record { text = local e.text; fine = tt; words = e.words; spelled = e.spelled }
+local_item = example_of (local []) tt refl
 
 init_item : Example item_pieces HasInitSigns
-init_item =
-    let e : Example (λ r. Mark kind.Init ∷ (relation_pieces r ++ Mark kind.Semicolon ∷ [])) InitOk = example_after kind.Init (λ u. refl) (example_closed kind.Semicolon (λ u. refl) init_example) in
-    record { text = init e.text []; fine = All-from_recursion IsInitSign (e.text ∷ []) (no_init_sign e.text.sign e.fine, tt); words = e.words; spelled = e.spelled }
+init_item = example_of (init relation_text []) (All-from_recursion IsInitSign (relation_text ∷ []) (no_init_sign sign.Less refl, tt)) refl
 
 -- an item that begins as the one that is refused
 item_resumed : (at : WordsAhead) (refused : ReadRefusal) → has_item at ≡ true → Resumed item_pieces HasInitSigns at.words refused

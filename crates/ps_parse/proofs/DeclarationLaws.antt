@@ -1,5 +1,5 @@
 -- The laws of declarations, apart from how many rows hold at the start.
-use Rattle.std.proofs.Common.{◌≡◌, ◌≢◌, ℕ, ◌<◌, ℤ, Bool, true, false, List, [], ◌∷◌, ◌++◌, map, length, drop, Option, Some, None, Ok, refl, sym, ap, subst, ◌∙◌, arith}
+use Rattle.std.proofs.Common.{◌≡◌, ◌≢◌, ℕ, ◌<◌, ℤ, Bool, true, false, ◌⊎◌, inl, inr, List, [], ◌∷◌, ◌++◌, map, length, drop, Option, Some, None, Ok, refl, sym, ap, subst, ◌∙◌, arith}
 use Rattle.std.specs.Prelude.{nat_le}
 use Rattle.std.specs.List.{flat_map, All}
 use Rattle.std.proofs.lemmas.Bool.{leb-false, lt-leb}
@@ -23,13 +23,13 @@ use Rattle.ps_parse.specs.Inner.Items.{is_some_variable, refused_name, new_name_
 use Rattle.ps_grammar.specs.Spelling.{Piece, NumberPiece, Mark, minus_pieces, relation_pieces, value_pieces, more_relations, item_pieces}
 use Rattle.ps_grammar.specs.Trees.{relation_tree, declared_value, with_item}
 use Rattle.ps_grammar.specs.Fits.{RelationFits, IsNew}
-use Rattle.ps_parse.proofs.Steps.{places, Takes, takes_none, takes_so, Ahead, begins_piece, next_ahead, Not, Always, Finds, Gets, found_bind, found_end, found_if, found_more, gets_bind, gets_end, gets_true, gets_false, Spelled, Exact}
-use Rattle.ps_parse.proofs.Sequences.{word_exact, exact_as, mapped, mapped_exact, after_exact, both_exact, ListSays, GoesOn, while_exact}
+use Rattle.ps_parse.proofs.Steps.{Takes, takes_so, begins_piece, next_ahead, Not, Always, Finds, found_bind, found_more, gets_bind, Exact, next_test}
+use Rattle.ps_parse.proofs.Sequences.{word_exact, exact_as, nothing_exact, OfSort, choice_exact, mapped, mapped_exact, after_exact, both_exact, ListSays, GoesOn, while_exact}
 use Rattle.ps_parse.proofs.Scopes.{name_piece}
 use Rattle.ps_parse.proofs.SumLaws.{SumEnds}
 use Rattle.ps_parse.proofs.RelationLaws.{init_signs, every_init_sign, no_init_sign, relation_exact}
 use Rattle.ps_parse.proofs.CondLaws.{Is}
-use Rattle.ps_parse.proofs.StmtLaws.{ended_exact, found_as}
+use Rattle.ps_parse.proofs.StmtLaws.{ended_exact}
 
 -- ---- a new name
 
@@ -84,39 +84,28 @@ digits_exact n of = mapped_exact _ (λ (w : Word). of w.text) (λ t ps w h. ap o
 minus_exact : (n : ℕ) → Exact n (mapped negated (after_word kind.Minus (next_word kind.Number))) (λ t. Mark kind.Minus ∷ NumberPiece t ∷ []) Always (Is (λ t. (signed true (number_value t, None)).0)) Always
 minus_exact n = mapped_exact _ negated (λ t ps w h. ap (λ (d : List ℕ). (signed true (number_value d, None)).0) h) (after_exact kind.Minus (λ t. refl) (word_exact n kind.Number))
 
-number_again : (n : ℕ) (at : WordsAhead) (negative : Bool) (digits : List ℕ) (rest : List Piece) → Ahead n at (number_pieces (record { negative = negative; digits = digits }) ++ rest)
-    → Gets (signed_number_ahead at) (λ y. (y.0 ≡ value_number (record { negative = negative; digits = digits })) × Ahead n y.1 rest)
-unfolding signed_number_ahead
-number_again n at true digits rest h = gets_true (next_is kind.Minus at) _ _ _ (next_ahead kind.Minus h) ((minus_exact n).again at digits rest tt h tt)
-number_again n at false digits rest h = gets_false (next_is kind.Minus at) _ _ _ (next_ahead kind.Minus h) ((digits_exact n number_value).again at digits rest tt h tt)
+pub number_sort : (negative : Bool) (digits : List ℕ) → OfSort (begins_piece kind.Minus) true number_pieces Always (λ d. record { negative = true; digits = d }) Always (record { negative = negative; digits = digits }) ⊎ OfSort (begins_piece kind.Minus) false number_pieces Always (λ d. record { negative = false; digits = d }) Always (record { negative = negative; digits = digits })
+number_sort true digits = inl (record { text = digits; same = refl; fit = tt; tells = λ rest h. refl })
+number_sort false digits = inr (record { text = digits; same = refl; fit = tt; tells = λ rest h. refl })
 
 number_exact : (n : ℕ) → Exact n signed_number_ahead number_pieces Always (Is value_number) Always
 unfolding signed_number_ahead
-number_exact n = record {
-  found = λ at.
-      found_if (next_is kind.Minus at) _ _ _
-      (found_more _ _ _ ((minus_exact n).found at) (λ y p. record { text = record { negative = true; digits = p.text }; taken = p.taken; fit = tt; is = p.is }))
-      (found_more _ _ _ ((digits_exact n number_value).found at) (λ y p. record { text = record { negative = false; digits = p.text }; taken = p.taken; fit = tt; is = p.is }));
-  again = λ at v rest fit h _. number_again n at v.negative v.digits rest h;
-}
+number_exact n =
+    choice_exact number_pieces Always (Is value_number) Always (next_test kind.Minus) (λ d. record { negative = true; digits = d }) (λ d. refl) (λ d h. tt) (λ d ps y h. h) (λ d. record { negative = false; digits = d }) (λ d. refl) (λ d h. tt) (λ d ps y h. h)
+    (λ v ok. number_sort v.negative v.digits) (λ rest h. tt) (λ rest h. tt) (minus_exact n) (digits_exact n number_value)
 
 pub some_exact : (n : ℕ) → Exact n (mapped Some (after_word kind.Equal signed_number_ahead)) (λ v. value_pieces (Some v)) Always (Is (λ v. declared_value (Some v))) Always
 some_exact n = mapped_exact _ Some (λ v ps y h. ap (λ (z : ℤ). Some z) h) (after_exact kind.Equal (λ t. refl) (number_exact n))
 
-value_again : (n : ℕ) (at : WordsAhead) (v : Option ValueText) (rest : List Piece) → Ahead n at (value_pieces v ++ rest) → Not kind.Equal rest → Gets (declared_value_ahead at) (λ y. (y.0 ≡ declared_value v) × Ahead n y.1 rest)
-unfolding declared_value_ahead
-value_again n at None rest h stop = gets_false (next_is kind.Equal at) _ _ _ (next_ahead kind.Equal h ∙ stop) (gets_end _ _ (refl, h))
-value_again n at (Some v) rest h stop = gets_true (next_is kind.Equal at) _ _ _ (next_ahead kind.Equal h) ((some_exact n).again at v rest tt h tt)
+pub value_sort : (v : Option ValueText) → Always v → OfSort (begins_piece kind.Equal) true value_pieces (Not kind.Equal) (λ w. Some w) Always v ⊎ OfSort (begins_piece kind.Equal) false value_pieces (Not kind.Equal) (λ (u : Unit {0}). None) Always v
+value_sort None ok = inr (record { text = tt; same = refl; fit = tt; tells = λ rest h. h })
+value_sort (Some v) ok = inl (record { text = v; same = refl; fit = tt; tells = λ rest h. refl })
 
 pub value_exact : (n : ℕ) → Exact n declared_value_ahead value_pieces Always (Is declared_value) (Not kind.Equal)
 unfolding declared_value_ahead
-value_exact n = record {
-  found = λ at.
-      found_if (next_is kind.Equal at) _ _ _
-      (found_more _ _ _ ((some_exact n).found at) (λ y p. record { text = Some p.text; taken = p.taken; fit = tt; is = p.is }))
-      (found_end _ _ (record { text = None; taken = takes_none at.words; fit = tt; is = refl }));
-  again = λ at v rest fit h stop. value_again n at v rest h stop;
-}
+value_exact n =
+    choice_exact value_pieces Always (Is declared_value) (Not kind.Equal) (next_test kind.Equal) (λ v. Some v) (λ v. refl) (λ v h. tt) (λ v ps y h. h) (λ (u : Unit {0}). None) (λ u. refl) (λ u h. tt) (λ u ps y h. h)
+    value_sort (λ rest h. tt) (λ rest h. tt) (some_exact n) (nothing_exact n None Always)
 
 -- ---- declarations
 
@@ -196,22 +185,30 @@ init_exact n d =
     (ended_exact (λ rest. (refl, (refl, refl))) (while_exact (next_is kind.And) (begins_piece kind.And) relations_go_on (after_exact kind.And (λ t. refl) (init_relation n d))))
     (λ rs rest fit stop. relations_join rs rest))
 
-item_found : (n : ℕ) (d : Declared) (at : WordsAhead) → Finds (counted_item_at d n at) (Spelled item_pieces (DeclaredFits d) (Declares d) at)
-unfolding counted_item_at
-item_found n d at =
-    found_if (next_is kind.Global at) _ _ _ (found_as item_pieces (DeclaredFits d) (Declares d) (λ c. global c.0 c.1) (λ c. refl) (λ c h. h) (λ c ps y h. h) at _ ((global_exact n d).found at))
-    (found_if (next_is kind.Local at) _ _ _ (found_as item_pieces (DeclaredFits d) (Declares d) local (λ c. refl) (λ c h. h) (λ c ps y h. h) at _ ((local_exact n d).found at))
-    (found_as item_pieces (DeclaredFits d) (Declares d) (λ c. init c.0 c.1) (λ c. refl) (λ c h. h) (λ c ps y h. h) at _ ((init_exact n d).found at)))
+-- any item but a global
+abbrev pub NotGlobal : (ItemText → Type 0) → ItemText → Type 0
+NotGlobal P (global x v) = ⊥
+NotGlobal P i = P i
 
-item_again : (n : ℕ) (d : Declared) (at : WordsAhead) (i : ItemText) (rest : List Piece) → DeclaredFits d i → Ahead n at (item_pieces i ++ rest) → Gets (counted_item_at d n at) (λ y. Declares d i (places at.words) y.0 × Ahead n y.1 rest)
-unfolding counted_item_at
-item_again n d at (global x v) rest fit h = gets_true (next_is kind.Global at) _ _ _ (next_ahead kind.Global h) ((global_exact n d).again at (x, v) rest fit h tt)
-item_again n d at (local x) rest fit h =
-    gets_false (next_is kind.Global at) _ _ _ (next_ahead kind.Global h)
-    (gets_true (next_is kind.Local at) _ _ _ (next_ahead kind.Local h) ((local_exact n d).again at x rest fit h tt))
-item_again n d at (init r rs) rest fit h =
-    gets_false (next_is kind.Global at) _ _ _ (next_ahead kind.Global h)
-    (gets_false (next_is kind.Local at) _ _ _ (next_ahead kind.Local h) ((init_exact n d).again at (r, rs) rest fit h tt))
+pub not_global : (P : ItemText → Type 0) (i : ItemText) → NotGlobal P i → P i
+not_global P (global x v) h = absurd h
+not_global P (local x) h = h
+not_global P (init r rs) h = h
+
+pub global_sort : (P : ItemText → Type 0) (i : ItemText) → P i → OfSort (begins_piece kind.Global) true item_pieces Always (λ (c : List ℕ × Option ValueText). global c.0 c.1) (λ c. P (global c.0 c.1)) i ⊎ OfSort (begins_piece kind.Global) false item_pieces Always (λ (j : ItemText). j) (NotGlobal P) i
+global_sort P (global x v) ok = inl (record { text = (x, v); same = refl; fit = ok; tells = λ rest h. refl })
+global_sort P (local x) ok = inr (record { text = local x; same = refl; fit = ok; tells = λ rest h. refl })
+global_sort P (init r rs) ok = inr (record { text = init r rs; same = refl; fit = ok; tells = λ rest h. refl })
+
+pub local_sort : (P : ItemText → Type 0) (i : ItemText) → NotGlobal P i → OfSort (begins_piece kind.Local) true item_pieces Always local (λ x. P (local x)) i ⊎ OfSort (begins_piece kind.Local) false item_pieces Always (λ (c : RelationText × List RelationText). init c.0 c.1) (λ c. P (init c.0 c.1)) i
+local_sort P (global x v) ok = absurd ok
+local_sort P (local x) ok = inl (record { text = x; same = refl; fit = ok; tells = λ rest h. refl })
+local_sort P (init r rs) ok = inr (record { text = (r, rs); same = refl; fit = ok; tells = λ rest h. refl })
 
 pub declaration_exact : (n : ℕ) (d : Declared) → Exact n (counted_item_at d n) item_pieces (DeclaredFits d) (Declares d) Always
-declaration_exact n d = record { found = item_found n d; again = λ at i rest fit h _. item_again n d at i rest fit h }
+unfolding counted_item_at
+declaration_exact n d =
+    choice_exact item_pieces (DeclaredFits d) (Declares d) Always (next_test kind.Global) (λ c. global c.0 c.1) (λ c. refl) (λ c h. h) (λ c ps y h. h) (λ i. i) (λ i. refl) (not_global (DeclaredFits d)) (λ i ps y h. h)
+    (global_sort (DeclaredFits d)) (λ rest h. tt) (λ rest h. tt) (global_exact n d)
+    (choice_exact item_pieces (NotGlobal (DeclaredFits d)) (Declares d) Always (next_test kind.Local) local (λ x. refl) (λ x h. h) (λ x ps y h. h) (λ c. init c.0 c.1) (λ c. refl) (λ c h. h) (λ c ps y h. h)
+    (local_sort (DeclaredFits d)) (λ rest h. tt) (λ rest h. tt) (local_exact n d) (init_exact n d))

@@ -7,8 +7,9 @@ use Rattle.ps_parse.specs.declared.read_refusal.ReadRefusal.{ReadRefusal}
 use Rattle.ps_parse.specs.Inner.Reading.{WordsAhead, ReadWords, words_while}
 use Rattle.ps_lines.specs.Steps.{◌>>=◌}
 use Rattle.ps_grammar.specs.Spelling.{Piece, pieces}
+use Rattle.ps_parse.proofs.Steps.{Alike, IsTest}
 use Rattle.ps_parse.proofs.Sequences.{GoesOn, Ends}
-use Rattle.ps_parse.proofs.Guards.{IsGrammar, Keeps, keeps_bind, keeps_end, Alike, IsTest, told, Went, Stood, Guards, went_as, stood_as, Example}
+use Rattle.ps_parse.proofs.Guards.{IsGrammar, Keeps, keeps_bind, keeps_end, told, Went, Stood, Guards, went_as, stood_as, example_of}
 use Rattle.ps_parse.proofs.GuardSteps.{room_left, pair_pieces, BothOkay, Joins, went_then, stood_then, stood_first}
 
 -- what is read of some texts
@@ -55,7 +56,7 @@ turn_ends {spell = spell} test on e p q = turn_stood spell test e (stood_then (j
 -- the first turn is refused
 pub turn_fails : {C : Type 0} {goes : WordsAhead → Bool} {begins : List Piece → Bool} {spell : C → List Piece} {okay : C → Type 0} {follows : List Piece → Type 0} {at : WordsAhead} {f : ReadRefusal} → IsTest goes begins → GoesOn goes begins spell follows → goes at ≡ true
     → Stood spell okay follows at f → AllStood spell okay begins follows at f
-turn_fails {spell = spell} test on e q = turn_stood spell test e (stood_first (joined on) (record { text = []; fine = tt; words = []; spelled = refl }) q)
+turn_fails {spell = spell} test on e q = turn_stood spell test e (stood_first (joined on) (example_of [] tt refl) q)
 
 -- there is no turn
 pub turn_stops : {C : Type 0} {goes : WordsAhead → Bool} {begins : List Piece → Bool} {spell : C → List Piece} {okay : C → Type 0} {follows : List Piece → Type 0} (at : WordsAhead) → IsTest goes begins → GoesOn goes begins spell follows → goes at ≡ false

@@ -1,5 +1,5 @@
 -- The laws of refusals of what is read of several steps.
-use Rattle.std.proofs.Common.{◌≡◌, Some, ℕ, suc, ◌+◌, ◌<◌, ◌≤◌, Bool, true, false, ◌⊎◌, inl, inr, List, [], ◌∷◌, ◌++◌, length, Result, Ok, Err, refl, sym, ap, subst, ◌∙◌, arith, append_assoc, length-append}
+use Rattle.std.proofs.Common.{◌≡◌, Some, ℕ, suc, ◌+◌, ◌<◌, ◌≤◌, Bool, true, false, ◌⊎◌, inl, inr, List, [], ◌∷◌, ◌++◌, length, Ok, Err, refl, sym, ap, subst, ◌∙◌, arith, append_assoc, length-append}
 use Rattle.std.specs.Prelude.{if◌then◌else◌}
 use Rattle.std.proofs.lemmas.Bool.{true≢false}
 use Rattle.std.proofs.lemmas.List.{length-map}
@@ -10,12 +10,12 @@ use Rattle.ps_parse.specs.declared.read_refusal.ReadRefusal.TheVariants.{Grammar
 use Rattle.ps_grammar.specs.Words.{Word}
 use Rattle.ps_parse.specs.Inner.Reading.{WordsAhead, ReadWords, next_is, place_at, next_word, after_word}
 use Rattle.ps_parse.specs.Kinds.{place_of_next}
-use Rattle.ps_lines.specs.Steps.{and_then, ◌>>=◌}
+use Rattle.ps_lines.specs.Steps.{◌>>=◌}
 use Rattle.ps_grammar.specs.Spelling.{Piece, Mark, piece_of_kind, pieces}
 use Rattle.ps_parse.specs.Reads.{refusal_place}
-use Rattle.ps_parse.proofs.Steps.{begins_piece, Always}
-use Rattle.ps_parse.proofs.Sequences.{mapped, both, closed, IsMark}
-use Rattle.ps_parse.proofs.Guards.{IsGrammar, Keeps, keeps_bind, keeps_end, keeps_more, Alike, alike_next, pieces_both, pieces_are, IsTest, next_test, told, resumes_more, Went, Stood, Guards, GuardsWhere, guards_where, went_as, stood_as, Example, Resumed, stood_here, word_of, piece_list, word_guards, placed_word, stood_at_word}
+use Rattle.ps_parse.proofs.Steps.{begins_piece, Always, IsTest, next_test}
+use Rattle.ps_parse.proofs.Sequences.{mapped, both, closed, IsMark, OfSort, respelled}
+use Rattle.ps_parse.proofs.Guards.{IsGrammar, Keeps, keeps_bind, keeps_end, keeps_more, alike_next, pieces_both, pieces_are, told, resumes_more, Went, Stood, Guards, GuardsWhere, guards_where, went_as, stood_as, Example, Resumed, stood_here, word_example, piece_list, word_guards, placed_word, stood_at_word}
 
 -- fewer words are left after a front
 pub room_left : (n m : ℕ) (ws front vs : List Word) (ps : List Piece) → length ws < n → ws ≡ front ++ vs → pieces front ≡ ps → n ≤ length ps + m → length vs < m
@@ -140,55 +140,10 @@ pub both_guards : {C D A B X : Type 0} {n : ℕ} {one : ReadWords A} {two : Read
     (of : A → B → X) → Guards n one spell okay follows → Guards n two spell' okay' follows' → Example spell' okay' → Joins spell' follows' follows → Guards n (both of one two) (pair_pieces spell spell') (BothOkay okay okay') follows'
 both_guards of g g' example joins = both_guards_more of g (λ c. omega arith) g' example joins
 
--- three steps
-abbrev pub three : {A B C X : Type 0} → (A → B → C → X) → ReadWords A → ReadWords B → ReadWords C → ReadWords X
-three of a b c at = a at >>= λ x. b x.1 >>= λ y. c y.1 >>= λ z. Ok (of x.0 y.0 z.0, z.1)
-
-abbrev pub pair_up : {B C : Type 0} → B → C → B × C
-pair_up y z = (y, z)
-
-abbrev pub of_pair : {A B C X : Type 0} → (A → B → C → X) → A → B × C → X
-of_pair of x w = of x w.0 w.1
-
-pub bind_same : {A B : Type 0} (r : Result A ReadRefusal) (f g : A → Result B ReadRefusal) → ((x : A) → f x ≡ g x) → (r >>= f) ≡ (r >>= g)
-unfolding and_then
-bind_same (Ok x) f g h = h x
-bind_same (Err e) f g h = refl
-
-pub bind_bind : {A B C : Type 0} (r : Result A ReadRefusal) (f : A → Result B ReadRefusal) (g : B → Result C ReadRefusal) → ((r >>= f) >>= g) ≡ (r >>= λ x. f x >>= g)
-unfolding and_then
-bind_bind (Ok x) f g = refl
-bind_bind (Err e) f g = refl
-
-pub bind_end : {A B : Type 0} (x : A) (f : A → Result B ReadRefusal) → (Ok x >>= f) ≡ f x
-unfolding and_then
-bind_end x f = refl
-
-pub three_is : {A B C X : Type 0} (of : A → B → C → X) (a : ReadWords A) (b : ReadWords B) (c : ReadWords C) (at : WordsAhead) → both (of_pair of) a (both pair_up b c) at ≡ three of a b c at
-three_is of a b c at =
-    bind_same (a at) _ _ (λ x. bind_bind (b x.1) _ _ ∙ bind_same (b x.1) _ _ (λ y. bind_bind (c y.1) _ _ ∙ bind_same (c y.1) _ _ (λ z. bind_end ((y.0, z.0), z.1) _)))
-
-pub paired : {A B X : Type 0} (of : A → B → X) (a : ReadWords A) (b : ReadWords B) (at : WordsAhead) → mapped (λ (p : A × B). of p.0 p.1) (both pair_up a b) at ≡ both of a b at
-paired of a b at = bind_bind (a at) _ _ ∙ bind_same (a at) _ _ (λ x. bind_bind (b x.1) _ _ ∙ bind_same (b x.1) _ _ (λ y. bind_end ((x.0, y.0), y.1) _))
-
 -- ---- a word, and then what is read
 
 abbrev MarkPieces : TokenKind → Unit {0} → List Piece
 MarkPieces k u = Mark k ∷ []
-
-pub mark_example : (k : TokenKind) → IsMark k → Example (λ (u : Unit {0}). Mark k ∷ []) Always
-mark_example k marked = record { text = tt; fine = tt; words = word_of k ∷ []; spelled = ap (λ (p : Piece). p ∷ []) (marked []) }
-
-pub example_after : {C : Type 0} {spell : C → List Piece} {okay : C → Type 0} (k : TokenKind) → IsMark k → Example spell okay → Example (λ c. Mark k ∷ spell c) okay
-example_after k marked e = record {
-  text = e.text;
-  fine = e.fine;
-  words = word_of k ∷ e.words;
-  spelled = ap (λ (p : Piece). p ∷ pieces e.words) (marked []) ∙ ap (λ (ps : List Piece). Mark k ∷ ps) e.spelled;
-}
-
-pub example_closed : {C : Type 0} {spell : C → List Piece} {okay : C → Type 0} (k : TokenKind) → IsMark k → Example spell okay → Example (λ c. spell c ++ Mark k ∷ []) okay
-example_closed {spell = spell} k marked e = record { text = e.text; fine = e.fine; words = e.words ++ word_of k ∷ []; spelled = pieces_are e.words _ (spell e.text) (Mark k ∷ []) e.spelled (ap (λ (p : Piece). p ∷ []) (marked [])) }
 
 -- a word alone
 pub word_alone : (n : ℕ) (k : TokenKind) → IsMark k → Guards n (next_word k) (λ (u : Unit {0}). Mark k ∷ []) Always Always
@@ -237,38 +192,31 @@ pub closed_guards : {C A : Type 0} {n : ℕ} {read : ReadWords A} {spell : C →
     → Guards n (closed k read) (λ c. spell c ++ Mark k ∷ []) okay Always
 closed_guards {n = n} k marked ends g =
     guards_as _ _ (λ c. c.0) (λ c. (c, tt)) (λ c. refl) (λ c. refl) (λ c h. h.0) (λ c h. (h, tt))
-    (both_guards (λ x w. x) g (word_alone n k marked) (mark_example k marked) (λ d rest h. ends rest))
+    (both_guards (λ x w. x) g (word_alone n k marked) (record { text = tt; fine = tt; words = (word_example k).words; spelled = ap (λ (p : Piece). p ∷ []) (marked []) }) (λ d rest h. ends rest))
 
 -- ---- a test of the next word
-
--- the pieces are those of a text of this sort, and tell the test
-pub record OfSort {C : Type 0} (begins : List Piece → Bool) (t : Bool) (spell : C → List Piece) (okay : C → Type 0) (follows : List Piece → Type 0) (ps : List Piece) : Type 0 where
-  pub text : C
-  pub fine : okay text
-  pub same : ps ≡ spell text
-  pub tells : (rest : List Piece) → follows rest → begins (ps ++ rest) ≡ t
 
 -- a choice by a test on which the first reading may rest
 pub choosing_guards : {C D E A : Type 0} {n : ℕ} {one two : ReadWords A} {spell : C → List Piece} {spell' : D → List Piece} {okay : C → Type 0} {okay' : D → Type 0} {follows follows' : List Piece → Type 0} {goes : WordsAhead → Bool} {begins : List Piece → Bool}
     (spell'' : E → List Piece) (okay'' : E → Type 0) (follows'' : List Piece → Type 0) → IsTest goes begins
     → (f : C → E) → ((c : C) → spell c ≡ spell'' (f c)) → ((c : C) → okay c → okay'' (f c)) → (g : D → E) → ((d : D) → spell' d ≡ spell'' (g d)) → ((d : D) → okay' d → okay'' (g d))
-    → ((e : E) → okay'' e → OfSort begins true spell okay follows'' (spell'' e) ⊎ OfSort begins false spell' okay' follows'' (spell'' e))
+    → ((e : E) → okay'' e → OfSort begins true spell'' follows'' f okay e ⊎ OfSort begins false spell'' follows'' g okay' e)
     → ((rest : List Piece) → follows'' rest → follows rest) → ((rest : List Piece) → follows'' rest → follows' rest)
     → GuardsWhere goes n one spell okay follows → Guards n two spell' okay' follows'
     → Guards n (λ at. if goes at then one at else two at) spell'' okay'' follows''
-choosing_guards {n = n} {one = one} {two = two} {goes = goes} spell'' okay'' follows'' test f spelled fine g spelled' fine' sort stops stops' a b = record { stuck = λ at room. by_test at room (goes at) refl }
+choosing_guards {n = n} {one = one} {two = two} {spell = spell} {spell' = spell'} {goes = goes} spell'' okay'' follows'' test f spelled fine g spelled' fine' sort stops stops' a b = record { stuck = λ at room. by_test at room (goes at) refl }
   where
     by_test : (at : WordsAhead) → length at.words < n → (t : Bool) → goes at ≡ t → Keeps (if t then one at else two at) (λ y. Went spell'' okay'' follows'' at y.1) (Stood spell'' okay'' follows'' at)
     by_test at room true e =
         keeps_more _ _ _ _ _ (a.stuck at room e)
         (λ y p. went_as spell'' okay'' follows'' f spelled fine p (λ c ps tail ok stop alike h.
         elim (sort c ok) [
-          | inl s ↦ p.only s.text ps tail s.fine (stops tail stop) alike (h ∙ ap (λ (qs : List Piece). qs ++ tail) s.same)
+          | inl s ↦ p.only s.text ps tail s.fit (stops tail stop) alike (h ∙ respelled spell spell'' f spelled s.text c s.same tail)
           | inr s ↦ absurd (true≢false (sym e ∙ told test at p.front y.1.words ps (spell'' c ++ tail) p.split alike h ∙ s.tells tail stop))
         ]))
         (λ r q. stood_as spell'' okay'' follows'' f spelled fine q (λ i c ps tail ok stop alike h.
         elim (sort c ok) [
-          | inl s ↦ q.none i s.text ps tail s.fine (stops tail stop) alike (h ∙ ap (λ (qs : List Piece). qs ++ tail) s.same)
+          | inl s ↦ q.none i s.text ps tail s.fit (stops tail stop) alike (h ∙ respelled spell spell'' f spelled s.text c s.same tail)
           | inr s ↦ absurd (true≢false (sym e ∙ told test at q.front q.rest ps (spell'' c ++ tail) q.split alike h ∙ s.tells tail stop))
         ]))
     by_test at room false e =
@@ -276,19 +224,19 @@ choosing_guards {n = n} {one = one} {two = two} {goes = goes} spell'' okay'' fol
         (λ y p. went_as spell'' okay'' follows'' g spelled' fine' p (λ c ps tail ok stop alike h.
         elim (sort c ok) [
           | inl s ↦ absurd (true≢false (sym (told test at p.front y.1.words ps (spell'' c ++ tail) p.split alike h ∙ s.tells tail stop) ∙ e))
-          | inr s ↦ p.only s.text ps tail s.fine (stops' tail stop) alike (h ∙ ap (λ (qs : List Piece). qs ++ tail) s.same)
+          | inr s ↦ p.only s.text ps tail s.fit (stops' tail stop) alike (h ∙ respelled spell' spell'' g spelled' s.text c s.same tail)
         ]))
         (λ r q. stood_as spell'' okay'' follows'' g spelled' fine' q (λ i c ps tail ok stop alike h.
         elim (sort c ok) [
           | inl s ↦ absurd (true≢false (sym (told test at q.front q.rest ps (spell'' c ++ tail) q.split alike h ∙ s.tells tail stop) ∙ e))
-          | inr s ↦ q.none i s.text ps tail s.fine (stops' tail stop) alike (h ∙ ap (λ (qs : List Piece). qs ++ tail) s.same)
+          | inr s ↦ q.none i s.text ps tail s.fit (stops' tail stop) alike (h ∙ respelled spell' spell'' g spelled' s.text c s.same tail)
         ]))
 
 -- the same where it doesn't
 pub choice_guards : {C D E A : Type 0} {n : ℕ} {one two : ReadWords A} {spell : C → List Piece} {spell' : D → List Piece} {okay : C → Type 0} {okay' : D → Type 0} {follows follows' : List Piece → Type 0} {goes : WordsAhead → Bool} {begins : List Piece → Bool}
     (spell'' : E → List Piece) (okay'' : E → Type 0) (follows'' : List Piece → Type 0) → IsTest goes begins
     → (f : C → E) → ((c : C) → spell c ≡ spell'' (f c)) → ((c : C) → okay c → okay'' (f c)) → (g : D → E) → ((d : D) → spell' d ≡ spell'' (g d)) → ((d : D) → okay' d → okay'' (g d))
-    → ((e : E) → okay'' e → OfSort begins true spell okay follows'' (spell'' e) ⊎ OfSort begins false spell' okay' follows'' (spell'' e))
+    → ((e : E) → okay'' e → OfSort begins true spell'' follows'' f okay e ⊎ OfSort begins false spell'' follows'' g okay' e)
     → ((rest : List Piece) → follows'' rest → follows rest) → ((rest : List Piece) → follows'' rest → follows' rest)
     → Guards n one spell okay follows → Guards n two spell' okay' follows'
     → Guards n (λ at. if goes at then one at else two at) spell'' okay'' follows''

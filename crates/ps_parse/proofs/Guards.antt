@@ -1,21 +1,22 @@
 -- The laws of refusals, in steps. What is read is the only text of the grammar that its words and the next one begin; and
 -- where there is a fault of the grammar, no text begins with the words before its place and the next one, but with those
 -- before it some text does.
-use Rattle.std.proofs.Common.{◌≡◌, Some, ℕ, suc, ◌+◌, ◌<◌, ◌≤◌, Bool, true, false, List, [], ◌∷◌, ◌++◌, length, drop, Result, Ok, Err, refl, sym, ap, subst, ◌∙◌, arith, append_assoc, length-append}
+use Rattle.std.proofs.Common.{◌≡◌, Some, ℕ, ◌<◌, Bool, true, false, List, [], ◌∷◌, ◌++◌, length, drop, Result, Ok, Err, refl, sym, ap, subst, ◌∙◌}
 use Rattle.std.specs.Prelude.{if◌then◌else◌}
 use Rattle.std.proofs.lemmas.Bool.{true≢false}
-use Rattle.std.proofs.lemmas.List.{map-append, length-map}
+use Rattle.std.proofs.lemmas.List.{map-append}
 use Rattle.ps_token.specs.declared.place.Place.{Place}
 use Rattle.ps_token.specs.declared.token_kind.TokenKind.{TokenKind}
+use Rattle.ps_token.specs.declared.token_kind.TokenKind.TheVariants as kind
 use Rattle.ps_parse.specs.declared.read_refusal.ReadRefusal.{ReadRefusal}
 use Rattle.ps_parse.specs.declared.read_refusal.ReadRefusal.TheVariants.{Grammar}
 use Rattle.ps_grammar.specs.Words.{Word}
-use Rattle.ps_parse.specs.Inner.Reading.{WordsAhead, ReadWords, next_is, word_from, next_word}
+use Rattle.ps_parse.specs.Inner.Reading.{WordsAhead, ReadWords, word_from, next_word}
 use Rattle.ps_parse.specs.Kinds.{is_kind, begins_with, place_of_next}
 use Rattle.ps_lines.specs.Steps.{and_then, ◌>>=◌}
-use Rattle.ps_grammar.specs.Spelling.{Piece, Mark, piece_of_kind, pieces}
+use Rattle.ps_grammar.specs.Spelling.{Piece, NamePiece, NumberPiece, Mark, piece_of_kind, pieces}
 use Rattle.ps_parse.specs.Reads.{BeginAlike, PassesGrammar, refusal_place}
-use Rattle.ps_parse.proofs.Steps.{Finds, found_if, one_kind, same_kind, kind_of, kind_of_piece, begins_piece, begins_pieces, Always}
+use Rattle.ps_parse.proofs.Steps.{Finds, found_if, one_kind, same_kind, kind_of, kind_of_piece, begins_piece, begins_pieces, Always, Alike, IsTest}
 use Rattle.ps_parse.proofs.Sequences.{IsMark}
 
 -- ---- answers
@@ -55,13 +56,6 @@ pub alike_itself : (ws : List Word) → BeginAlike ws ws
 alike_itself [] = tt
 alike_itself (w ∷ ws) = refl
 
--- both begin with the same piece, or both are empty
-abbrev pub Alike : List Piece → List Piece → Type 0
-Alike [] [] = Unit {0}
-Alike [] (q ∷ qs) = ⊥
-Alike (p ∷ ps) [] = ⊥
-Alike (p ∷ ps) (q ∷ qs) = p ≡ q
-
 pub alike_pieces : (ws vs : List Word) → BeginAlike ws vs → Alike (pieces ws) (pieces vs)
 alike_pieces [] [] h = tt
 alike_pieces [] (v ∷ vs) h = h
@@ -89,20 +83,6 @@ pieces_are a b ps qs p q = pieces_both a b ∙ ap (λ (xs : List Piece). xs ++ p
 -- what follows a front goes on alike
 pub alike_next : (ws front rest : List Word) (ps : List Piece) → ws ≡ front ++ rest → Alike (pieces rest) ps → Alike (pieces ws) (pieces front ++ ps)
 alike_next ws front rest ps e h = subst (λ (qs : List Piece). Alike qs (pieces front ++ ps)) (sym (ap pieces e ∙ pieces_both front rest)) (alike_after (pieces front) (pieces rest) ps h)
-
--- A test of the next word, on words and on pieces.
-pub record IsTest (goes : WordsAhead → Bool) (begins : List Piece → Bool) : Type 0 where
-  pub is : (at : WordsAhead) → goes at ≡ begins (pieces at.words)
-  pub same : (ps qs : List Piece) → Alike ps qs → begins ps ≡ begins qs
-
-alike_begins : (k : TokenKind) (ps qs : List Piece) → Alike ps qs → begins_piece k ps ≡ begins_piece k qs
-alike_begins k [] [] h = refl
-alike_begins k [] (q ∷ qs) h = absurd h
-alike_begins k (p ∷ ps) [] h = absurd h
-alike_begins k (p ∷ ps) (q ∷ qs) h = ap (λ (r : Piece). is_kind (kind_of r) k) h
-
-pub next_test : (k : TokenKind) → IsTest (next_is k) (begins_piece k)
-next_test k = record { is = λ at. begins_pieces k at.words; same = alike_begins k }
 
 -- the test tells how pieces begin that begin with the words of a front and go on alike
 pub told : {goes : WordsAhead → Bool} {begins : List Piece → Bool} → IsTest goes begins → (at : WordsAhead) (front rest : List Word) (ps qs : List Piece) → at.words ≡ front ++ rest → Alike (pieces rest) ps → pieces front ++ ps ≡ qs → goes at ≡ begins qs
@@ -211,6 +191,25 @@ pub record Example {C : Type 0} (spell : C → List Piece) (okay : C → Type 0)
   pub words : List Word
   pub spelled : pieces words ≡ spell text
 
+abbrev word_of : TokenKind → List ℕ → Word
+word_of k text = record { kind = k; text = text; place = record { line = 0; column = 0 } }
+
+abbrev spelling_word : Piece → Word
+spelling_word (NamePiece text) = word_of kind.Name text
+spelling_word (NumberPiece text) = word_of kind.Number text
+spelling_word (Mark k) = word_of k []
+
+abbrev spelling_words : List Piece → List Word
+spelling_words [] = []
+spelling_words (p ∷ ps) = spelling_word p ∷ spelling_words ps
+
+-- the text, and words of its pieces
+abbrev pub example_of : {C : Type 0} {spell : C → List Piece} {okay : C → Type 0} (c : C) → okay c → pieces (spelling_words (spell c)) ≡ spell c → Example spell okay
+example_of {spell = spell} c fine e = record { text = c; fine = fine; words = spelling_words (spell c); spelled = e }
+
+abbrev pub word_example : (k : TokenKind) → Example (λ (t : List ℕ). piece_of_kind k t ∷ []) (λ (t : List ℕ). Unit {0})
+word_example k = record { text = []; fine = tt; words = word_of k [] ∷ []; spelled = refl }
+
 -- the same at a refusal: where no fault of the grammar stands there, they begin with the refused word
 pub record Resumed {C : Type 0} (spell : C → List Piece) (okay : C → Type 0) (rest : List Word) (refused : ReadRefusal) : Type 0 where
   pub example : Example spell okay
@@ -241,14 +240,8 @@ no_fault e f same other g = absurd (other (subst IsGrammar same g))
 
 -- ---- words
 
-abbrev pub word_of : TokenKind → Word
-word_of k = record { kind = k; text = []; place = record { line = 0; column = 0 } }
-
 abbrev pub piece_list : TokenKind → List ℕ → List Piece
 piece_list k t = piece_of_kind k t ∷ []
-
-abbrev pub word_example : (k : TokenKind) → Example (piece_list k) Always
-word_example k = record { text = []; fine = tt; words = word_of k ∷ []; spelled = refl }
 
 word_stuck : (k : TokenKind) (ws : List Word) (end : Place)
     → Keeps (word_from k ws end) (λ y. Went (piece_list k) Always Always (record { words = ws; end = end }) y.1) (Stood (piece_list k) Always Always (record { words = ws; end = end }))

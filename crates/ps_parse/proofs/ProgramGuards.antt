@@ -9,7 +9,7 @@ use Rattle.ps_token.specs.declared.token_kind.TokenKind.TheVariants as kind
 use Rattle.ps_tree.specs.declared.program.Program.{Program}
 use Rattle.ps_parse.specs.declared.read_refusal.ReadRefusal.{ReadRefusal}
 use Rattle.ps_parse.specs.declared.read_refusal.ReadRefusal.TheVariants.{Grammar}
-use Rattle.ps_grammar.specs.Grammar.{ItemText, BlockText}
+use Rattle.ps_grammar.specs.Grammar.{ItemText, BlockText, block_end}
 use Rattle.ps_grammar.specs.Words.{Word}
 use Rattle.ps_parse.specs.Inner.Reading.{WordsAhead, after_word, words_end_from}
 use Rattle.ps_lines.specs.Steps.{◌>>=◌}
@@ -19,13 +19,13 @@ use Rattle.ps_grammar.specs.Declarations.{Declared, most_levels, nothing_declare
 use Rattle.ps_parse.specs.Inner.Items.{item_at, has_item, items_at, program_at, program_in}
 use Rattle.ps_grammar.specs.Spelling.{Piece, Mark, pieces, item_pieces, block_pieces, program_pieces}
 use Rattle.ps_parse.specs.Reads.{HasInitSigns, IsText, IsFirstGrammarFault, StandsInText}
-use Rattle.ps_parse.proofs.Steps.{Always}
+use Rattle.ps_parse.proofs.Steps.{Always, Alike, IsTest, either_test, next_test}
 use Rattle.ps_parse.proofs.Sequences.{GoesOn, Ends}
 use Rattle.ps_parse.proofs.ProgramLaws.{items_pieces, begins_item, item_ahead, item_begins, item_some}
-use Rattle.ps_parse.proofs.Guards.{Keeps, keeps_bind, keeps_end, keeps_more, Alike, alike_pieces, pieces_both, resumes_alike, IsTest, next_test, Went, Stood, Guards, Example, stood_as}
-use Rattle.ps_parse.proofs.GuardSteps.{room_left, pair_pieces, BothOkay, Joins, went_then, stood_then, stood_first, after_guards_more, example_after}
+use Rattle.ps_parse.proofs.Guards.{Keeps, keeps_bind, keeps_end, keeps_more, alike_pieces, pieces_both, resumes_alike, Went, Stood, Guards, Example, example_of, stood_as}
+use Rattle.ps_parse.proofs.GuardSteps.{room_left, pair_pieces, BothOkay, Joins, went_then, stood_then, stood_first, after_guards_more}
 use Rattle.ps_parse.proofs.GuardLoops.{AllWent, AllStood, turn_goes, turn_ends, turn_fails, turn_stops}
-use Rattle.ps_parse.proofs.SumGuards.{either_test}
+use Rattle.ps_parse.proofs.SumGuards.{}
 use Rattle.ps_parse.proofs.StmtGuards.{block_guards, block_example}
 use Rattle.ps_parse.proofs.DeclarationGuards.{item_guards}
 
@@ -72,7 +72,7 @@ thread_guards : (n : ℕ) (names : Names) → Guards (suc n) (after_word kind.Th
 thread_guards n names = after_guards_more kind.Thread (λ u. refl) (block_guards n (Some names) most_levels false) block_example
 
 thread_example : Example body_pieces Always
-thread_example = example_after kind.Thread (λ u. refl) block_example
+thread_example = example_of block_end tt refl
 
 -- the items and the body of a program
 abbrev Parts : Type 0

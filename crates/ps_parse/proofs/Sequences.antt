@@ -1,17 +1,18 @@
 -- The laws of what is read of several steps: a word, one after the other, as long as it goes on, and read as another text.
-use Rattle.std.proofs.Common.{◌≡◌, ℕ, zero, suc, ◌+◌, ◌≤◌, Bool, true, false, List, [], ◌∷◌, ◌++◌, length, drop, Ok, Err, refl, sym, ap, subst, ◌∙◌, arith, append_assoc, length-append}
+use Rattle.std.proofs.Common.{◌≡◌, ℕ, zero, suc, ◌+◌, ◌≤◌, Bool, true, false, List, [], ◌∷◌, ◌++◌, length, drop, ◌⊎◌, inl, inr, Result, Ok, Err, refl, sym, ap, subst, ◌∙◌, arith, append_assoc, length-append}
 use Rattle.std.proofs.lemmas.Bool.{cond-false}
 use Rattle.std.specs.Prelude.{if◌then◌else◌}
 use Rattle.std.specs.List.{flat_map, AllByRecursion}
 use Rattle.ps_token.specs.declared.place.Place.{Place}
 use Rattle.ps_token.specs.declared.token_kind.TokenKind.{TokenKind}
+use Rattle.ps_parse.specs.declared.read_refusal.ReadRefusal.{ReadRefusal}
 use Rattle.ps_parse.specs.declared.read_refusal.ReadRefusal.TheVariants.{Grammar}
 use Rattle.ps_grammar.specs.Words.{Word}
 use Rattle.ps_parse.specs.Inner.Reading.{WordsAhead, ReadWords, word_from, next_word, after_word, words_while}
 use Rattle.ps_parse.specs.Kinds.{is_kind}
-use Rattle.ps_lines.specs.Steps.{◌>>=◌}
+use Rattle.ps_lines.specs.Steps.{and_then, ◌>>=◌}
 use Rattle.ps_grammar.specs.Spelling.{Piece, Mark, piece_of_kind, pieces}
-use Rattle.ps_parse.proofs.Steps.{one_kind, same_kind, kind_of, text_of, kind_of_piece, places, Takes, takes_none, takes_then, takes_so, takes_pieces, takes_places, Ahead, ahead_so, Always, Finds, Gets, found_bind, found_end, found_if, found_more, gets_bind, gets_end, gets_true, gets_more, gets_found, Spelled, Exact}
+use Rattle.ps_parse.proofs.Steps.{one_kind, same_kind, kind_of, text_of, kind_of_piece, places, Takes, takes_none, takes_then, takes_so, takes_pieces, takes_places, Ahead, ahead_so, Always, Finds, Gets, found_bind, found_end, found_if, found_more, gets_bind, gets_end, gets_true, gets_false, gets_more, gets_found, Spelled, Exact, IsTest}
 
 -- ---- a word
 
@@ -65,6 +66,12 @@ mark_found n k marked at = found_more _ _ _ ((word_exact n k).found at) (λ y p.
 
 pub mark_again : (n : ℕ) (k : TokenKind) → IsMark k → (at : WordsAhead) (rest : List Piece) → Ahead n at (Mark k ∷ rest) → Gets (next_word k at) (λ y. Ahead n y.1 rest)
 mark_again n k marked at rest h = gets_more _ _ _ ((word_exact n k).again at [] rest tt (ahead_so (ap (λ (q : Piece). q ∷ rest) (sym (marked []))) h) tt) (λ y p. p.1)
+
+pub mark_exact : (n : ℕ) (k : TokenKind) → IsMark k → Exact n (next_word k) (λ (u : Unit {0}). Mark k ∷ []) Always (λ u ps w. Unit {0}) Always
+mark_exact n k marked = record {
+  found = λ at. found_more _ _ _ (mark_found n k marked at) (λ y p. record { text = tt; taken = p; fit = tt; is = tt });
+  again = λ at u rest fit h _. gets_more _ _ _ (mark_again n k marked at rest h) (λ y p. (tt, p));
+}
 
 -- ---- one text as another
 
@@ -165,6 +172,89 @@ both_exact {n = n} {one = one} {two = two} {spell = spell} {spell' = spell'} {fi
       gets_bind _ _ _ _ (exact'.again x.1 c.1 rest fit.1 p.1 stop) (λ y q.
       gets_end _ _ (record { first = x.0; second = y.0; said_first = p.0; said_second = subst (λ (ps : List Place). says' c.1 ps y.0) p.2 q.0; is = refl }, q.1)));
 }
+
+-- ---- one text or another
+
+pub found_as : {C D A : Type 0} {spell : C → List Piece} {fits : C → Type 0} {says : C → List Place → A → Type 0} (spell' : D → List Piece) (fits' : D → Type 0) (says' : D → List Place → A → Type 0) (f : C → D)
+    → ((c : C) → spell c ≡ spell' (f c)) → ((c : C) → fits c → fits' (f c)) → ((c : C) (ps : List Place) (y : A) → says c ps y → says' (f c) ps y)
+    → (at : WordsAhead) (r : Result (A × WordsAhead) ReadRefusal) → Finds r (Spelled spell fits says at) → Finds r (Spelled spell' fits' says' at)
+found_as spell' fits' says' f spelled fit said at r h =
+    found_more _ _ _ h (λ y p. record { text = f p.text; taken = takes_so (spelled p.text) p.taken; fit = fit p.text p.fit; is = said p.text (places at.words) y.0 p.is })
+
+-- what fits said otherwise
+pub exact_fits : {C A : Type 0} {n : ℕ} {read : ReadWords A} {spell : C → List Piece} {fits : C → Type 0} {says : C → List Place → A → Type 0} {follows : List Piece → Type 0}
+    (fits' : C → Type 0) → ((c : C) → fits c → fits' c) → ((c : C) → fits' c → fits c) → Exact n read spell fits says follows → Exact n read spell fits' says follows
+exact_fits {spell = spell} {says = says} fits' fit unfit exact = exact_as spell fits' says (λ c. c) (λ c. c) (λ c. refl) (λ c. refl) fit unfit (λ c ps y h. h) exact
+
+-- a refusal, where nothing fits
+pub refusing_exact : {C A : Type 0} (n : ℕ) (why : WordsAhead → ReadRefusal) (spell : C → List Piece) (fits : C → Type 0) (says : C → List Place → A → Type 0) (follows : List Piece → Type 0) → ((c : C) → fits c → ⊥) → Exact {A = A} n (λ at. Err (why at)) spell fits says follows
+refusing_exact n why spell fits says follows none = record { found = λ at. record { is = tt }; again = λ at c rest fit h stop. absurd (none c fit) }
+
+-- nothing is read
+pub nothing_exact : {A : Type 0} (n : ℕ) (x : A) (follows : List Piece → Type 0) → Exact n (λ at. Ok (x, at)) (λ (u : Unit {0}). []) Always (λ u ps y. y ≡ x) follows
+nothing_exact n x follows = record {
+  found = λ at. record { is = record { text = tt; taken = takes_none at.words; fit = tt; is = refl } };
+  again = λ at u rest fit h stop. gets_end _ _ (refl, h);
+}
+
+-- The text is of this sort, and its pieces tell the test.
+pub record OfSort {C E : Type 0} (begins : List Piece → Bool) (t : Bool) (spell : E → List Piece) (follows : List Piece → Type 0) (f : C → E) (fits : C → Type 0) (e : E) : Type 0 where
+  pub text : C
+  pub same : f text ≡ e
+  pub fit : fits text
+  pub tells : (rest : List Piece) → follows rest → begins (spell e ++ rest) ≡ t
+
+pub respelled : {C E : Type 0} (spell : C → List Piece) (spell' : E → List Piece) (f : C → E) → ((c : C) → spell c ≡ spell' (f c)) → (c : C) (e : E) → f c ≡ e → (tail : List Piece) → spell' e ++ tail ≡ spell c ++ tail
+respelled spell spell' f spelled c e same tail = ap (λ (ps : List Piece). ps ++ tail) (ap spell' (sym same) ∙ sym (spelled c))
+
+pub choice_exact : {C D E A : Type 0} {n : ℕ} {one two : ReadWords A} {spell : C → List Piece} {spell' : D → List Piece} {fits : C → Type 0} {fits' : D → Type 0} {says : C → List Place → A → Type 0} {says' : D → List Place → A → Type 0} {follows follows' : List Piece → Type 0} {goes : WordsAhead → Bool} {begins : List Piece → Bool}
+    (spell'' : E → List Piece) (fits'' : E → Type 0) (says'' : E → List Place → A → Type 0) (follows'' : List Piece → Type 0) → IsTest goes begins
+    → (f : C → E) → ((c : C) → spell c ≡ spell'' (f c)) → ((c : C) → fits c → fits'' (f c)) → ((c : C) (ps : List Place) (y : A) → says c ps y → says'' (f c) ps y)
+    → (g : D → E) → ((d : D) → spell' d ≡ spell'' (g d)) → ((d : D) → fits' d → fits'' (g d)) → ((d : D) (ps : List Place) (y : A) → says' d ps y → says'' (g d) ps y)
+    → ((e : E) → fits'' e → OfSort begins true spell'' follows'' f fits e ⊎ OfSort begins false spell'' follows'' g fits' e)
+    → ((rest : List Piece) → follows'' rest → follows rest) → ((rest : List Piece) → follows'' rest → follows' rest)
+    → Exact n one spell fits says follows → Exact n two spell' fits' says' follows' → Exact n (λ at. if goes at then one at else two at) spell'' fits'' says'' follows''
+choice_exact {n = n} {spell = spell} {spell' = spell'} {goes = goes} {begins = begins} spell'' fits'' says'' follows'' test f spelled fit said g spelled' fit' said' sort stops stops' a b = record {
+  found = λ at. found_if (goes at) _ _ _ (found_as spell'' fits'' says'' f spelled fit said at _ (a.found at)) (found_as spell'' fits'' says'' g spelled' fit' said' at _ (b.found at));
+  again = λ at e rest ok h stop.
+      elim (sort e ok) [
+        | inl s ↦ gets_true (goes at) _ _ _ (test.is at ∙ ap begins h.is ∙ s.tells rest stop)
+            (gets_more _ _ _ (a.again at s.text rest s.fit (ahead_so (respelled spell spell'' f spelled s.text e s.same rest) h) (stops rest stop)) (λ y p. (subst (λ d. says'' d (places at.words) y.0) s.same (said s.text (places at.words) y.0 p.0), p.1)))
+        | inr s ↦ gets_false (goes at) _ _ _ (test.is at ∙ ap begins h.is ∙ s.tells rest stop)
+            (gets_more _ _ _ (b.again at s.text rest s.fit (ahead_so (respelled spell' spell'' g spelled' s.text e s.same rest) h) (stops' rest stop)) (λ y p. (subst (λ d. says'' d (places at.words) y.0) s.same (said' s.text (places at.words) y.0 p.0), p.1)))
+      ];
+}
+
+-- three steps
+abbrev pub three : {A B C X : Type 0} → (A → B → C → X) → ReadWords A → ReadWords B → ReadWords C → ReadWords X
+three of a b c at = a at >>= λ x. b x.1 >>= λ y. c y.1 >>= λ z. Ok (of x.0 y.0 z.0, z.1)
+
+abbrev pub pair_up : {B C : Type 0} → B → C → B × C
+pair_up y z = (y, z)
+
+abbrev pub of_pair : {A B C X : Type 0} → (A → B → C → X) → A → B × C → X
+of_pair of x w = of x w.0 w.1
+
+pub bind_same : {A B : Type 0} (r : Result A ReadRefusal) (f g : A → Result B ReadRefusal) → ((x : A) → f x ≡ g x) → (r >>= f) ≡ (r >>= g)
+unfolding and_then
+bind_same (Ok x) f g h = h x
+bind_same (Err e) f g h = refl
+
+pub bind_bind : {A B C : Type 0} (r : Result A ReadRefusal) (f : A → Result B ReadRefusal) (g : B → Result C ReadRefusal) → ((r >>= f) >>= g) ≡ (r >>= λ x. f x >>= g)
+unfolding and_then
+bind_bind (Ok x) f g = refl
+bind_bind (Err e) f g = refl
+
+pub bind_end : {A B : Type 0} (x : A) (f : A → Result B ReadRefusal) → (Ok x >>= f) ≡ f x
+unfolding and_then
+bind_end x f = refl
+
+pub three_is : {A B C X : Type 0} (of : A → B → C → X) (a : ReadWords A) (b : ReadWords B) (c : ReadWords C) (at : WordsAhead) → both (of_pair of) a (both pair_up b c) at ≡ three of a b c at
+three_is of a b c at =
+    bind_same (a at) _ _ (λ x. bind_bind (b x.1) _ _ ∙ bind_same (b x.1) _ _ (λ y. bind_bind (c y.1) _ _ ∙ bind_same (c y.1) _ _ (λ z. bind_end ((y.0, z.0), z.1) _)))
+
+pub paired : {A B X : Type 0} (of : A → B → X) (a : ReadWords A) (b : ReadWords B) (at : WordsAhead) → mapped (λ (p : A × B). of p.0 p.1) (both pair_up a b) at ≡ both of a b at
+paired of a b at = bind_bind (a at) _ _ ∙ bind_same (a at) _ _ (λ x. bind_bind (b x.1) _ _ ∙ bind_same (b x.1) _ _ (λ y. bind_end ((x.0, y.0), y.1) _))
 
 -- ---- what is read, and a word after it
 

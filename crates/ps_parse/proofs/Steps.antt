@@ -1,5 +1,5 @@
 -- The laws of reading functions of words, in steps: what is read is spelled so, and what is spelled so is read.
-use Rattle.std.proofs.Common.{◌≡◌, ℕ, ◌≤◌, Bool, true, false, List, [], ◌∷◌, ◌++◌, map, length, drop, get_or, Result, Ok, Err, refl, sym, ap, subst, ◌∙◌, append_assoc, eq-eqb}
+use Rattle.std.proofs.Common.{◌≡◌, ℕ, ◌≤◌, Bool, true, false, ◌||◌, List, [], ◌∷◌, ◌++◌, map, length, drop, get_or, Result, Ok, Err, refl, sym, ap, subst, ◌∙◌, append_assoc, eq-eqb}
 use Rattle.std.specs.Prelude.{IfOk, if◌then◌else◌}
 use Rattle.std.proofs.lemmas.Bool.{cond-true, cond-false, eqb-true}
 use Rattle.std.proofs.lemmas.List.{map-append, length-map, drop_at, drop-map}
@@ -197,3 +197,33 @@ pub record Spelled {C A : Type 0} (spell : C → List Piece) (fits : C → Type 
 pub record Exact {C A : Type 0} (n : ℕ) (read : ReadWords A) (spell : C → List Piece) (fits : C → Type 0) (says : C → List Place → A → Type 0) (follows : List Piece → Type 0) : Type 0 where
   pub found : (at : WordsAhead) → Finds (read at) (Spelled spell fits says at)
   pub again : (at : WordsAhead) (c : C) (rest : List Piece) → fits c → Ahead n at (spell c ++ rest) → follows rest → Gets (read at) (λ y. says c (places at.words) y.0 × Ahead n y.1 rest)
+
+-- ---- tests of the next word
+
+-- both begin with the same piece, or both are empty
+abbrev pub Alike : List Piece → List Piece → Type 0
+Alike [] [] = Unit {0}
+Alike [] (q ∷ qs) = ⊥
+Alike (p ∷ ps) [] = ⊥
+Alike (p ∷ ps) (q ∷ qs) = p ≡ q
+
+-- A test of the next word, on words and on pieces.
+pub record IsTest (goes : WordsAhead → Bool) (begins : List Piece → Bool) : Type 0 where
+  pub is : (at : WordsAhead) → goes at ≡ begins (pieces at.words)
+  pub same : (ps qs : List Piece) → Alike ps qs → begins ps ≡ begins qs
+
+alike_begins : (k : TokenKind) (ps qs : List Piece) → Alike ps qs → begins_piece k ps ≡ begins_piece k qs
+alike_begins k [] [] h = refl
+alike_begins k [] (q ∷ qs) h = absurd h
+alike_begins k (p ∷ ps) [] h = absurd h
+alike_begins k (p ∷ ps) (q ∷ qs) h = ap (λ (r : Piece). is_kind (kind_of r) k) h
+
+pub next_test : (k : TokenKind) → IsTest (next_is k) (begins_piece k)
+next_test k = record { is = λ at. begins_pieces k at.words; same = alike_begins k }
+
+-- a test of two kinds
+pub either_test : {goes more : WordsAhead → Bool} {begins goes_on : List Piece → Bool} → IsTest goes begins → IsTest more goes_on → IsTest (λ at. goes at || more at) (λ ps. begins ps || goes_on ps)
+either_test {goes = goes} {more = more} {begins = begins} {goes_on = goes_on} a b = record {
+  is = λ at. ap (λ (t : Bool). t || more at) (a.is at) ∙ ap (λ (t : Bool). begins (pieces at.words) || t) (b.is at);
+  same = λ ps qs h. ap (λ (t : Bool). t || goes_on ps) (a.same ps qs h) ∙ ap (λ (t : Bool). begins qs || t) (b.same ps qs h);
+}

@@ -1,5 +1,5 @@
 -- The laws of statements, from those of the blocks in them.
-use Rattle.std.proofs.Common.{◌≡◌, ℕ, suc, ◌+◌, ◌-◌, ◌≤◌, Bool, true, List, [], ◌∷◌, ◌++◌, length, drop, Option, Some, None, Result, refl, ap, subst, ◌∙◌, arith, append_assoc}
+use Rattle.std.proofs.Common.{◌≡◌, ℕ, suc, ◌+◌, ◌-◌, ◌≤◌, Bool, true, false, ◌⊎◌, inl, inr, List, [], ◌∷◌, ◌++◌, length, drop, Option, Some, None, refl, ap, subst, ◌∙◌, arith, append_assoc}
 use Rattle.std.proofs.lemmas.List.{append-nil, drop-drop}
 use Rattle.ps_token.specs.declared.place.Place.{Place}
 use Rattle.ps_token.specs.declared.token_kind.TokenKind.{TokenKind}
@@ -10,17 +10,16 @@ use Rattle.ps_tree.specs.declared.cond.Test.{Test}
 use Rattle.ps_tree.specs.declared.stmt.Stmt.{Stmt}
 use Rattle.ps_tree.specs.declared.stmt.StmtKind.{StmtKind}
 use Rattle.ps_tree.specs.declared.stmt.StmtKind.TheVariants as stmt
-use Rattle.ps_parse.specs.declared.read_refusal.ReadRefusal.{ReadRefusal}
-use Rattle.ps_grammar.specs.Grammar.{SumText, TestText, StmtText, assign, havoc, atomic, if_then, if_else, while_do, BlockText}
-use Rattle.ps_parse.specs.Inner.Reading.{WordsAhead, ReadWords, next_is, after_word}
+use Rattle.ps_grammar.specs.Grammar.{SumText, TestText, StmtText, assign, havoc, skip, atomic, if_then, if_else, while_do, BlockText}
+use Rattle.ps_parse.specs.Inner.Reading.{ReadWords, after_word}
 use Rattle.ps_grammar.specs.Names.{Names}
 use Rattle.ps_parse.specs.Inner.Conds.{parens_at}
 use Rattle.ps_parse.specs.Inner.Blocks.{ended_at, assign_at, havoc_at, cond_stmt_at, skip_at, atomic_at, else_at, if_at}
 use Rattle.ps_grammar.specs.Spelling.{Piece, Mark, cond_pieces, test_pieces, stmt_pieces, rest_pieces, block_pieces}
 use Rattle.ps_grammar.specs.Trees.{variable_named, cond_tree, test_tree, stmt_tree, block_trees}
 use Rattle.ps_grammar.specs.Fits.{IsKnownName, SumTextFits, CondFits, TestFits, StmtFits, RestFits}
-use Rattle.ps_parse.proofs.Steps.{places, takes_none, takes_then, takes_so, takes_places, Ahead, ahead_so, next_ahead, Not, Always, Finds, Gets, found_bind, found_end, found_if, found_more, gets_bind, gets_end, gets_true, gets_false, Spelled, Exact}
-use Rattle.ps_parse.proofs.Sequences.{word_exact, IsMark, exact_as, exact_again, mapped_exact, after_exact, both, both_exact, closed_exact}
+use Rattle.ps_parse.proofs.Steps.{places, takes_then, takes_places, ahead_so, begins_piece, Not, Always, found_bind, found_end, gets_bind, gets_end, Exact, next_test}
+use Rattle.ps_parse.proofs.Sequences.{mark_exact, IsMark, exact_as, exact_again, nothing_exact, OfSort, choice_exact, mapped_exact, after_exact, both, both_exact, closed_exact}
 use Rattle.ps_parse.proofs.Scopes.{variable_exact}
 use Rattle.ps_parse.proofs.SumLaws.{sum_exact}
 use Rattle.ps_parse.proofs.CondLaws.{cond_exact, parens_exact}
@@ -59,9 +58,9 @@ pub cond_stmt_exact : (n : ℕ) (names : Names) (levels : ℕ) (word : TokenKind
 unfolding cond_stmt_at
 cond_stmt_exact n names levels word of marked = mapped_exact _ of (λ c ps y h. ap of h) (after_exact word marked (ended_exact (λ rest. (refl, (refl, (refl, refl)))) (cond_exact n names levels)))
 
-pub skip_exact : (n : ℕ) → Exact n skip_at (λ (t : List ℕ). Mark kind.Skip ∷ Mark kind.Semicolon ∷ []) Always (λ t ps y. y ≡ stmt.Skip) Always
+pub skip_exact : (n : ℕ) → Exact n skip_at (λ (u : Unit {0}). stmt_pieces skip) Always (λ u ps y. y ≡ stmt.Skip) Always
 unfolding skip_at
-skip_exact n = mapped_exact _ (λ _. stmt.Skip) (λ t ps y h. refl) (after_exact kind.Skip (λ t. refl) (word_exact n kind.Semicolon))
+skip_exact n = mapped_exact _ (λ _. stmt.Skip) (λ u ps y h. refl) (after_exact kind.Skip (λ t. refl) (mark_exact n kind.Semicolon (λ t. refl)))
 
 -- ---- statements with blocks
 
@@ -96,23 +95,15 @@ abbrev pub ElseIs : Names → Option BlockText → List Place → List Stmt → 
 ElseIs names None ps y = y ≡ []
 ElseIs names (Some b) ps y = y ≡ block_trees names b (drop 1 (drop 1 ps))
 
-else_again : (n : ℕ) (names : Names) (levels : ℕ) (inside : Bool) (block : ReadWords (List Stmt)) → BlockExact n names levels inside block → (at : WordsAhead) (o : Option BlockText) (rest : List Piece) → ElseFits names levels inside o → Ahead n at (else_pieces o ++ rest) → Not kind.Else rest
-    → Gets (else_at block at) (λ y. ElseIs names o (places at.words) y.0 × Ahead n y.1 rest)
-unfolding else_at
-else_again n names levels inside block exact at None rest fit h stop =
-    gets_false (next_is kind.Else at) _ _ _ (next_ahead kind.Else h ∙ stop) (gets_end _ _ (refl, h))
-else_again n names levels inside block exact at (Some b) rest fit h stop =
-    gets_true (next_is kind.Else at) _ _ _ (next_ahead kind.Else h) ((after_exact kind.Else (λ t. refl) exact).again at b rest fit h tt)
+pub else_sort : (P : Option BlockText → Type 0) (o : Option BlockText) → P o → OfSort (begins_piece kind.Else) true else_pieces (Not kind.Else) (λ b. Some b) (λ b. P (Some b)) o ⊎ OfSort (begins_piece kind.Else) false else_pieces (Not kind.Else) (λ (u : Unit {0}). None) (λ u. P None) o
+else_sort P None ok = inr (record { text = tt; same = refl; fit = ok; tells = λ rest h. h })
+else_sort P (Some b) ok = inl (record { text = b; same = refl; fit = ok; tells = λ rest h. refl })
 
 else_exact : (n : ℕ) (names : Names) (levels : ℕ) (inside : Bool) (block : ReadWords (List Stmt)) → BlockExact n names levels inside block → Exact n (else_at block) else_pieces (ElseFits names levels inside) (ElseIs names) (Not kind.Else)
 unfolding else_at
-else_exact n names levels inside block exact = record {
-  found = λ at.
-      found_if (next_is kind.Else at) _ _ _
-      (found_more _ _ _ ((after_exact kind.Else (λ t. refl) exact).found at) (λ y p. record { text = Some p.text; taken = p.taken; fit = p.fit; is = p.is }))
-      (found_end _ _ (record { text = None; taken = takes_none at.words; fit = tt; is = refl }));
-  again = else_again n names levels inside block exact;
-}
+else_exact n names levels inside block exact =
+    choice_exact else_pieces (ElseFits names levels inside) (ElseIs names) (Not kind.Else) (next_test kind.Else) (λ b. Some b) (λ b. refl) (λ b h. h) (λ b ps y h. h) (λ (u : Unit {0}). None) (λ u. refl) (λ u h. h) (λ u ps y h. h)
+    (else_sort (ElseFits names levels inside)) (λ rest h. tt) (λ rest h. tt) (after_exact kind.Else (λ t. refl) exact) (nothing_exact n [] Always)
 
 pub record IfText : Type 0 where
   pub test : TestText
@@ -173,14 +164,8 @@ if_exact n names levels inside block exact = record {
 abbrev pub StmtIs : Names → StmtText → List Place → StmtKind → Type 0
 StmtIs names s ps y = y ≡ stmt_tree names s ps
 
-pub if_of : IfText → StmtText
+unfoldable pub if_of : IfText → StmtText
 if_of c = elim c.failed as (λ _. StmtText) [ None ↦ if_then c.test c.held | Some b ↦ if_else c.test c.held b ]
-
-pub found_as : {C D A : Type 0} {spell : C → List Piece} {fits : C → Type 0} {says : C → List Place → A → Type 0} (spell' : D → List Piece) (fits' : D → Type 0) (says' : D → List Place → A → Type 0) (f : C → D)
-    → ((c : C) → spell c ≡ spell' (f c)) → ((c : C) → fits c → fits' (f c)) → ((c : C) (ps : List Place) (y : A) → says c ps y → says' (f c) ps y)
-    → (at : WordsAhead) (r : Result (A × WordsAhead) ReadRefusal) → Finds r (Spelled spell fits says at) → Finds r (Spelled spell' fits' says' at)
-found_as spell' fits' says' f spelled fit said at r h =
-    found_more _ _ _ h (λ y p. record { text = f p.text; taken = takes_so (spelled p.text) p.taken; fit = fit p.text p.fit; is = said p.text (places at.words) y.0 p.is })
 
 pub if_spelled : (c : IfText) → if_pieces c ≡ stmt_pieces (if_of c)
 unfolding if_of
@@ -217,17 +202,13 @@ if_said names c ps y h = by_else c.failed h.failed h.said h.is
         e ∙ ap (λ (us : List Stmt). stmt.If (test_tree names c.test) (block_trees names c.held (drop 1 (drop (suc (length (test_pieces c.test))) ps))) us) (g ∙ ap (block_trees names b) (failed_place (length (rest_pieces c.held)) (length (test_pieces c.test)) ps))
         ∙ ap (λ (qs : List Place). stmt.If (test_tree names c.test) (block_trees names c.held qs) (block_trees names b (drop (length (rest_pieces c.held) + (length (test_pieces c.test) + 4)) ps))) (held_place (length (test_pieces c.test)) ps)
 
-pub then_spelled : (t : TestText) (b : BlockText) → if_pieces (record { test = t; held = b; failed = None }) ≡ stmt_pieces (if_then t b)
+pub if_unfit : (names : Names) (levels : ℕ) (inside : Bool) (c : IfText) → StmtFits names levels inside (if_of c) → IfFits names levels inside c
 unfolding if_of
-then_spelled t b = if_spelled (record { test = t; held = b; failed = None })
-
-pub then_said : (names : Names) (t : TestText) (b : BlockText) (ps : List Place) (y : StmtKind) → IfIs names (record { test = t; held = b; failed = None }) ps y → StmtIs names (if_then t b) ps y
-unfolding if_of
-then_said names t b ps y h = if_said names (record { test = t; held = b; failed = None }) ps y h
-
-pub else_said : (names : Names) (t : TestText) (b c : BlockText) (ps : List Place) (y : StmtKind) → IfIs names (record { test = t; held = b; failed = Some c }) ps y → StmtIs names (if_else t b c) ps y
-unfolding if_of
-else_said names t b c ps y h = if_said names (record { test = t; held = b; failed = Some c }) ps y h
+if_unfit names levels inside c h = by_else c.failed h
+  where
+    by_else : (o : Option BlockText) → StmtFits names levels inside (elim o as (λ _. StmtText) [ None ↦ if_then c.test c.held | Some b ↦ if_else c.test c.held b ]) → TestFits names levels c.test × BlockFits names levels inside c.held × ElseFits names levels inside o
+    by_else None g = (g.0, (g.1, g.2), tt)
+    by_else (Some b) g = (g.0, (g.1, g.2), (g.1, g.3))
 
 -- what holds of each `if` holds of the one with these parts
 pub if_is : (P : StmtText → Type 0) → ((t : TestText) (b : BlockText) → P (if_then t b)) → ((t : TestText) (b c : BlockText) → P (if_else t b c)) → (c : IfText) → P (if_of c)

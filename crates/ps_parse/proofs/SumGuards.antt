@@ -1,5 +1,5 @@
 -- The laws of refusals of sums and relations.
-use Rattle.std.proofs.Common.{◌≡◌, ℕ, ℤ, pos, Bool, true, false, ◌||◌, ◌⊎◌, inl, inr, List, [], ◌∷◌, ◌++◌, drop, Option, Some, None, Result, Ok, refl, sym, ap, subst, ◌∙◌, append_assoc}
+use Rattle.std.proofs.Common.{◌≡◌, ℕ, ℤ, pos, Bool, true, false, ◌⊎◌, inl, inr, List, [], ◌∷◌, ◌++◌, drop, Option, Some, None, Result, Ok, refl, sym, ap, subst, ◌∙◌, append_assoc}
 use Rattle.std.specs.Prelude.{ok_or, if◌then◌else◌}
 use Rattle.std.specs.List.{flat_map, AllByRecursion}
 use Rattle.std.proofs.lemmas.Option.{none-some}
@@ -13,24 +13,23 @@ use Rattle.ps_tree.specs.declared.relation.Relation.{Relation}
 use Rattle.ps_tree.specs.declared.relation.Sign.{Sign}
 use Rattle.ps_tree.specs.declared.relation.Sign.TheVariants as sign
 use Rattle.ps_tree.specs.declared.sum.Sum.{Sum}
-use Rattle.ps_grammar.specs.Grammar.{ProductText, number, name, number_name, name_number, SumText}
+use Rattle.ps_grammar.specs.Grammar.{ProductText, number, name, number_name, name_number, SumText, RelationText}
 use Rattle.ps_grammar.specs.Words.{Word}
 use Rattle.ps_parse.specs.Inner.Reading.{WordsAhead, ReadWords, next_is, place_at, next_word, after_word}
-use Rattle.ps_parse.specs.Kinds.{place_of_next}
 use Rattle.ps_lines.specs.Steps.{◌>>=◌}
 use Rattle.ps_grammar.specs.Names.{Names}
 use Rattle.ps_parse.specs.Inner.Variables.{variable_in, variable_at}
 use Rattle.ps_grammar.specs.Numbers.{number_value, signed}
-use Rattle.ps_parse.specs.Inner.Sums.{factor_at, number_product_at, name_product_at, product_at, first_product_at, further_product_at, adds, sum_at, sign_from, sign_ahead, relation_at}
-use Rattle.ps_grammar.specs.Spelling.{Piece, NamePiece, Mark, piece_of_kind, pieces, product_pieces, minus_pieces, sum_pieces, sign_kind, relation_pieces}
+use Rattle.ps_parse.specs.Inner.Sums.{factor_at, number_product_at, name_product_at, product_at, first_product_at, further_product_at, sum_at, sign_from, sign_ahead, relation_at}
+use Rattle.ps_grammar.specs.Spelling.{Piece, Mark, piece_of_kind, pieces, product_pieces, minus_pieces, sum_pieces, sign_kind, relation_pieces}
 use Rattle.ps_parse.specs.Reads.{PassesGrammar, refusal_place}
-use Rattle.ps_parse.proofs.Steps.{same_kind, kind_of, kind_of_piece, begins_piece, begins_pieces, Not, Always}
-use Rattle.ps_parse.proofs.Sequences.{IsMark, mapped, both}
-use Rattle.ps_parse.proofs.SumLaws.{number_piece, further_goes_on, SumEnds, SignedText, first_pieces, further_piece, begins_adding, further_joins, sum_of, parts_of, make_sum, further_is, product_begins}
+use Rattle.ps_parse.proofs.Steps.{same_kind, kind_of, kind_of_piece, begins_piece, Not, Always, next_test, either_test}
+use Rattle.ps_parse.proofs.Sequences.{IsMark, mapped, both, OfSort, three_is, pair_up, of_pair, bind_same, bind_bind, bind_end}
+use Rattle.ps_parse.proofs.SumLaws.{number_piece, further_goes_on, SumEnds, first_pieces, first_sort, further_piece, further_sort, further_joins, sum_of, parts_of, make_sum, further_is}
 use Rattle.ps_parse.proofs.Scopes.{name_piece}
 use Rattle.ps_parse.proofs.RelationLaws.{AreSigns, SignIn, sign_piece, sign_mark, sign_ends}
-use Rattle.ps_parse.proofs.Guards.{Keeps, keeps_bind, keeps_end, first_alike, none_alike, IsTest, next_test, Went, Stood, Guards, Example, stood_here, no_fault, word_of, word_example, word_guards, placed_word, stood_at_word, pieces_are}
-use Rattle.ps_parse.proofs.GuardSteps.{guards_same, guards_as, mapped_guards, refusing_guards, nothing_guards, both_guards, three_is, pair_up, of_pair, bind_same, bind_bind, bind_end, after_guards, OfSort, choosing_guards, choice_guards}
+use Rattle.ps_parse.proofs.Guards.{Keeps, keeps_bind, keeps_end, first_alike, none_alike, Went, Stood, Guards, Example, stood_here, no_fault, example_of, word_guards, placed_word, stood_at_word, pieces_are}
+use Rattle.ps_parse.proofs.GuardSteps.{guards_same, guards_as, mapped_guards, refusing_guards, nothing_guards, both_guards, after_guards, choosing_guards, choice_guards}
 use Rattle.ps_parse.proofs.GuardLoops.{while_guards}
 
 -- ---- names and numbers
@@ -51,10 +50,10 @@ variable_guards n scope = record {
 }
 
 pub name_example : Example name_piece Always
-name_example = word_example kind.Name
+name_example = example_of [] tt refl
 
 pub number_example : Example number_piece Always
-number_example = word_example kind.Number
+number_example = example_of [] tt refl
 
 digits_guards : (n : ℕ) → Guards n (mapped (λ (w : Word). number_value w.text) (next_word kind.Number)) number_piece Always Always
 digits_guards n = mapped_guards (λ (w : Word). number_value w.text) (word_guards n kind.Number)
@@ -63,7 +62,7 @@ factor_guards : (n : ℕ) → Guards n factor_at number_piece Always Always
 unfolding factor_at
 factor_guards n =
     choosing_guards number_piece Always Always (next_test kind.Name) (λ d. d) (λ d. refl) (λ d h. tt) (λ d. d) (λ d. refl) (λ d h. tt)
-    (λ d ok. inr (record { text = d; fine = tt; same = refl; tells = λ rest h. refl })) (λ rest h. tt) (λ rest h. tt)
+    (λ d ok. inr (record { text = d; same = refl; fit = tt; tells = λ rest h. refl })) (λ rest h. tt) (λ rest h. tt)
     (refusing_guards (next_is kind.Name) n (λ at. NotLinear (place_at at)) number_piece Always Always (λ at g. g) (λ at. refl) (λ at e. record { example = number_example; next = λ g. absurd g }))
     (digits_guards n)
 
@@ -83,9 +82,9 @@ opt_guards {C = C} n k marked read spell example g =
     (mapped_guards Some (after_guards k marked g example))
     (nothing_guards n None Always)
   where
-    sort : (o : Option C) → Always o → OfSort (begins_piece k) true (λ (c : C). Mark k ∷ spell c) Always (Not k) (opt_pieces k spell o) ⊎ OfSort (begins_piece k) false (λ (u : Unit {0}). []) Always (Not k) (opt_pieces k spell o)
-    sort None ok = inr (record { text = tt; fine = tt; same = refl; tells = λ rest h. h })
-    sort (Some c) ok = inl (record { text = c; fine = tt; same = refl; tells = λ rest h. same_kind k k refl })
+    sort : (o : Option C) → Always o → OfSort (begins_piece k) true (opt_pieces k spell) (Not k) (λ c. Some c) Always o ⊎ OfSort (begins_piece k) false (opt_pieces k spell) (Not k) (λ (u : Unit {0}). None) Always o
+    sort None ok = inr (record { text = tt; same = refl; fit = tt; tells = λ rest h. h })
+    sort (Some c) ok = inl (record { text = c; same = refl; fit = tt; tells = λ rest h. same_kind k k refl })
 
 opt_then : {A B : Type 0} (k : TokenKind) (read : ReadWords A) (at : WordsAhead) (g : Option A × WordsAhead → Result B ReadRefusal) → (opt_at k read at >>= g) ≡ (if next_is k at then (after_word k read at >>= λ x. g (Some x.0, x.1)) else g (None, at))
 opt_then {A = A} {B = B} k read at g = by_test (next_is k at)
@@ -120,20 +119,17 @@ number_parts c = number_piece c.0 ++ opt_pieces kind.Star name_piece c.1
 abbrev name_parts : Parts → List Piece
 name_parts c = name_piece c.0 ++ opt_pieces kind.Star number_piece c.1
 
-abbrev opt_example : {C : Type 0} (k : TokenKind) (spell : C → List Piece) → Example (opt_pieces k spell) Always
-opt_example k spell = record { text = None; fine = tt; words = []; spelled = refl }
-
 number_product_guards : (n : ℕ) (scope : Option Names) → Guards n (number_product_at scope) number_parts Always (Not kind.Star)
 number_product_guards n scope =
     guards_as number_parts Always (λ c. c) (λ c. c) (λ c. refl) (λ c. refl) (λ c h. tt) (λ c h. (tt, tt))
     (guards_same _ (number_product_is scope)
-    (both_guards numbered (word_guards n kind.Number) (opt_guards n kind.Star (λ u. refl) _ name_piece name_example (variable_guards n scope)) (opt_example kind.Star name_piece) (λ d rest h. tt)))
+    (both_guards numbered (word_guards n kind.Number) (opt_guards n kind.Star (λ u. refl) _ name_piece name_example (variable_guards n scope)) (example_of None tt refl) (λ d rest h. tt)))
 
 name_product_guards : (n : ℕ) (scope : Option Names) → Guards n (name_product_at scope) name_parts Always (Not kind.Star)
 name_product_guards n scope =
     guards_as name_parts Always (λ c. c) (λ c. c) (λ c. refl) (λ c. refl) (λ c h. tt) (λ c h. (tt, tt))
     (guards_same _ (name_product_is scope)
-    (both_guards named (variable_guards n scope) (opt_guards n kind.Star (λ u. refl) _ number_piece number_example (factor_guards n)) (opt_example kind.Star number_piece) (λ d rest h. tt)))
+    (both_guards named (variable_guards n scope) (opt_guards n kind.Star (λ u. refl) _ number_piece number_example (factor_guards n)) (example_of None tt refl) (λ d rest h. tt)))
 
 number_text : List ℕ → Option (List ℕ) → ProductText
 number_text d None = number d
@@ -153,11 +149,12 @@ unfolding name_text
 name_spelled d None = refl
 name_spelled d (Some x) = refl
 
-product_sort : (c : ProductText) → Always c → OfSort (begins_piece kind.Number) true number_parts Always (Not kind.Star) (product_pieces c) ⊎ OfSort (begins_piece kind.Number) false name_parts Always (Not kind.Star) (product_pieces c)
-product_sort (number d) ok = inl (record { text = (d, None); fine = tt; same = refl; tells = λ rest h. refl })
-product_sort (number_name d x) ok = inl (record { text = (d, Some x); fine = tt; same = refl; tells = λ rest h. refl })
-product_sort (name x) ok = inr (record { text = (x, None); fine = tt; same = refl; tells = λ rest h. refl })
-product_sort (name_number x d) ok = inr (record { text = (x, Some d); fine = tt; same = refl; tells = λ rest h. refl })
+product_sort : (c : ProductText) → Always c → OfSort (begins_piece kind.Number) true product_pieces (Not kind.Star) (λ (c : Parts). number_text c.0 c.1) Always c ⊎ OfSort (begins_piece kind.Number) false product_pieces (Not kind.Star) (λ (c : Parts). name_text c.0 c.1) Always c
+unfolding number_text name_text
+product_sort (number d) ok = inl (record { text = (d, None); same = refl; fit = tt; tells = λ rest h. refl })
+product_sort (number_name d x) ok = inl (record { text = (d, Some x); same = refl; fit = tt; tells = λ rest h. refl })
+product_sort (name x) ok = inr (record { text = (x, None); same = refl; fit = tt; tells = λ rest h. refl })
+product_sort (name_number x d) ok = inr (record { text = (x, Some d); same = refl; fit = tt; tells = λ rest h. refl })
 
 product_guards : (n : ℕ) (scope : Option Names) → Guards n (product_at scope) product_pieces Always (Not kind.Star)
 unfolding product_at
@@ -167,41 +164,26 @@ product_guards n scope =
     product_sort (λ rest h. h) (λ rest h. h) (number_product_guards n scope) (name_product_guards n scope)
 
 product_example : Example product_pieces Always
-unfolding number_example
-product_example = record { text = number []; fine = tt; words = number_example.words; spelled = number_example.spelled }
+product_example = example_of (number []) tt refl
 
 -- ---- sums
 
 minus_guards : (n : ℕ) (scope : Option Names) → Guards n (mapped (signed true) (after_word kind.Minus (product_at scope))) (λ c. Mark kind.Minus ∷ product_pieces c) Always (Not kind.Star)
 minus_guards n scope = mapped_guards (signed true) (after_guards kind.Minus (λ u. refl) (product_guards n scope) product_example)
 
-first_sort : (c : SignedText) → Always c → OfSort (begins_piece kind.Minus) true (λ (p : ProductText). Mark kind.Minus ∷ product_pieces p) Always (Not kind.Star) (first_pieces c) ⊎ OfSort (begins_piece kind.Minus) false product_pieces Always (Not kind.Star) (first_pieces c)
-first_sort (true, c) ok = inl (record { text = c; fine = tt; same = refl; tells = λ rest h. refl })
-first_sort (false, c) ok = inr (record { text = c; fine = tt; same = refl; tells = λ rest h. product_begins kind.Minus refl refl c rest })
-
 first_guards : (n : ℕ) (scope : Option Names) → Guards n (first_product_at scope) first_pieces Always (Not kind.Star)
 unfolding first_product_at
 first_guards n scope =
     choice_guards first_pieces Always (Not kind.Star) (next_test kind.Minus) (λ c. (true, c)) (λ c. refl) (λ c h. tt) (λ c. (false, c)) (λ c. refl) (λ c h. tt)
-    first_sort (λ rest h. h) (λ rest h. h) (minus_guards n scope) (product_guards n scope)
-
-further_sort : (c : SignedText) → Always c → OfSort (begins_piece kind.Plus) true (λ (p : ProductText). Mark kind.Plus ∷ product_pieces p) Always (Not kind.Star) (further_piece c) ⊎ OfSort (begins_piece kind.Plus) false (λ (p : ProductText). Mark kind.Minus ∷ product_pieces p) Always (Not kind.Star) (further_piece c)
-further_sort (true, c) ok = inr (record { text = c; fine = tt; same = refl; tells = λ rest h. refl })
-further_sort (false, c) ok = inl (record { text = c; fine = tt; same = refl; tells = λ rest h. refl })
+    (first_sort Always) (λ rest h. h) (λ rest h. h) (minus_guards n scope) (product_guards n scope)
 
 further_guards : (n : ℕ) (scope : Option Names) → Guards n (further_product_at scope) further_piece Always (Not kind.Star)
 unfolding further_product_at
 further_guards n scope =
     choice_guards further_piece Always (Not kind.Star) (next_test kind.Plus) (λ c. (false, c)) (λ c. refl) (λ c h. tt) (λ c. (true, c)) (λ c. refl) (λ c h. tt)
-    further_sort (λ rest h. h) (λ rest h. h) (after_guards kind.Plus (λ u. refl) (product_guards n scope) product_example) (minus_guards n scope)
+    (further_sort Always) (λ rest h. h) (λ rest h. h) (after_guards kind.Plus (λ u. refl) (product_guards n scope) product_example) (minus_guards n scope)
 
 -- a test of two kinds
-pub either_test : {goes more : WordsAhead → Bool} {begins goes_on : List Piece → Bool} → IsTest goes begins → IsTest more goes_on → IsTest (λ at. goes at || more at) (λ ps. begins ps || goes_on ps)
-either_test {goes = goes} {more = more} {begins = begins} {goes_on = goes_on} a b = record {
-  is = λ at. ap (λ (t : Bool). t || more at) (a.is at) ∙ ap (λ (t : Bool). begins (pieces at.words) || t) (b.is at);
-  same = λ ps qs h. ap (λ (t : Bool). t || goes_on ps) (a.same ps qs h) ∙ ap (λ (t : Bool). begins qs || t) (b.same ps qs h);
-}
-
 pub all_always : {C : Type 0} (cs : List C) → AllByRecursion (λ (c : C). Unit {0}) cs
 all_always [] = tt
 all_always (c ∷ cs) = (tt, all_always cs)
@@ -212,16 +194,18 @@ sum_guards n scope =
     guards_as sum_pieces Always sum_of parts_of (λ s. refl)
     (λ c. append_assoc (minus_pieces c.0.0) (product_pieces c.0.1) (flat_map further_piece c.1) ∙ ap (λ (ps : List Piece). minus_pieces c.0.0 ++ (product_pieces c.0.1 ++ ps)) (further_is c.1))
     (λ c h. tt) (λ s h. (tt, all_always s.further))
-    (both_guards make_sum (first_guards n scope) (while_guards (either_test (next_test kind.Plus) (next_test kind.Minus)) further_goes_on (further_guards n scope)) (record { text = []; fine = tt; words = []; spelled = refl }) (λ ds rest stop. further_joins ds rest stop))
+    (both_guards make_sum (first_guards n scope) (while_guards (either_test (next_test kind.Plus) (next_test kind.Minus)) further_goes_on (further_guards n scope)) (example_of [] tt refl) (λ ds rest stop. further_joins ds rest stop))
+
+abbrev pub sum_text : SumText
+sum_text = record { negative = false; first = number []; further = [] }
 
 pub sum_example : Example sum_pieces Always
-unfolding number_example
-sum_example = record { text = record { negative = false; first = number []; further = [] }; fine = tt; words = number_example.words; spelled = number_example.spelled }
+sum_example = example_of sum_text tt refl
 
 -- ---- relations
 
 sign_example : (of : TokenKind → Option Sign) → SignIn of sign.Less → Example sign_piece (SignIn of)
-sign_example of less = record { text = sign.Less; fine = less; words = word_of kind.Less ∷ []; spelled = refl }
+sign_example of less = example_of sign.Less less refl
 
 sign_stuck : (of : TokenKind → Option Sign) → AreSigns of → SignIn of sign.Less → (ws : List Word) (end : Place)
     → Keeps (sign_from of ws end) (λ y. Went sign_piece (SignIn of) Always (record { words = ws; end = end }) y.1) (Stood sign_piece (SignIn of) Always (record { words = ws; end = end }))
@@ -265,13 +249,11 @@ relation_guards n scope of are less =
     (guards_same _ (relation_is of scope n)
     (both_guards (of_pair of_parts) (sum_guards n scope)
     (both_guards pair_up (sign_guards n of are less) (sum_guards n scope) sum_example (λ d rest h. tt))
-    (record { text = (sign.Less, sum_example.text); fine = (less, tt); words = word_of kind.Less ∷ sum_example.words; spelled = ap (λ (ps : List Piece). Mark kind.Less ∷ ps) sum_example.spelled })
+    (example_of (sign.Less, sum_text) (less, tt) refl)
     (λ d rest h. sign_ends d.0 (sum_pieces d.1 ++ rest))))
 
+abbrev pub relation_text : RelationText
+relation_text = record { left = sum_text; sign = sign.Less; right = sum_text }
+
 pub relation_example : (of : TokenKind → Option Sign) → SignIn of sign.Less → Example relation_pieces (λ r. SignIn of r.sign)
-relation_example of less = record {
-  text = record { left = sum_example.text; sign = sign.Less; right = sum_example.text };
-  fine = less;
-  words = sum_example.words ++ (word_of kind.Less ∷ sum_example.words);
-  spelled = pieces_are sum_example.words _ (sum_pieces sum_example.text) (Mark kind.Less ∷ sum_pieces sum_example.text) sum_example.spelled (ap (λ (ps : List Piece). Mark kind.Less ∷ ps) sum_example.spelled);
-}
+relation_example of less = example_of relation_text less refl

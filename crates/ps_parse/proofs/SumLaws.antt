@@ -1,5 +1,5 @@
 -- The laws of sums and relations.
-use Rattle.std.proofs.Common.{◌≡◌, ℕ, ℤ, pos, Bool, true, false, ◌||◌, List, [], ◌∷◌, ◌++◌, map, Option, Some, None, refl, sym, ap, subst, ◌∙◌, arith, append_assoc}
+use Rattle.std.proofs.Common.{◌≡◌, ℕ, ℤ, pos, Bool, true, false, ◌||◌, ◌⊎◌, inl, inr, List, [], ◌∷◌, ◌++◌, map, Option, Some, None, refl, sym, ap, subst, ◌∙◌, arith, append_assoc}
 use Rattle.std.specs.List.{flat_map, All, AllByRecursion}
 use Rattle.std.proofs.lemmas.List.Elements.{All-from_recursion, recursion_from_All}
 use Rattle.ps_token.specs.declared.place.Place.{Place}
@@ -16,8 +16,8 @@ use Rattle.ps_parse.specs.Inner.Sums.{factor_at, number_product_at, name_product
 use Rattle.ps_grammar.specs.Spelling.{Piece, NamePiece, NumberPiece, Mark, product_pieces, minus_pieces, plus_or_minus, further_pieces, sum_pieces}
 use Rattle.ps_grammar.specs.Trees.{variable_named, product_tree, sum_tree}
 use Rattle.ps_grammar.specs.Fits.{ProductFits, SumTextFits}
-use Rattle.ps_parse.proofs.Steps.{places, Takes, takes_then, takes_so, Ahead, begins_piece, next_ahead, Not, Always, Finds, Gets, found_bind, found_end, found_if, found_more, gets_bind, gets_end, gets_true, gets_false, Spelled, Exact}
-use Rattle.ps_parse.proofs.Sequences.{word_exact, exact_as, mapped, mapped_exact, after_exact, both_exact, ListSays, GoesOn, Ends, while_exact}
+use Rattle.ps_parse.proofs.Steps.{places, Takes, takes_then, takes_so, Ahead, begins_piece, next_ahead, Not, Always, Finds, Gets, found_bind, found_end, found_if, found_more, gets_bind, gets_end, gets_true, gets_false, Spelled, Exact, next_test}
+use Rattle.ps_parse.proofs.Sequences.{word_exact, exact_as, OfSort, choice_exact, mapped, mapped_exact, after_exact, both_exact, ListSays, GoesOn, Ends, while_exact}
 use Rattle.ps_parse.proofs.Scopes.{FitsIn, Says, fits_both, fits_first, fits_second, fits_as, fits_all, fits_each, says_const, says_of, says_two, KnownIn, variable_exact}
 
 -- ---- products
@@ -157,29 +157,25 @@ further_piece c = Mark (plus_or_minus c.0) ∷ product_pieces c.1
 after_minus : (n : ℕ) (scope : Option Names) → Exact n (mapped (signed true) (after_word kind.Minus (product_at scope))) (λ c. Mark kind.Minus ∷ product_pieces c) (ProductIn scope) (λ c. SignedSays scope (true, c)) (Not kind.Star)
 after_minus n scope = mapped_exact _ (signed true) (λ c ps y. says_of scope (signed true) (λ names. product_tree names c) y) (after_exact kind.Minus (λ t. refl) (product_exact n scope))
 
-first_found : (n : ℕ) (scope : Option Names) (at : WordsAhead) → Finds (first_product_at scope at) (Spelled first_pieces (SignedIn scope) (SignedSays scope) at)
+pub first_sort : (P : SignedText → Type 0) (c : SignedText) → P c → OfSort (begins_piece kind.Minus) true first_pieces (Not kind.Star) (λ p. (true, p)) (λ p. P (true, p)) c ⊎ OfSort (begins_piece kind.Minus) false first_pieces (Not kind.Star) (λ p. (false, p)) (λ p. P (false, p)) c
+first_sort P (true, c) ok = inl (record { text = c; same = refl; fit = ok; tells = λ rest h. refl })
+first_sort P (false, c) ok = inr (record { text = c; same = refl; fit = ok; tells = λ rest h. product_begins kind.Minus refl refl c rest })
+
+first_exact : (n : ℕ) (scope : Option Names) → Exact n (first_product_at scope) first_pieces (SignedIn scope) (SignedSays scope) (Not kind.Star)
 unfolding first_product_at
-first_found n scope at =
-    found_if (next_is kind.Minus at) _ _ _
-    (found_more _ _ _ ((after_minus n scope).found at) (λ y p. record { text = (true, p.text); taken = p.taken; fit = p.fit; is = p.is }))
-    (found_more _ _ _ ((product_exact n scope).found at) (λ y p. record { text = (false, p.text); taken = p.taken; fit = p.fit; is = p.is }))
+first_exact n scope =
+    choice_exact first_pieces (SignedIn scope) (SignedSays scope) (Not kind.Star) (next_test kind.Minus) (λ p. (true, p)) (λ p. refl) (λ p h. h) (λ p ps y h. h) (λ p. (false, p)) (λ p. refl) (λ p h. h) (λ p ps y h. h)
+    (first_sort (SignedIn scope)) (λ rest h. h) (λ rest h. h) (after_minus n scope) (product_exact n scope)
 
-first_again : (n : ℕ) (scope : Option Names) (at : WordsAhead) (c : SignedText) (rest : List Piece) → SignedIn scope c → Ahead n at (first_pieces c ++ rest) → Not kind.Star rest → Gets (first_product_at scope at) (λ y. SignedSays scope c (places at.words) y.0 × Ahead n y.1 rest)
-unfolding first_product_at
-first_again n scope at (true, c) rest fit h stop = gets_true (next_is kind.Minus at) _ _ _ (next_ahead kind.Minus h) ((after_minus n scope).again at c rest fit h stop)
-first_again n scope at (false, c) rest fit h stop = gets_false (next_is kind.Minus at) _ _ _ (next_ahead kind.Minus h ∙ product_begins kind.Minus refl refl c rest) ((product_exact n scope).again at c rest fit h stop)
+pub further_sort : (P : SignedText → Type 0) (c : SignedText) → P c → OfSort (begins_piece kind.Plus) true further_piece (Not kind.Star) (λ p. (false, p)) (λ p. P (false, p)) c ⊎ OfSort (begins_piece kind.Plus) false further_piece (Not kind.Star) (λ p. (true, p)) (λ p. P (true, p)) c
+further_sort P (true, c) ok = inr (record { text = c; same = refl; fit = ok; tells = λ rest h. refl })
+further_sort P (false, c) ok = inl (record { text = c; same = refl; fit = ok; tells = λ rest h. refl })
 
-further_found : (n : ℕ) (scope : Option Names) (at : WordsAhead) → Finds (further_product_at scope at) (Spelled further_piece (SignedIn scope) (SignedSays scope) at)
+further_exact : (n : ℕ) (scope : Option Names) → Exact n (further_product_at scope) further_piece (SignedIn scope) (SignedSays scope) (Not kind.Star)
 unfolding further_product_at
-further_found n scope at =
-    found_if (next_is kind.Plus at) _ _ _
-    (found_more _ _ _ ((after_exact kind.Plus (λ t. refl) (product_exact n scope)).found at) (λ y p. record { text = (false, p.text); taken = p.taken; fit = p.fit; is = p.is }))
-    (found_more _ _ _ ((after_minus n scope).found at) (λ y p. record { text = (true, p.text); taken = p.taken; fit = p.fit; is = p.is }))
-
-further_again : (n : ℕ) (scope : Option Names) (at : WordsAhead) (c : SignedText) (rest : List Piece) → SignedIn scope c → Ahead n at (further_piece c ++ rest) → Not kind.Star rest → Gets (further_product_at scope at) (λ y. SignedSays scope c (places at.words) y.0 × Ahead n y.1 rest)
-unfolding further_product_at
-further_again n scope at (true, c) rest fit h stop = gets_false (next_is kind.Plus at) _ _ _ (next_ahead kind.Plus h) ((after_minus n scope).again at c rest fit h stop)
-further_again n scope at (false, c) rest fit h stop = gets_true (next_is kind.Plus at) _ _ _ (next_ahead kind.Plus h) ((after_exact kind.Plus (λ t. refl) (product_exact n scope)).again at c rest fit h stop)
+further_exact n scope =
+    choice_exact further_piece (SignedIn scope) (SignedSays scope) (Not kind.Star) (next_test kind.Plus) (λ p. (false, p)) (λ p. refl) (λ p h. h) (λ p ps y h. h) (λ p. (true, p)) (λ p. refl) (λ p h. h) (λ p ps y h. h)
+    (further_sort (SignedIn scope)) (λ rest h. h) (λ rest h. h) (after_exact kind.Plus (λ t. refl) (product_exact n scope)) (after_minus n scope)
 
 abbrev pub begins_adding : List Piece → Bool
 begins_adding ps = begins_piece kind.Plus ps || begins_piece kind.Minus ps
@@ -262,4 +258,4 @@ sum_exact n scope =
     (sum_unfit scope)
     (λ c ps y h. subst (λ (z : Sum). SumSays scope (sum_of c) ps z) (sym h.is)
     (says_two scope make_sum (λ names. signed c.0.0 (product_tree names c.0.1)) (λ names. further_trees names c.1) h.first h.second h.said_first (further_said scope c.1 _ h.second h.said_second)))
-    (both_exact make_sum (record { found = first_found n scope; again = first_again n scope }) (while_exact adds begins_adding further_goes_on (record { found = further_found n scope; again = further_again n scope })) (λ ds rest fit stop. further_joins ds rest stop))
+    (both_exact make_sum (first_exact n scope) (while_exact adds begins_adding further_goes_on (further_exact n scope)) (λ ds rest fit stop. further_joins ds rest stop))
