@@ -1,5 +1,5 @@
 -- The letters of a trace, cut: which cuts are met.
-use Rattle.std.proofs.Common.{◌≡◌, refl, sym, ap, ◌∙◌, subst, ℕ, suc, ◌+◌, ◌<◌, ◌≤◌, ◌^◌, ℤ, pos, ◌≤ℤ◌, List, [], ◌∷◌, length, map, inl, inr, ◌⊎◌, All, arith}
+use Rattle.std.proofs.Common.{◌≡◌, refl, sym, ap, ◌∙◌, subst, ℕ, ◌+◌, ◌<◌, ◌≤◌, ◌^◌, List, [], ◌∷◌, length, map, inl, inr, ◌⊎◌, All, arith}
 use Rattle.std.proofs.lemmas.Bool.{cases_lt}
 use Rattle.std.proofs.lemmas.Int.{ints}
 use Rattle.std.proofs.lemmas.List.{length-map}
@@ -12,7 +12,6 @@ use Rattle.ps_interp.specs.declared.weights.WeighedLetter.{WeighedLetter}
 use Rattle.ps_interp.specs.inner.Meetings.{AreCuts, letters_in}
 use Rattle.ps_interp.specs.inner.Parts.{IsWeighedIn, cut_sums, letters_by, part_in, part_of, sum_in, weighed_by}
 use Rattle.ps_soundness.specs.Traces.{trace_of}
-use Rattle.ps_term.specs.Exact.{number_term}
 use Rattle.ps_term.specs.declared.term.Term.{Term}
 use Rattle.ps_trace.specs.Traces.{letter_pair, pairs_in}
 use Rattle.ps_trace.specs.declared.trace.Letter.{Letter}

@@ -1,5 +1,5 @@
 -- What is found for the letters of a refuted trace is an interpolation of it, or ends the call.
-use Rattle.std.proofs.Common.{◌≡◌, ◌≢◌, refl, sym, ap, ap₂, ◌∙◌, subst, ℕ, zero, suc, ◌+◌, ◌-◌, ◌<◌, ◌≤◌, List, [], ◌∷◌, ◌++◌, length, length-drop, map, drop, inl, inr, ◌⊎◌, All, arith}
+use Rattle.std.proofs.Common.{◌≡◌, ◌≢◌, refl, sym, ap, ap₂, ◌∙◌, subst, ℕ, ◌+◌, ◌-◌, ◌<◌, ◌≤◌, List, [], ◌∷◌, ◌++◌, length, length-drop, map, drop, inl, All, arith}
 use Rattle.std.specs.Prelude.{slice_get, Option, Some, None}
 use Rattle.std.specs.List.{AllByRecursion, flat_map}
 use Rattle.std.proofs.lemmas.List.Elements.{recursion_from_All}
@@ -15,7 +15,7 @@ use Rattle.ps_interp.specs.Firsts.{AreFirst}
 use Rattle.ps_interp.specs.Interpolants.{Interpolant}
 use Rattle.ps_interp.specs.Made.{IsInterpolation, false_triples, letters_of}
 use Rattle.ps_interp.specs.Sums.{SumFits, Weighed, row_total, weighed}
-use Rattle.ps_interp.specs.Weights.{OthersFit, initial_weights, letter_weights, once_weights, thread_weights, weights_by_thread, weights_of, weights_of_others, zeros}
+use Rattle.ps_interp.specs.Weights.{OthersFit, letter_weights, thread_weights, weights_by_thread, weights_of, weights_of_others, zeros}
 use Rattle.ps_interp.specs.declared.cuts.Cuts.{Cuts}
 use Rattle.ps_interp.specs.declared.interp_end.InterpEnd.{InterpEnd}
 use Rattle.ps_interp.specs.declared.interp_end.InterpEnd.TheVariants.{Arity, Predicates, Past128, Memory}

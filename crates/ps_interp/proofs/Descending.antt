@@ -1,5 +1,5 @@
 -- The cuts of a trace are met in descending order.
-use Rattle.std.proofs.Common.{◌≡◌, refl, sym, ap, ◌∙◌, subst, ℕ, zero, suc, ◌+◌, ◌-◌, ◌<◌, ◌≤◌, List, [], ◌∷◌, ◌++◌, append_assoc, get_or, length, map, pos, reverse, inl, inr, ◌⊎◌, All, arith}
+use Rattle.std.proofs.Common.{◌≡◌, refl, sym, ap, ◌∙◌, subst, ℕ, zero, suc, ◌+◌, ◌-◌, ◌<◌, ◌≤◌, List, [], ◌∷◌, ◌++◌, append_assoc, get_or, length, map, pos, reverse, inl, inr, All, arith}
 use Rattle.std.specs.Prelude.{slice_get, Option, Some, None}
 use Rattle.std.specs.List.{AllZip, filter_map, range_with_len}
 use mathlib.Core.List.{reverse-cons}
@@ -14,8 +14,8 @@ use Rattle.ps_interp.specs.Cuts.{IsFalseSum, cuts_down, sum_at}
 use Rattle.ps_interp.specs.Entries.{triple_of}
 use Rattle.ps_interp.specs.Firsts.{AreFirst}
 use Rattle.ps_interp.specs.Interpolants.{Interpolant, IsPredicateAt, StandsAt, false_interpolant}
-use Rattle.ps_interp.specs.Made.{AreMade, InterpolantFits, IsTripleAt}
-use Rattle.ps_interp.specs.Sums.{Weighed, first_sum, weigh}
+use Rattle.ps_interp.specs.Made.{InterpolantFits, IsTripleAt}
+use Rattle.ps_interp.specs.Sums.{Weighed, weigh}
 use Rattle.ps_interp.specs.declared.cuts.Cuts.{Cuts}
 use Rattle.ps_interp.specs.declared.interp_end.InterpEnd.{InterpEnd}
 use Rattle.ps_interp.specs.declared.interp_end.InterpEnd.TheVariants.{Arity, Predicates, Past128, Memory}

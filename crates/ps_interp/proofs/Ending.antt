@@ -1,5 +1,5 @@
 -- From what is found at the cuts of a trace to what is said of the call.
-use Rattle.std.proofs.Common.{◌≡◌, ◌≢◌, refl, sym, ap, ap₂, ◌∙◌, subst, ℕ, zero, suc, ◌+◌, ◌-◌, ◌<◌, ◌≤◌, pos, List, [], ◌∷◌, ◌++◌, append_assoc, length, map, take, drop, reverse, inl, inr, ◌⊎◌, All, arith}
+use Rattle.std.proofs.Common.{◌≡◌, refl, sym, ap, ◌∙◌, subst, ℕ, ◌+◌, ◌<◌, ◌≤◌, List, [], ◌∷◌, ◌++◌, append_assoc, length, map, drop, reverse, inl, inr, ◌⊎◌, All, arith}
 use Rattle.std.specs.Prelude.{slice_get, Option, Some, None}
 use Rattle.std.specs.List.{AllByRecursion, drop-map, filter_map}
 use mathlib.Core.List.{reverse-cons}
@@ -9,19 +9,19 @@ use Rattle.ps_atom.specs.declared.predicate.Predicate.{Predicate}
 use Rattle.ps_command.specs.declared.setting.Setting.{Setting}
 use Rattle.ps_farkas.specs.Refutes.{Refutes}
 use Rattle.ps_graph.specs.declared.graph.Graph.{Graph}
-use Rattle.ps_interp.specs.Cuts.{AreBounds, IsTrivialSum, sum_at}
+use Rattle.ps_interp.specs.Cuts.{AreBounds, sum_at}
 use Rattle.ps_interp.specs.Ends.{EndsInterpolation, IsMetDownTo, IsOneTooMany, IsPastAtCut, IsTooWide}
-use Rattle.ps_interp.specs.Entries.{false_triple, initial_of, triple_of}
+use Rattle.ps_interp.specs.Entries.{false_triple, initial_of}
 use Rattle.ps_interp.specs.Firsts.{AreFirst}
 use Rattle.ps_interp.specs.Interpolants.{Interpolant, IsPredicateAt, StandsAt}
-use Rattle.ps_interp.specs.Made.{InterpolantFits, IsInitialOf, IsInterpolation, IsTripleAt, false_triples, letters_of}
+use Rattle.ps_interp.specs.Made.{InterpolantFits, IsTripleAt, false_triples, letters_of}
 use Rattle.ps_interp.specs.Sums.{SumFits, Weighed, row_count, weighed}
 use Rattle.ps_interp.specs.Weights.{OthersFit, letter_weights}
 use Rattle.ps_interp.specs.declared.interp_end.InterpEnd.{InterpEnd}
 use Rattle.ps_interp.specs.declared.interp_end.InterpEnd.TheVariants.{Arity, Predicates, Past128, Memory}
 use Rattle.ps_interp.specs.declared.meeting.Found.{Found}
 use Rattle.ps_interp.specs.declared.weights.WeighedLetter.{WeighedLetter}
-use Rattle.ps_interp.specs.inner.Meetings.{AreMet, EndsAtCut, EndsMeeting, EndsMeetings, EndsTaking, IsFound, IsListed, IsUnheld}
+use Rattle.ps_interp.specs.inner.Meetings.{AreMet, EndsAtCut, EndsMeeting, EndsMeetings, IsFound, IsListed}
 use Rattle.ps_interp.specs.inner.Parts.{Part, part_in, part_of}
 use Rattle.ps_soundness.specs.Traces.{trace_of}
 use Rattle.ps_trace.specs.Rows.{rows_of}

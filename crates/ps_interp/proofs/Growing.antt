@@ -1,5 +1,5 @@
 -- What is said over a list of predicates is said over a longer one.
-use Rattle.std.proofs.Common.{◌≡◌, refl, sym, ap, ap₂, ◌∙◌, subst, ℕ, zero, suc, ◌+◌, ◌<◌, List, [], ◌∷◌, ◌++◌, length, length-append, map, inl, inr, ◌⊎◌, All, arith}
+use Rattle.std.proofs.Common.{◌≡◌, refl, sym, ap, ap₂, ◌∙◌, subst, ℕ, zero, suc, ◌+◌, ◌<◌, List, [], ◌∷◌, ◌++◌, length, length-append, map, inl, inr, arith}
 use Rattle.std.specs.Prelude.{slice_get, slice_index_or, Option, Some, None}
 use Rattle.std.specs.List.{AllByRecursion}
 use Rattle.std.proofs.lemmas.List.Elements.{All-from_recursion, recursion_from_All}
@@ -23,7 +23,6 @@ use Rattle.ps_triple.specs.Rows.{atom_row, form_in, initial_rows, negated, predi
 use Rattle.ps_triple.specs.Tests.{IsAtomOf, IsThere, NamesThings}
 use Rattle.ps_triple.specs.declared.entry.Entry.{Entry}
 use Rattle.ps_triple.specs.declared.entry.Entry.TheVariants.{Triple as OfTriple, Initial as OfInitial}
-use Rattle.ps_triple.specs.declared.triple.Triple.{Triple}
 
 got_longer : {X : Type 0} (xs ys : List X) (k : ℕ) → k < length xs → slice_get (xs ++ ys) k ≡ slice_get xs k
 got_longer [] ys k h = let no : ⊥ = omega (arith, h) in absurd no

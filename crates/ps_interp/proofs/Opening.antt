@@ -1,11 +1,11 @@
 -- The multipliers of the rows at the start of a trace.
-use Rattle.std.proofs.Common.{◌≡◌, ◌≢◌, Bool, true, false, ◌==◌, refl, sym, ap, ap₂, ◌∙◌, subst, ℕ, zero, suc, ◌+◌, ◌-◌, ◌<◌, ◌≤◌, ◌^◌, List, [], ◌∷◌, ◌++◌, append_assoc, eq-eqb, lit<, length, length-append, length-drop, length-take-le, map, take, drop, get_or, All, Result, Ok, Err, if◌then◌else◌, arith}
+use Rattle.std.proofs.Common.{◌≡◌, Bool, true, false, ◌==◌, refl, sym, ap, ap₂, ◌∙◌, subst, ℕ, zero, suc, ◌+◌, ◌-◌, ◌<◌, ◌≤◌, ◌^◌, List, [], ◌∷◌, ◌++◌, append_assoc, eq-eqb, lit<, length, length-append, length-drop, length-take-le, map, take, drop, get_or, All, Result, Ok, Err, if◌then◌else◌, arith}
 use Rattle.std.specs.Prelude.{OnOk, is_ok}
-use Rattle.std.specs.List.{AllByRecursion, flat_map, list_any}
+use Rattle.std.specs.List.{AllByRecursion, list_any}
 use Rattle.std.proofs.lemmas.List.{append-nil, drop-drop, drop_all, length-map}
 use Rattle.std.proofs.lemmas.List.Elements.{All-push, All-from_recursion, recursion_from_All}
 use Rattle.ps_command.specs.declared.setting.Setting.{Setting}
-use Rattle.ps_interp.specs.Weights.{added, once_weights, thread_weights, weights_by_thread, weights_of, weights_of_others, zeros}
+use Rattle.ps_interp.specs.Weights.{added, weights_by_thread, weights_of, weights_of_others, zeros}
 use Rattle.ps_interp.specs.declared.start.ThreadWeights.{ThreadWeights}
 use Rattle.ps_interp.specs.inner.Starts.{HaveWeights, IsSmall, all_weights, weights_in}
 use Rattle.ps_term.specs.declared.row.Row.{Row}

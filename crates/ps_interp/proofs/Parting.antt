@@ -1,11 +1,10 @@
 -- The letters of a trace with the multipliers of their rows, and the sums that they give.
-use Rattle.std.proofs.Common.{◌≡◌, refl, sym, ap, ap₂, ◌∙◌, subst, ℕ, zero, suc, ◌+◌, ◌-◌, ◌<◌, ◌≤◌, pos, List, [], ◌∷◌, ◌++◌, append_assoc, length, length-append, length-drop, map, take, drop, reverse, get_or, All, Result, Ok, Err, add-one, arith}
-use Rattle.std.specs.Prelude.{IfOk, OnOk, slice_get, slice_index_or, Some}
+use Rattle.std.proofs.Common.{◌≡◌, refl, sym, ap, ap₂, ◌∙◌, subst, ℕ, zero, suc, ◌+◌, ◌-◌, ◌<◌, ◌≤◌, pos, List, [], ◌∷◌, ◌++◌, append_assoc, length, length-append, map, take, drop, reverse, get_or, All, Result, Ok, Err, arith}
+use Rattle.std.specs.Prelude.{IfOk, OnOk, slice_index_or}
 use Rattle.std.specs.List.{AllByRecursion}
 use mathlib.Core.List.{reverse-cons}
 use Rattle.std.proofs.lemmas.List.{append-nil, drop-drop, drop_all, reverse-reverse}
 use Rattle.std.proofs.lemmas.List.Elements.{All-from_recursion, All-push, recursion_from_All}
-use Rattle.std.proofs.lemmas.Option.{same_Some}
 use Rattle.ps_command.specs.declared.setting.Setting.{Setting}
 use Rattle.ps_command.specs.declared.symbolic_form.SymbolicForm.{SymbolicForm}
 use Rattle.ps_graph.specs.declared.edge.Edge.{Edge}

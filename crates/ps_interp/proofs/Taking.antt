@@ -1,11 +1,9 @@
 -- What stands at a cut, and the table that takes its predicate.
-use Rattle.std.proofs.Common.{◌≡◌, ◌≢◌, refl, sym, ap, ◌∙◌, subst, ℕ, zero, suc, ◌*◌, ◌/◌, ◌<◌, ◌≤◌, ℤ, pos, negsuc, ◌-ℤ◌, ◌*ℤ◌, ◌≤ℤ◌, List, [], ◌∷◌, ◌++◌, length, get_or, inl, inr, ◌⊎◌, Contains, unsigned_abs, arith}
-use Rattle.std.specs.Prelude.{slice_get, Option, Some, None, option_map}
-use Rattle.std.specs.List.{filter_map}
+use Rattle.std.proofs.Common.{◌≡◌, ◌≢◌, refl, sym, ap, ◌∙◌, subst, ℕ, zero, suc, ◌*◌, ◌/◌, ◌<◌, ℤ, pos, negsuc, ◌-ℤ◌, ◌*ℤ◌, ◌≤ℤ◌, List, [], ◌∷◌, ◌++◌, length, get_or, inl, inr, unsigned_abs, arith}
+use Rattle.std.specs.Prelude.{Some, None}
 use Rattle.std.proofs.Math.Nat.{mul-div_cancel}
 use Rattle.std.proofs.lemmas.Int.{ints, unsigned_abs-mul}
 use Rattle.std.proofs.lemmas.List.{append-nil}
-use Rattle.ps_atom.specs.Numbers.{IsNumberOf}
 use Rattle.ps_atom.specs.Places.{HasForm, IsArityOf, IsEndOf, IsPlaceOf}
 use Rattle.ps_atom.specs.declared.atom.Atom.{Atom}
 use Rattle.ps_atom.specs.declared.place.Place128.TheVariants.{Known, New}
@@ -14,8 +12,7 @@ use Rattle.ps_atom.specs.declared.place.PlaceEnd.TheVariants.{Arity, Full, Memor
 use Rattle.ps_atom.specs.declared.predicate.Predicate.{Predicate}
 use Rattle.ps_atom.proofs.Own.{number_pushed}
 use Rattle.ps_interp.specs.Cuts.{IsFalseSum, IsTrivialSum}
-use Rattle.ps_interp.specs.Firsts.{AreFirst}
-use Rattle.ps_interp.specs.Interpolants.{HasDivisor, Interpolant, StandsAt, interpolant_row}
+use Rattle.ps_interp.specs.Interpolants.{HasDivisor, StandsAt, interpolant_row}
 use Rattle.ps_interp.specs.Made.{InterpolantFits}
 use Rattle.ps_interp.specs.inner.Meetings.{EndsTaking, IsTaken}
 use Rattle.ps_interp.specs.inner.Places.{IsTakenIn, end_at}

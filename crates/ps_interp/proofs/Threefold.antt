@@ -1,19 +1,16 @@
 -- The triples of letters, and the list that they are put into.
-use Rattle.std.proofs.Common.{◌≡◌, true, IsTrue, refl, sym, ap, ap₂, ◌∙◌, subst, ℕ, ◌+◌, List, [], ◌∷◌, ◌++◌, inl, inr, ◌⊎◌, Contains, map}
+use Rattle.std.proofs.Common.{◌≡◌, true, refl, sym, ap, ◌∙◌, ℕ, List, [], ◌∷◌, ◌++◌, inl, inr, Contains}
 use Rattle.std.specs.Prelude.{Option, Some, None}
 use Rattle.std.proofs.lemmas.List.{append-nil}
 use Rattle.ps_atom.specs.declared.atom.Atom.{Atom}
 use Rattle.ps_interp.specs.Entries.{numbered_threads, triple_of, with_numbers}
 use Rattle.ps_interp.specs.Interpolants.{Interpolant}
 use Rattle.ps_interp.specs.Sums.{Weighed}
-use Rattle.ps_interp.specs.Weights.{zeros}
 use Rattle.ps_interp.specs.declared.weights.WeighedLetter.{WeighedLetter}
 use Rattle.ps_interp.specs.inner.Meetings.{IsListed}
 use Rattle.ps_interp.specs.inner.Parts.{Part, part_in, part_of}
 use Rattle.ps_interp.specs.inner.Triples.{atoms_by, multipliers_by}
-use Rattle.ps_term.specs.declared.row.Row.{Row}
 use Rattle.ps_triple.specs.Ascending.{ascend}
-use Rattle.ps_triple.specs.Entries.{false_atom}
 use Rattle.ps_triple.specs.declared.entry.Entry.{Entry}
 use Rattle.ps_triple.specs.declared.entry.Entry.TheVariants.{Triple as OfTriple}
 use Rattle.ps_triple.specs.declared.triple.Triple.{Triple}

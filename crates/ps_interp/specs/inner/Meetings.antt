@@ -2,7 +2,6 @@
 use Rattle.std.specs.Prelude.{◌≡◌, ℕ, ◌+◌, ◌<◌, ◌≤◌, ◌⊎◌, ◌^◌, List, [], ◌∷◌, ◌++◌, All, Option, Some, drop, length, map, reverse, slice_get, option_map}
 use Rattle.std.specs.List.{filter_map}
 use Rattle.ps_atom.specs.Places.{IsArityOf, IsEndOf}
-use Rattle.ps_atom.specs.declared.atom.Atom.{Atom}
 use Rattle.ps_atom.specs.declared.place.PlaceEnd.TheVariants.{Full}
 use Rattle.ps_atom.specs.declared.predicate.Predicate.{Predicate}
 use Rattle.ps_command.specs.declared.setting.Setting.{Setting}

@@ -1,6 +1,6 @@
 -- Where the row of an interpolant stands in a table that takes its predicate.
-use Rattle.std.specs.Prelude.{◌≡◌, ◌≢◌, ℕ, ◌++◌, ◌∷◌, [], List, Contains, Option, Some, None}
-use Rattle.ps_atom.specs.Places.{HasForm, IsArityOf, IsEndOf, IsPlaceOf}
+use Rattle.std.specs.Prelude.{◌≡◌, ℕ, ◌++◌, ◌∷◌, [], List, Option, Some, None}
+use Rattle.ps_atom.specs.Places.{HasForm, IsEndOf, IsPlaceOf}
 use Rattle.ps_atom.specs.declared.atom.Atom.{Atom}
 use Rattle.ps_atom.specs.declared.place.Place128.TheVariants.{Known}
 use Rattle.ps_atom.specs.declared.place.PlaceEnd.{PlaceEnd}

@@ -1,5 +1,5 @@
-use Rattle.std.proofs.Common.{◌≡◌, ◌∙◌, ◌-◌, ◌<◌, length, pos, arith}
-use Rattle.ps_interp.specs.inner.Parts.{Part, part_of, sum_in}
+use Rattle.std.proofs.Common.{◌∙◌, ◌-◌, ◌<◌, length, pos, arith}
+use Rattle.ps_interp.specs.inner.Parts.{part_of, sum_in}
 use Rattle.ps_term.specs.Exact.{number_term}
 use Rattle.ps_triple.proofs.Membership.{any_default}
 use Rattle.ps_interp.proofs.Parting.{next_fits, next_past, next_told}

@@ -1,4 +1,4 @@
-use Rattle.std.proofs.Common.{◌≡◌, ◌-◌, ◌<◌, ◌≤◌, ◌∙◌, sym, ap, subst, [], ◌∷◌, length, drop, get_or, List, All, pos, arith}
+use Rattle.std.proofs.Common.{◌≡◌, ◌-◌, ◌<◌, sym, subst, [], length, drop, get_or, List, arith}
 use Rattle.ps_interp.specs.Sums.{SumFits}
 use Rattle.ps_interp.specs.declared.weights.WeighedLetter.{WeighedLetter}
 use Rattle.ps_interp.specs.inner.Parts.{letters_by, sum_in, weighed_before, part_of}

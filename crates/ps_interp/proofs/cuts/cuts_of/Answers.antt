@@ -1,5 +1,4 @@
-use Rattle.std.proofs.Common.{◌≡◌, ◌<◌, ◌≤◌, ℕ, refl, subst, sym, ◌∙◌, List, All, length, pos, inl, inr, ◌⊎◌}
-use Rattle.ps_command.specs.declared.setting.Setting.{Setting}
+use Rattle.std.proofs.Common.{◌≡◌, ◌<◌, ◌≤◌, ℕ, refl, subst, List, All, length, ◌⊎◌}
 use Rattle.ps_interp.specs.Cuts.{IsFalseSum, IsTrivialSum}
 use Rattle.ps_interp.specs.Sums.{SumFits, Weighed}
 use Rattle.ps_interp.specs.declared.weights.WeighedLetter.{WeighedLetter}

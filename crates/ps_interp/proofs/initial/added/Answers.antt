@@ -1,4 +1,4 @@
-use Rattle.std.proofs.Common.{◌≡◌, List, ℕ, All, subst}
+use Rattle.std.proofs.Common.{List, ℕ, All, subst}
 use Rattle.ps_interp.specs.inner.Starts.{IsSmall}
 use Rattle.ps_interp.proofs.Opening.{added_past, added_whole}
 use Rattle.ps_interp.proofs.initial.added.Goals as goal

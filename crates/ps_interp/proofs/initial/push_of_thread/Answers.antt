@@ -1,4 +1,4 @@
-use Rattle.std.proofs.Common.{◌≡◌, ◌++◌, [], List, ℕ, sym, ap, ap₂, ◌∙◌, subst, drop, get_or}
+use Rattle.std.proofs.Common.{◌≡◌, ◌++◌, [], List, ℕ, sym, ap₂, ◌∙◌, subst, get_or}
 use Rattle.std.specs.Prelude.{OnOk}
 use Rattle.ps_interp.specs.Weights.{weights_of, zeros}
 use Rattle.ps_interp.specs.declared.start.ThreadWeights.{ThreadWeights}

@@ -1,5 +1,5 @@
-use Rattle.std.proofs.Common.{◌≡◌, List, subst, sym, ap, ◌∙◌, Result, Err}
-use Rattle.std.specs.Prelude.{Option, Some, None, slice_get}
+use Rattle.std.proofs.Common.{◌≡◌, List, subst, ap, Result, Err}
+use Rattle.std.specs.Prelude.{Option, Some, slice_get}
 use Rattle.ps_atom.specs.Numbers.{false_predicate}
 use Rattle.ps_atom.specs.declared.predicate.Predicate.{Predicate}
 use Rattle.ps_interp.specs.declared.standing.Standing.{Standing}

@@ -1,7 +1,6 @@
-use Rattle.std.proofs.Common.{◌≡◌, ap, ◌∙◌, sym, Decides, ℕ, List}
+use Rattle.std.proofs.Common.{◌≡◌, ap, ◌∙◌, sym, Decides}
 use Rattle.std.proofs.lemmas.Bool.Decides.{Decides-eqb}
 use Rattle.std.proofs.lemmas.Slice.Eq.{slice_eq-Decides}
-use Rattle.ps_atom.specs.declared.atom.Atom.{Atom}
 use Rattle.ps_triple.specs.declared.triple.Triple.{Triple}
 use Rattle.ps_interp.proofs.Threefold.{same_triple}
 use Rattle.ps_interp.proofs.listing.is_same_triple.Goals as goal

@@ -1,4 +1,4 @@
-use Rattle.std.proofs.Common.{◌≡◌, Result, sym, subst, List, Contains}
+use Rattle.std.proofs.Common.{Result, sym, subst, List, Contains}
 use Rattle.std.specs.Prelude.{OnOk}
 use Rattle.std.proofs.lemmas.Bool.{both_ways}
 use Rattle.ps_interp.specs.inner.Meetings.{IsListed}

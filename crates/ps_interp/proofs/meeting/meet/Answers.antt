@@ -1,7 +1,7 @@
-use Rattle.std.proofs.Common.{◌≡◌, ◌+◌, ◌<◌, length, arith, ap, sym, subst, refl, ◌∙◌}
+use Rattle.std.proofs.Common.{◌≡◌, ◌+◌, length, arith, ap, sym, subst, refl, ◌∙◌}
 use Rattle.std.proofs.lemmas.Bool.{both_ways}
-use Rattle.ps_interp.specs.Cuts.{IsFalseSum, sum_at}
-use Rattle.ps_interp.specs.inner.Meetings.{interpolant_in, interpolant_of, letters_in}
+use Rattle.ps_interp.specs.Cuts.{IsFalseSum}
+use Rattle.ps_interp.specs.inner.Meetings.{interpolant_in, interpolant_of}
 use Rattle.ps_interp.specs.inner.Parts.{part_of}
 use Rattle.ps_term.specs.declared.term.Term.{Term}
 use Rattle.ps_interp.proofs.Descending.{ends_from, meet_from, sum_at_is, sums_many_in, unheld_from}

@@ -1,4 +1,4 @@
-use Rattle.std.proofs.Common.{◌≡◌, ◌-◌, ap, refl, sym, subst, ◌∙◌, arith}
+use Rattle.std.proofs.Common.{◌-◌, ap, refl, subst, arith}
 use Rattle.ps_atom.specs.declared.atom.Atom.{Atom}
 use Rattle.ps_interp.specs.Interpolants.{Interpolant}
 use Rattle.std.specs.Prelude.{Option, Some, None}

@@ -1,5 +1,4 @@
-use Rattle.std.proofs.Common.{◌≡◌, refl, subst, sym}
-use Rattle.std.specs.Prelude.{Ok}
+use Rattle.std.proofs.Common.{refl, subst}
 use Rattle.ps_atom.specs.declared.place.Place128.{Place128}
 use Rattle.ps_atom.specs.Places.{IsPlaceOf}
 use Rattle.ps_interp.proofs.Taking.{placed_known, placed_new}

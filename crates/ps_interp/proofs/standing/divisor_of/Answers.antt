@@ -1,9 +1,8 @@
-use Rattle.std.proofs.Common.{◌≡◌, ◌≢◌, ◌*◌, ◌<◌, ℕ, ℤ, pos, [], List, refl, sym, ap, ◌∙◌, subst, get_or, unsigned_abs, FitsSigned, rules, arith}
+use Rattle.std.proofs.Common.{◌≡◌, ◌≢◌, ◌*◌, ℕ, ℤ, pos, sym, ap, ◌∙◌, get_or, unsigned_abs, FitsSigned, rules, arith}
 use Rattle.std.specs.Int.{w128}
 use Rattle.std.proofs.lemmas.Int.{to_z-of_z}
-use Rattle.ps_term.specs.Pairs.{IsCanonical, coefficient}
+use Rattle.ps_term.specs.Pairs.{coefficient}
 use Rattle.ps_term.specs.Tightened.{IsTightened}
-use Rattle.ps_term.specs.declared.row.Row.{Row}
 use Rattle.ps_term.specs.declared.var.Var.{Var}
 use Rattle.ps_term.specs.declared.var.Var.TheVariants.{Global}
 use Rattle.ps_interp.proofs.Taking.{divided_first, quotient}

@@ -1,5 +1,3 @@
-use Rattle.std.proofs.Common.{◌≡◌, Result, Err, ap}
-use Rattle.ps_term.specs.declared.term.TermEnd.TheVariants.{Past128}
 use Rattle.ps_term.proofs.Negations.{TermFits-negation}
 use Rattle.ps_interp.proofs.Parting.{other_end}
 use Rattle.ps_interp.proofs.standing.interpolant_row.Goals as goal

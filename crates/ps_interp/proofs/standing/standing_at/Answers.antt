@@ -1,5 +1,5 @@
-use Rattle.std.proofs.Common.{refl, subst, sym, List, ℤ}
-use Rattle.std.specs.Prelude.{Option, Some, None}
+use Rattle.std.proofs.Common.{subst, sym, List, ℤ}
+use Rattle.std.specs.Prelude.{Option, None}
 use Rattle.ps_atom.specs.declared.atom.Atom.{Atom}
 use Rattle.ps_interp.specs.declared.interp_end.InterpEnd.{InterpEnd}
 use Rattle.ps_interp.specs.inner.Meetings.{EndsTaking}

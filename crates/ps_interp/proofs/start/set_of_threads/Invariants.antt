@@ -1,4 +1,4 @@
-use Rattle.std.proofs.Common.{◌≡◌, [], drop, take}
+use Rattle.std.proofs.Common.{◌≡◌, [], drop}
 use Rattle.ps_trace.specs.Rows.{threads_from}
 use Rattle.ps_trace.specs.Traces.{pairs_in}
 use Rattle.ps_interp.proofs.start.set_of_threads.Given as goal

@@ -1,6 +1,5 @@
-use Rattle.std.proofs.Common.{◌≡◌, ◌+◌, ◌-◌, refl, sym, ap, ◌∙◌, ℕ, List, take, drop, length, get_or, arith}
+use Rattle.std.proofs.Common.{◌≡◌, ◌+◌, ◌-◌, refl, ap, ℕ, take, drop, length, get_or, arith}
 use Rattle.ps_interp.proofs.Opening.{Started, started_more}
-use Rattle.ps_term.specs.declared.row.Row.{Row}
 use Rattle.ps_triple.proofs.Membership.{any_default}
 use Rattle.ps_interp.proofs.start.start_weights.Goals as goal
 

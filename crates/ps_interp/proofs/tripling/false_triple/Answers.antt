@@ -1,4 +1,4 @@
-use Rattle.std.proofs.Common.{◌≡◌, ◌++◌, ◌∷◌, [], refl, ap, sym, ◌∙◌, List, ℕ}
+use Rattle.std.proofs.Common.{◌++◌, ◌∷◌, [], refl, ap, ◌∙◌, List}
 use Rattle.ps_command.specs.declared.symbolic_form.SymbolicForm.{SymbolicForm}
 use Rattle.ps_interp.specs.Entries.{false_triple}
 use Rattle.ps_interp.specs.Weights.{zeros}

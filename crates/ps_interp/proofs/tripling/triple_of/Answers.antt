@@ -1,4 +1,4 @@
-use Rattle.std.proofs.Common.{◌≡◌, refl, ap, sym, ◌∙◌, List, ℕ}
+use Rattle.std.proofs.Common.{refl, ap, ◌∙◌, List, ℕ}
 use Rattle.ps_interp.specs.Entries.{numbered_threads, with_numbers}
 use Rattle.ps_interp.specs.inner.Meetings.{interpolant_in, interpolant_of}
 use Rattle.ps_interp.specs.inner.Triples.{atoms_by}

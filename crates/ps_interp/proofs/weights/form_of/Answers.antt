@@ -1,8 +1,7 @@
-use Rattle.std.proofs.Common.{◌≡◌, ◌<◌, true, ap, sym, subst, ◌∙◌, length, get_or, List}
+use Rattle.std.proofs.Common.{◌≡◌, true, ap, sym, subst, ◌∙◌, get_or, List}
 use Rattle.ps_command.specs.Form.{empty_form}
 use Rattle.ps_command.specs.declared.symbolic_form.SymbolicForm.{SymbolicForm}
 use Rattle.ps_trace.specs.Own.{is_own_form}
-use Rattle.ps_triple.specs.Rows.{form_in}
 use Rattle.ps_triple.proofs.Membership.{any_default}
 use Rattle.ps_interp.proofs.Numbered.{own_form_in}
 use Rattle.ps_interp.proofs.weights.form_of.Goals as goal

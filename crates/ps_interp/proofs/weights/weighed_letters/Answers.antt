@@ -1,4 +1,4 @@
-use Rattle.std.proofs.Common.{◌≡◌, ◌+◌, ◌-◌, ◌<◌, ◌≤◌, refl, sym, ap, ◌∙◌, subst, ℕ, List, take, drop, length, length-drop, length-take-le, get_or, arith}
+use Rattle.std.proofs.Common.{◌≡◌, ◌+◌, ◌-◌, ◌≤◌, refl, ap, ◌∙◌, ℕ, take, drop, length, length-drop, length-take-le, get_or, arith}
 use Rattle.ps_command.specs.declared.symbolic_form.SymbolicForm.{SymbolicForm}
 use Rattle.ps_interp.proofs.Parting.{each_more, letters_more, parted_room}
 use Rattle.ps_trace.specs.declared.trace.Letter.{Letter}
