@@ -89,7 +89,7 @@ weighted_take part (r ∷ rows) [] = refl
 weighted_take part (r ∷ rows) (n ∷ ns) = ap (λ (z : ℤ). (pos n *ℤ part r.term) +ℤ z) (weighted_take part rows ns)
 
 -- ---- threads, rows and letters
-same_threads : (edges : List Edge) (ks : List ℕ) (letters : List (ℕ × ℕ)) → threads_from ks (trace_of edges letters) ≡ threads_from ks letters
+pub same_threads : (edges : List Edge) (ks : List ℕ) (letters : List (ℕ × ℕ)) → threads_from ks (trace_of edges letters) ≡ threads_from ks letters
 same_threads edges ks [] = refl
 same_threads edges ks (l ∷ ls) = same_threads edges (insert_key nat_cmp ks l.0) ls
 
@@ -160,7 +160,7 @@ now_first v (Havoc i) = let e : 0 + i ≡ i = omega arith in ap (λ (j : ℕ). v
 pub only_one : {X : Type 0} (a x : X) → Contains (a ∷ []) x → a ≡ x
 only_one a x h = elim (cons_cases a [] x h) [ inl is ↦ is | inr none ↦ absurd (nothing x none) ]
 
-got_among : {X : Type 0} (xs : List X) (i : ℕ) (x : X) → slice_get xs i ≡ Some x → Contains xs x
+pub got_among : {X : Type 0} (xs : List X) (i : ℕ) (x : X) → slice_get xs i ≡ Some x → Contains xs x
 got_among [] i x e = cc
 got_among {X} (y ∷ ys) zero x e = subst (λ (z : X). Contains (y ∷ ys) z) (same_Some y x e) (here y ys)
 got_among (y ∷ ys) (suc i) x e = there y ys x (got_among ys i x e)
@@ -198,7 +198,7 @@ dropped_from zero xs x h = h
 dropped_from (suc n) [] x h = h
 dropped_from (suc n) (y ∷ ys) x h = there y ys x (dropped_from n ys x h)
 
-kept_first : {X : Type 0} (xs ys : List X) (x : X) → slice_get xs 0 ≡ Some x → slice_get (xs ++ ys) 0 ≡ Some x
+pub kept_first : {X : Type 0} (xs ys : List X) (x : X) → slice_get xs 0 ≡ Some x → slice_get (xs ++ ys) 0 ≡ Some x
 kept_first [] ys x e = cc
 kept_first (y ∷ xs) ys x e = e
 
@@ -283,6 +283,32 @@ module _ (graph : Graph) (letters : List (ℕ × ℕ)) (lambda : List ℕ)
   pub free : (cut : ℕ) → HasNoHavoc (sum_at (letters_of graph.setting (trace_of graph.edges letters) lambda) cut)
   free cut = (is_sum cut).free
 
+  -- as many multipliers as rows: those at the start, and those of the letters
+  pub multipliers_long : length lambda ≡ length (rows_at_start graph.setting (threads_in_trace (trace_of graph.edges letters))) + row_total graph.setting (trace_of graph.edges letters)
+  multipliers_long = lambda_long ∙ ap (λ (n : ℕ). length starts + n) (after_long graph nothing_yet letters agree)
+
+  -- a triple of a letter, and the initial entry, hold where no value of theirs is past 128 bits
+  module _ (list : List Predicate) (first : slice_get list 0 ≡ Some false_predicate) where
+    pub triple_at_holds : (i : ℕ) (e : Entry) → IsTripleAt (letters_of graph.setting (trace_of graph.edges letters) lambda) list i e →
+        (¬ IsFalseSum (sum_at (letters_of graph.setting (trace_of graph.edges letters) lambda) i)) → EntryFits graph.setting list e → EntryHolds graph.setting list e
+    triple_at_holds i e t some fits = subst (EntryHolds graph.setting list) (sym t.is)
+        (triple_holds graph.setting list first t.letter (there_of i (t.letter.thread, t.letter.command) l.letter) l.is
+        (weights_long graph.setting trace ws i t.letter enough t.stands)
+        (subst (IsSum graph.setting) (sym l.before) (is_sum i)) (subst (IsSum graph.setting) (sym l.after) (is_sum (suc i)))
+        (λ f. some (subst IsFalseSum l.before f))
+        t.after t.stands_after t.before t.stands_before
+        (λ b is s c. threads_tied graph.setting list trace ws i t.letter l t.after t.stands_after b (subst (StandsAt list t.letter.before) is t.stands_before) s c)
+        (subst (EntryFits graph.setting list) t.is fits))
+      where
+        l : IsLetter graph.setting trace (letters_of graph.setting trace lambda) i t.letter
+        l = letter_at graph.setting trace ws i t.letter t.stands
+
+    pub initial_at_holds : (q : Interpolant) → StandsAt list (sum_at (letters_of graph.setting (trace_of graph.edges letters) lambda) 0) (Some q) →
+        EntryFits graph.setting list (initial_of graph.setting (trace_of graph.edges letters) lambda q) → EntryHolds graph.setting list (initial_of graph.setting (trace_of graph.edges letters) lambda q)
+    initial_at_holds q stands fits =
+        initial_holds graph.setting list first trace lambda start_there (sum_at (letters_of graph.setting trace lambda) 0) (is_sum 0) c
+        (refuted_positive (starts ++ afters) lambda refuted) start_total q stands fits
+
   module _ (known new : List Predicate) (entries : List Entry) (false_first : slice_get known 0 ≡ Some false_predicate)
       (m : IsInterpolation graph.setting known (trace_of graph.edges letters) lambda new entries) where
     abbrev list : List Predicate
@@ -304,17 +330,8 @@ module _ (graph : Graph) (letters : List (ℕ × ℕ)) (lambda : List ℕ)
     of_triple e h = at (zip_back (IsTripleAt (letters_of graph.setting trace lambda) list) (cuts_down m.low m.high) m.triples e m.made.triples_are h)
       where
         at : (i : ℕ) × Contains (cuts_down m.low m.high) i × IsTripleAt (letters_of graph.setting trace lambda) list i e → EntryHolds graph.setting list e
-        at (i, among, t) = subst (EntryHolds graph.setting list) (sym t.is)
-            (triple_holds graph.setting list first_of_list t.letter (there_of i (t.letter.thread, t.letter.command) l.letter) l.is
-            (weights_long graph.setting trace ws i t.letter enough t.stands)
-            (subst (IsSum graph.setting) (sym l.before) (is_sum i)) (subst (IsSum graph.setting) (sym l.after) (is_sum (suc i)))
-            (λ f. m.bounds.least i (from_cuts m.low m.high i m.bounds.within among).1 (subst IsFalseSum l.before f))
-            t.after t.stands_after t.before t.stands_before
-            (λ b is s c. threads_tied graph.setting list trace ws i t.letter l t.after t.stands_after b (subst (StandsAt list t.letter.before) is t.stands_before) s c)
-            (subst (EntryFits graph.setting list) t.is (All-contains (EntryFits graph.setting list) m.triples e m.made.triples_fit h)))
-          where
-            l : IsLetter graph.setting trace (letters_of graph.setting trace lambda) i t.letter
-            l = letter_at graph.setting trace ws i t.letter t.stands
+        at (i, among, t) = triple_at_holds list first_of_list i e t (λ f. m.bounds.least i (from_cuts m.low m.high i m.bounds.within among).1 f)
+            (All-contains (EntryFits graph.setting list) m.triples e m.made.triples_fit h)
 
     of_initial : (e : Entry) → Contains m.initial e → EntryHolds graph.setting list e
     of_initial e h = elim m.initial_is [
@@ -327,9 +344,7 @@ module _ (graph : Graph) (letters : List (ℕ × ℕ)) (lambda : List ℕ)
         at q stands fits is (inr trivial) = absurd (nothing_stands list (sum_at (letters_of graph.setting trace lambda) m.low) q trivial.1 stands)
         at q stands fits is (inl zero_is) =
             subst (EntryHolds graph.setting list) (only_one (initial_of graph.setting trace lambda q) e (subst (λ (es : List Entry). Contains es e) is h))
-            (initial_holds graph.setting list first_of_list trace lambda start_there (sum_at (letters_of graph.setting trace lambda) 0) (is_sum 0) c
-            (refuted_positive (starts ++ afters) lambda refuted) start_total q
-            (subst (λ (i : ℕ). StandsAt list (sum_at (letters_of graph.setting trace lambda) i) (Some q)) zero_is stands) fits)
+            (initial_at_holds list first_of_list q (subst (λ (i : ℕ). StandsAt list (sum_at (letters_of graph.setting trace lambda) i) (Some q)) zero_is stands) fits)
 
     pub holds : (e : Entry) → Contains entries e → EntryHolds graph.setting (known ++ new) e
     holds e h = elim (Contains-append_cases (false_triples graph.setting (drop m.high trace)) (m.triples ++ m.initial) e (first_from [] (false_triples graph.setting (drop m.high trace) ++ (m.triples ++ m.initial)) entries e m.first h)) [

@@ -1,5 +1,6 @@
 -- Members of lists without those that stand already.
-use Rattle.std.proofs.Common.{sym, subst, List, [], ◌∷◌, ◌++◌, inl, inr, ◌⊎◌, Contains}
+use Rattle.std.proofs.Common.{◌∙◌, ap, append_assoc, sym, subst, List, [], ◌∷◌, ◌++◌, inl, inr, ◌⊎◌, Contains}
+use Rattle.std.proofs.lemmas.List.{append-nil}
 use Rattle.std.proofs.lemmas.List.Elements.{Contains-push_cases}
 use Rattle.ps_list.proofs.Members.{nothing, cons_cases, here, there}
 use Rattle.ps_interp.specs.Firsts.{AreFirst}
@@ -34,3 +35,19 @@ first_from {X} seen (y ∷ ys) first x (inr new) c = elim (cons_cases y new.1.0 
   | inl is ↦ subst (λ (z : X). Contains (y ∷ ys) z) is (here y ys)
   | inr later ↦ there y ys x (first_from (seen ++ y ∷ []) ys new.1.0 x new.1.2 later)
 ]
+
+-- what comes after some list, without those that stood before or in the list
+pub first_append : {X : Type 0} (seen xs first ys more : List X) → AreFirst seen xs first → AreFirst (seen ++ first) ys more → AreFirst seen (xs ++ ys) (first ++ more)
+first_append {X} seen [] first ys more h k =
+    subst (λ (zs : List X). AreFirst seen ys (zs ++ more)) (sym h)
+    (subst (λ (zs : List X). AreFirst zs ys more) (ap (λ (zs : List X). seen ++ zs) h ∙ append-nil seen) k)
+first_append seen (x ∷ xs) first ys more (inl old) k = inl (old.0, first_append seen xs first ys more old.1 k)
+first_append {X} seen (x ∷ xs) first ys more (inr new) k = inr (
+  new.0,
+  (
+    new.1.0 ++ more,
+    ap (λ (zs : List X). zs ++ more) new.1.1,
+    first_append (seen ++ x ∷ []) xs new.1.0 ys more new.1.2
+        (subst (λ (zs : List X). AreFirst zs ys more) (ap (λ (zs : List X). seen ++ zs) new.1.1 ∙ sym (append_assoc seen (x ∷ []) new.1.0)) k),
+  ),
+)

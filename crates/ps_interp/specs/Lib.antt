@@ -8,3 +8,4 @@ pub mod Made
 pub mod Origin
 pub mod Sums
 pub mod Weights
+pub mod inner

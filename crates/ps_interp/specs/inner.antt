@@ -1,0 +1,5 @@
+pub mod Meetings
+pub mod Parts
+pub mod Places
+pub mod Starts
+pub mod Triples
