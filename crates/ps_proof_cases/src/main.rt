@@ -1,14 +1,16 @@
 //! Runs the cases of standard input, one a line, and prints a line for each that fails, and then how many ran of each kind:
-//! questions, and which traces a proof's entries prove.
+//! questions, which traces a proof's entries prove, and what refuted traces give.
 //!
 //! A case is `KIND INPUT -> EXPECTED`; docs/TESTS.md has the kinds, and how texts are written. Parts of an input stand
 //! between `|`. Empty lines and lines that begin with `#` are no cases.
 #![tactic(auto)]
 
+mod interpolations;
 mod memberships;
 mod questions;
 mod spaces;
 
+use interpolations::interpolation;
 use memberships::membership;
 use ps_case::{Case, Cases, text_of_bytes};
 use questions::answer;
@@ -21,6 +23,7 @@ fn came(alloc: Global, cases: &Cases, case: &Case<'_>) -> Result<Vec<u8>, AllocE
     let input = text_of_bytes(input.as_slice())?;
     match case.kind {
         "question" => answer(alloc, input),
+        "interpolate" => interpolation(alloc, input),
         "member" => membership(alloc, input),
         _ => Err(AllocError),
     }

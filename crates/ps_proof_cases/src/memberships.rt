@@ -37,7 +37,7 @@ fn is_proved(
     member(alloc, graph, front, trace)
 }
 
-fn read_letters(alloc: Global, text: &str) -> Result<IndexedTrace, AllocError> {
+pub(crate) fn read_letters(alloc: Global, text: &str) -> Result<IndexedTrace, AllocError> {
     let mut letters = Vec::new(alloc);
     let mut thread = None;
     for word in text.split_whitespace() {
@@ -66,7 +66,7 @@ fn front_of(alloc: Global, entries: Vec<Entry>) -> Result<Front, AllocError> {
 }
 
 // Whether each edge of a letter exists.
-fn exist(graph: &Graph, trace: &IndexedTrace) -> bool
+pub(crate) fn exist(graph: &Graph, trace: &IndexedTrace) -> bool
     ensures { IsTrue result → All (λ l. l.edge < length graph.now.edges) trace.now.letters }
 {
     let edges = graph.edges.as_slice().len();
