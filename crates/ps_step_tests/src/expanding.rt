@@ -1,5 +1,5 @@
 //! What `expand` answers: a case is `CONFIG gives EDGE THREAD CONFIG;EDGE THREAD CONFIG`, or `CONFIG gives none`.
-use crate::space::{SAFE, Space, are_tied, counter_with};
+use crate::space::{SAFE, Space, are_tied, counter_once_with, counter_with};
 use ps_basis::Shown;
 use ps_config::Config;
 use ps_cover_tests::text::{config, number};
@@ -88,6 +88,13 @@ fn all_hold(alloc: Global, entries: &str, cases: &str) -> Result<bool, AllocErro
     }
 }
 
+fn all_hold_once(alloc: Global, entries: &str, cases: &str) -> Result<bool, AllocError> {
+    match counter_once_with(alloc, entries)? {
+        Some(space) => all_hold_in(alloc, &space, cases),
+        None => Ok(false),
+    }
+}
+
 const SAFE_CASES: &str = "0:1 0 gives 2 0 0:3 1
 0:3 1 gives 0 0 0:0 2;0 1 0:3 1:0 2;1 1 0:3 1:3 1
 0:0 2 gives 0 1 0:0 1:0 2;1 1 0:0 1:3 2
@@ -97,6 +104,21 @@ const SAFE_CASES: &str = "0:1 0 gives 2 0 0:3 1
 #[test]
 fn expands_under_entries_that_prove_safety(rt: HostRuntime) -> Result<(), Fail> {
     assert!(rt; all_hold(rt.alloc(), SAFE, SAFE_CASES)?);
+    Ok(())
+}
+
+// No second thread steps back into a body that at most one runs. Location 1 is of no body.
+const ONCE_CASES: &str = "0:1 0 gives 2 0 0:3 1
+0:3 1 gives 0 0 0:0 2
+0:0 2 gives none
+0:2 1 gives 1 0 0:3 1
+0:3 1:3 1 gives none
+0:3 1:1 1 gives 0 0 0:0 1:1 2
+1 gives 0 0 0:0 2;1 0 0:3 1";
+
+#[test]
+fn expands_within_a_body_that_runs_once(rt: HostRuntime) -> Result<(), Fail> {
+    assert!(rt; all_hold_once(rt.alloc(), SAFE, ONCE_CASES)?);
     Ok(())
 }
 

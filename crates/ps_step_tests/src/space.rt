@@ -71,6 +71,29 @@ pub fn counter(alloc: Global) -> Option<Graph> {
     graph_of(alloc, COUNTER)
 }
 
+/// The graph with its first body run by at most one thread, where it has a body.
+fn run_once(graph: Graph) -> Option<Graph> {
+    if graph.entries.as_slice().is_empty() {
+        return None;
+    }
+    let Graph {
+        locations,
+        edges,
+        entries,
+        once: _,
+        owner,
+        setting,
+    } = graph;
+    Some(Graph {
+        locations,
+        edges,
+        entries,
+        once: Some(0),
+        owner,
+        setting,
+    })
+}
+
 /// The entries as they are, where they aren't too many.
 pub fn front_from(alloc: Global, list: Vec<Entry>) -> Result<Option<Front>, AllocError> {
     if list.len() > MOST_ENTRIES {
@@ -96,6 +119,14 @@ pub fn counter_with(alloc: Global, entries: &str) -> Result<Option<Space>, Alloc
         return Ok(None);
     };
     Ok(front_of(alloc, entries)?.map(|front| Space { graph, front }))
+}
+
+/// The same where at most one thread runs the body of the counter.
+pub fn counter_once_with(alloc: Global, entries: &str) -> Result<Option<Space>, AllocError> {
+    let Some(Space { graph, front }) = counter_with(alloc, entries)? else {
+        return Ok(None);
+    };
+    Ok(run_once(graph).map(|graph| Space { graph, front }))
 }
 
 /// Entries that prove the counter safe: `x >= 1` is predicate 1, and `x >= 0` is 2.

@@ -1,5 +1,5 @@
 //! What `stands` and `accepting` answer: a case is `CONFIG to EDGE THREAD CONFIG is ANSWER`, or `CONFIG is ANSWER`.
-use crate::space::{SAFE, Space, are_tied, counter_with};
+use crate::space::{SAFE, Space, are_tied, counter_once_with, counter_with};
 use ps_config::Config;
 use ps_cover_tests::text::{config, number};
 use ps_step::{accepting, stands};
@@ -60,6 +60,13 @@ fn all_hold(alloc: Global, entries: &str, cases: &str) -> Result<bool, AllocErro
     }
 }
 
+fn all_hold_once(alloc: Global, entries: &str, cases: &str) -> Result<bool, AllocError> {
+    match counter_once_with(alloc, entries)? {
+        Some(space) => all_hold_in(alloc, &space, cases),
+        None => Ok(false),
+    }
+}
+
 const STANDS: &str = "0:1 0 to 2 0 0:3 1 is true
 0:1 0 to 2 0 0:3 1 2 is true
 0:3 1 to 0 0 0:0 2 is true
@@ -86,6 +93,21 @@ const STANDS_NOT: &str = "0:1 0 to 2 0 0:3 2 is false
 fn tells_what_stands(rt: HostRuntime) -> Result<(), Fail> {
     assert!(rt; all_hold(rt.alloc(), SAFE, STANDS)?);
     assert!(rt; all_hold(rt.alloc(), SAFE, STANDS_NOT)?);
+    Ok(())
+}
+
+// At most one thread runs the body. Location 1 is of no body.
+const ONCE: &str = "0:1 0 to 2 0 0:3 1 is true
+0:3 1 to 0 0 0:0 2 is true
+0:3 1 to 0 1 0:3 1:0 2 is false
+0:3 1 to 1 1 0:3 1:3 1 is false
+0:3 1:3 1 to 0 0 0:0 1:3 2 is false
+0:3 1:1 1 to 0 0 0:0 1:1 2 is true
+1 to 0 5 5:0 2 is true";
+
+#[test]
+fn tells_what_stands_in_a_body_that_runs_once(rt: HostRuntime) -> Result<(), Fail> {
+    assert!(rt; all_hold_once(rt.alloc(), SAFE, ONCE)?);
     Ok(())
 }
 
