@@ -93,7 +93,8 @@ fn havocs_of(graph: &Graph, edge: u32) -> u32
     ensures { result ≡ (form_at graph.now edge).havocs }
 {
     let taken = &graph.edges.as_slice()[edge as usize];
-    graph.setting.symbols.as_slice()[taken.command as usize].havocs
+    let form = &graph.setting.symbols.as_slice()[taken.command as usize];
+    form.havocs
 }
 
 fn read_multipliers(alloc: Global, text: &str) -> Result<Vec<u128>, AllocError> {
