@@ -1,5 +1,5 @@
 -- Predicates in range and out of it.
-use Rattle.std.proofs.Common.{◌≤◌, ◌<◌, ℤ, pos, [], ◌∷◌, arith}
+use Rattle.std.proofs.Common.{◌≤◌, ◌<◌, pos, [], ◌∷◌, arith}
 use Rattle.std.proofs.lemmas.List.Elements.{All-contains, All-from_recursion}
 use Rattle.ps_list.proofs.Members.{here, there}
 use Rattle.ps_atom.specs.Examples.{too_wide, wide}

@@ -1,5 +1,5 @@
 -- Where a row stands in a table of predicates.
-use Rattle.std.specs.Prelude.{◌≡◌, ◌≢◌, ℕ, ◌<◌, ◌≤◌, ℤ, pos, ◌≤ℤ◌, List, [], length, Contains, min, ◌^◌, ◌-◌}
+use Rattle.std.specs.Prelude.{◌≡◌, ◌≢◌, ℕ, ◌<◌, ◌≤◌, pos, ◌≤ℤ◌, List, [], length, Contains, min, ◌^◌, ◌-◌}
 use Rattle.ps_term.specs.declared.row.Row.{Row}
 use Rattle.ps_atom.specs.declared.predicate.Predicate.{Predicate}
 use Rattle.ps_atom.specs.declared.predicate.TheConstants.Predicate.{MOST_SLOTS}

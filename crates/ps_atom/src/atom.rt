@@ -2,7 +2,8 @@
 ghost use Rattle.std.specs.Prelude.{◌≡◌, IfOk};
 ghost use Rattle.ps_atom.specs.Atoms.{atom_cmp};
 
-use ps_list::{Duplicate, Sequence};
+use crate::threads::Threads;
+use ps_list::Duplicate;
 use std::alloc::{AllocError, Global};
 use std::cmp::Ordering;
 
@@ -10,7 +11,7 @@ use std::cmp::Ordering;
 #[derive(Debug, Drop)]
 pub struct Atom {
     pub predicate: u32,
-    pub threads: Sequence<u32>,
+    pub threads: Threads,
 }
 
 impl Atom {
@@ -23,7 +24,7 @@ impl Atom {
         self.predicate.cmp(&other.predicate).then(by_threads)
     }
 
-    /// A copy, in time and memory of the number of threads.
+    /// A copy, in time of the number of threads. It takes memory only where there are more than 4.
     pub fn copy(&self, alloc: Global) -> Result<Atom, AllocError>
         ensures { IfOk result (λ atom. atom ≡ self.now) }
     {

@@ -5,12 +5,12 @@ ghost use Rattle.ps_atom.specs.Canonical.{IsInSlots};
 ghost use Rattle.ps_atom.specs.inner.Ends.{IsFormEnd};
 ghost use Rattle.ps_atom.specs.Threads.{AreOccurring};
 
+use crate::occurring::occurring;
 use crate::place::PlaceEnd;
 use crate::predicate::Predicate;
 use crate::share::{Share, shares_in_order};
 use crate::slots::placed;
-use crate::threads::occurring;
-use ps_list::Sequence;
+use crate::threads::Threads;
 use ps_term::{Pairs, Row, Term};
 use std::alloc::{AllocError, Global};
 
@@ -18,7 +18,7 @@ use std::alloc::{AllocError, Global};
 #[derive(Debug, Drop)]
 pub(crate) struct Form {
     pub(crate) predicate: Predicate,
-    pub(crate) threads: Sequence<u32>,
+    pub(crate) threads: Threads,
 }
 
 // The form of a tightened row: slots put for its threads in their order.
@@ -70,14 +70,14 @@ fn form_with(alloc: Global, tight: &Row, threads: &[u32]) -> Result<Form, AllocE
                 },
             },
         },
-        threads: Sequence::from_list(threads),
+        threads,
     })
 }
 
-fn threads_of(alloc: Global, shares: &[Share]) -> Result<Vec<u32>, AllocError>
-    ensures { IfOk result (λ threads. threads.items ≡ map (λ share. share.thread) shares.now) }
+fn threads_of(alloc: Global, shares: &[Share]) -> Result<Threads, AllocError>
+    ensures { IfOk result (λ threads. threads ≡ map (λ share. share.thread) shares.now) }
 {
-    let mut threads = Vec::with_capacity(alloc, shares.len())?;
+    let mut threads = Threads::new(alloc);
     for share in shares {
         threads.push(share.thread)?;
     }

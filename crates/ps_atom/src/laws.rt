@@ -15,7 +15,7 @@ ghost use Rattle.ps_atom.specs.Says.{SaysAs};
 use crate::atom::Atom;
 use crate::place::Place128;
 use crate::predicate::Predicate;
-use ps_list::Sequence;
+use crate::threads::Threads;
 use ps_term::Row;
 
 /// The place of a row says of all values what the row says: a canonical predicate with the threads in
@@ -62,12 +62,7 @@ pub fn canonical_is_in_range(row: &Row, predicate: &Predicate)
 {}
 
 /// What was new and is pushed is known by the number that the push gives.
-pub fn known_when_pushed(
-    list: &[Predicate],
-    row: &Row,
-    predicate: &Predicate,
-    threads: &Sequence<u32>,
-)
+pub fn known_when_pushed(list: &[Predicate], row: &Row, predicate: &Predicate, threads: &Threads)
     ensures { IsPlaceOf list.now row.now (New predicate.now threads.now)
         → IsPlaceOf (list.now ++ predicate.now ∷ []) row.now (Known (length list.now) threads.now) }
 {}

@@ -2,7 +2,7 @@
 ghost use Rattle.std.specs.Prelude.{◌≡◌, IfOk};
 
 use crate::predicate::Predicate;
-use ps_list::Sequence;
+use crate::threads::Threads;
 use std::alloc::{AllocError, Global};
 use thiserror::Error;
 
@@ -16,12 +16,12 @@ pub enum Place128 {
     /// Its canonical predicate is in the table: the least number, and the threads in its slots.
     Known {
         number: u32,
-        threads: Sequence<u32>,
+        threads: Threads,
     },
     /// Its canonical predicate, which isn't in the table, and the threads in its slots.
     New {
         predicate: Predicate,
-        threads: Sequence<u32>,
+        threads: Threads,
     },
 }
 

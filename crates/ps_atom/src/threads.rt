@@ -1,44 +1,75 @@
-// The threads that occur in a row.
-ghost use Rattle.std.specs.Prelude.{◌≡◌, IfOk, None, OnOk};
-ghost use Rattle.std.specs.List.Sorted.{IsStrictlyIncreasing};
-ghost use Rattle.ps_term.specs.Pairs.{IsCanonical};
-ghost use Rattle.ps_atom.specs.inner.Slots.{next_thread, threads_after};
-ghost use Rattle.ps_atom.specs.Threads.{AreOccurring};
+//! The threads in the slots of a predicate.
+ghost use Rattle.std.specs.Prelude.{◌≡◌, ◌<◌, ◌≤◌, ◌++◌, ◌∷◌, [], IfOk, IsOk, OnErr, OnOk, length};
 
-use ps_term::Var;
+use ps_list::Duplicate;
+use smallvec::SmallVec;
 use std::alloc::{AllocError, Global};
+use std::marker::Model;
 
-// Those that occur, ascending.
-pub(crate) fn occurring(alloc: Global, pairs: &[(Var, i128)]) -> Result<Vec<u32>, AllocError>
-    requires { IsCanonical pairs.now }
-    ensures ascending { IfOk result (λ threads. IsStrictlyIncreasing threads.items) }
-    ensures occurring { IfOk result (λ threads. AreOccurring pairs.now threads.items) }
-{
-    threads_met(alloc, pairs)
+/// The threads in the slots of a predicate, which contracts see as their list. Up to 4 of them, the
+/// greatest arity in range, are held in the value itself; only more take memory.
+#[derive(Debug, Drop)]
+pub struct Threads {
+    numbers: SmallVec<u32, 4>,
 }
 
-// The threads of the pairs in their order, of those that stand next to each other one.
-fn threads_met(alloc: Global, pairs: &[(Var, i128)]) -> Result<Vec<u32>, AllocError>
-    ensures { IfOk result (λ threads. threads.items ≡ threads_after None pairs.now) }
-{
-    let mut threads = Vec::new(alloc);
-    let mut last = None;
-    for pair in pairs {
-        if let Some(thread) = next_thread(last, pair.0) {
-            threads.push(thread)?;
-            last = Some(thread);
+impl Model for Threads {
+    ghost use Rattle.std.specs.Prelude.{List, ℕ, ◌≤◌};
+
+    ghost Value = { List ℕ };
+
+    ghost view = { λ t. t.numbers.items };
+
+    ghost invariant = { λ t. 4 ≤ t.numbers.capacity };
+}
+
+impl Threads {
+    /// No threads; the call needs no memory.
+    pub fn new(alloc: Global) -> Threads
+        ensures { result ≡ [] }
+    {
+        Threads {
+            numbers: SmallVec::new(alloc),
         }
     }
-    Ok(threads)
+
+    /// These threads. It takes memory only where there are more than 4.
+    pub fn from_slice(alloc: Global, threads: &[u32]) -> Result<Threads, AllocError>
+        ensures copy { IfOk result (λ copy. copy ≡ threads.now) }
+        ensures inline { length threads.now ≤ 4 → IsOk result }
+    {
+        let mut copy = Threads::new(alloc);
+        copy.numbers.extend_from_slice(threads)?;
+        Ok(copy)
+    }
+
+    /// Appends a thread. It takes memory only where there are 4 or more.
+    pub fn push(&mut self, thread: u32) -> Result<(), AllocError>
+        ensures pushed { OnOk result (self.new ≡ self.old ++ thread ∷ []) }
+        ensures unchanged { OnErr result (self.new ≡ self.old) }
+        ensures inline { length self.old < 4 → IsOk result }
+    {
+        self.numbers.push(thread)?;
+        Ok(())
+    }
+
+    pub fn as_slice(&self) -> &[u32]
+        ensures { result.now ≡ self.now }
+    {
+        self.numbers.as_slice()
+    }
+
+    /// A copy. It takes memory only where there are more than 4 threads.
+    pub fn copy(&self, alloc: Global) -> Result<Threads, AllocError>
+        ensures copy { IfOk result (λ copy. copy ≡ self.now) }
+        ensures inline { length self.now ≤ 4 → IsOk result }
+    {
+        Threads::from_slice(alloc, self.numbers.as_slice())
+    }
 }
 
-// The thread of a local, unless it is the last one that was met.
-fn next_thread(last: Option<u32>, variable: Var) -> Option<u32>
-    ensures { result ≡ next_thread last variable }
-{
-    match (last, variable) {
-        (None, Var::Local(thread, _)) => Some(thread),
-        (Some(last), Var::Local(thread, _)) if thread != last => Some(thread),
-        _ => None,
+impl Duplicate for Threads {
+    fn duplicate(&self, alloc: Global) -> Result<Threads, AllocError> {
+        self.copy(alloc)
     }
 }

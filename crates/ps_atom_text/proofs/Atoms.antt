@@ -8,6 +8,7 @@ use Rattle.std.proofs.lemmas.Option.{none-some, same_Some, cond_some, option_and
 use Rattle.ps_atom.specs.declared.atom.Atom.{Atom}
 use Rattle.ps_atom_text.specs.declared.limits.TheConstants.{MOST_THREAD}
 use Rattle.ps_atom_text.specs.Reading.{atom_from, atom_in_field, atom_of, between_commas, number_up_to, numbers_up_to, parts_round, place_from, place_in_field, place_of}
+use Rattle.ps_atom_text.specs.inner.Faults.{atom_fault, place_fault}
 use Rattle.ps_atom_text.specs.Spelling.{atom_text, place_text, threads_text, AtomHasSpelling, PlaceHasSpelling}
 use Rattle.ps_atom_text.proofs.Commas.{AreSmall, after_commas, commas_again, commas_found, commas_some, decimal_free_of, decimal_uncut}
 use Rattle.ps_lines.specs.declared.form_name.FormName.TheVariants as name
@@ -188,3 +189,47 @@ place_is_leaf = record {
   again = place_again;
   clean = λ p fit. plain_append (decimal p.0) (58 ∷ decimal p.1) (number_plain p.0 (omega (arith, fit.thread))) (record { no_blank = refl; no_feed = refl }, number_plain p.1 fit.location);
 }
+
+-- ---- a part whose number can be read is in form, so the fault of others decides
+
+read_counts : (f : List ℕ) (n : ℕ) → u32_of f ≡ Some n → counts_as_decimal f ≡ true
+read_counts f n e = (let p = number_is f n e in ap counts_as_decimal p.0 ∙ number_counts n p.1)
+
+bounded_counts : (most : ℕ) (f : List ℕ) (n : ℕ) → number_up_to most f ≡ Some n → counts_as_decimal f ≡ true
+bounded_counts most f n e =
+    option_and_then_some (λ (m : ℕ). if nat_le m most then Some m else None) (u32_of f) n e (λ m whole small. read_counts f m whole)
+
+threads_count : (most : ℕ) (fs : List (List ℕ)) (ts : List ℕ) → numbers_up_to most fs ≡ Some ts → list_all counts_as_decimal fs ≡ true
+threads_count most [] ts e = refl
+threads_count most (f ∷ fs) ts e =
+    option_and_then_some (λ (n : ℕ). option_map (λ (ns : List ℕ). n ∷ ns) (numbers_up_to most fs)) (number_up_to most f) ts e (λ n first inner.
+    let rest = option_map_some (λ (ns : List ℕ). n ∷ ns) (numbers_up_to most fs) ts inner in
+    and_from _ _ (bounded_counts most f n first) (threads_count most fs rest.0 rest.1))
+
+fails : {A : Type 0} (t : Bool) (o : Option A) → o ≡ None → (if t then ok_or o name.Number else Err name.Field) ≡ Err (if t then name.Number else name.Field)
+fails {A = A} true o e = ap (λ (p : Option A). ok_or p name.Number) e
+fails false o e = refl
+
+pub atom_read : (most : ℕ) (p : List ℕ) (fs : List (List ℕ)) (n : ℕ) (ts : List ℕ) → Some n ≡ u32_of p → Some ts ≡ numbers_up_to most fs → atom_from most (p, fs) ≡ Ok (atom n ts)
+atom_read most p fs n ts number threads =
+    let is : atom_of most (p, fs) ≡ Some (atom n ts) = rw (sym number, sym threads) refl in
+    passes (counts_as_decimal p && list_all counts_as_decimal fs) (atom_of most (p, fs)) (atom n ts) (and_from _ _ (read_counts p n (sym number)) (threads_count most fs ts (sym threads))) is
+
+pub atom_unnumbered : (most : ℕ) (p : List ℕ) (fs : List (List ℕ)) → None ≡ u32_of p → atom_from most (p, fs) ≡ Err (atom_fault p fs)
+atom_unnumbered most p fs number =
+    let none : atom_of most (p, fs) ≡ None = rw (sym number) refl in
+    fails (counts_as_decimal p && list_all counts_as_decimal fs) (atom_of most (p, fs)) none
+
+pub atom_threadless : (most : ℕ) (p : List ℕ) (fs : List (List ℕ)) (n : ℕ) → Some n ≡ u32_of p → None ≡ numbers_up_to most fs → atom_from most (p, fs) ≡ Err (atom_fault p fs)
+atom_threadless most p fs n number threads =
+    let none : atom_of most (p, fs) ≡ None = rw (sym number, sym threads) refl in
+    fails (counts_as_decimal p && list_all counts_as_decimal fs) (atom_of most (p, fs)) none
+
+pub place_read : (parts : List ℕ × List ℕ) (p : ℕ × ℕ) → Some p ≡ place_of parts → place_from (Some parts) ≡ Ok p
+place_read parts p e =
+    let q = place_is parts p (sym e) in
+    let small : p.0 < 2 ^ 32 = omega (arith, q.2.thread) in
+    passes (counts_as_decimal parts.0 && counts_as_decimal parts.1) (place_of parts) p (and_from _ _ (ap counts_as_decimal q.0 ∙ number_counts p.0 small) (ap counts_as_decimal q.1 ∙ number_counts p.1 q.2.location)) (sym e)
+
+pub place_unread : (parts : List ℕ × List ℕ) → None ≡ place_of parts → place_from (Some parts) ≡ Err (place_fault parts)
+place_unread parts e = fails (counts_as_decimal parts.0 && counts_as_decimal parts.1) (place_of parts) (sym e)

@@ -1,15 +1,15 @@
 //! Atoms as fields: `P`, or `P:T,T` with threads.
-ghost use Rattle.std.specs.Prelude.{◌≡◌, ◌∷◌, [], IfOk, ℕ, option_map};
+ghost use Rattle.std.specs.Prelude.{◌≡◌, ◌∷◌, [], IfOk, ℕ};
 ghost use Rattle.std.specs.List.{list_all};
 ghost use Rattle.std.specs.Option.{option_map_or};
 ghost use Rattle.ps_atom_text.specs.Reading.{atom_from, atom_in_field, between_commas, number_up_to, numbers_up_to};
 ghost use Rattle.ps_atom_text.specs.inner.Ends.{IsRead};
+ghost use Rattle.ps_atom_text.specs.inner.Faults.{atom_fault};
 ghost use Rattle.ps_lines.specs.Decimal.{counts_as_decimal};
 ghost use Rattle.ps_lines.specs.Reading.{Gives, leaf_at};
 
 use crate::field_end::FieldEnd;
-use ps_atom::Atom;
-use ps_list::Sequence;
+use ps_atom::{Atom, Threads};
 use ps_text::{FormEnd, FormName, Leaf, Natural32, Reader, counts_as_decimal, cut, read_u32};
 use std::alloc::{AllocError, Global};
 
@@ -50,11 +50,10 @@ fn are_decimals(list: &[u8]) -> bool
 }
 
 // The numbers that stand between commas, if each is at most `most`.
-fn read_threads(alloc: Global, most: u32, list: &[u8]) -> Result<Option<Vec<u32>>, AllocError>
-    ensures { IfOk result (λ threads. option_map (λ v. v.items) threads
-        ≡ numbers_up_to most (between_commas list.now)) }
+fn read_threads(alloc: Global, most: u32, list: &[u8]) -> Result<Option<Threads>, AllocError>
+    ensures { IfOk result (λ threads. threads ≡ numbers_up_to most (between_commas list.now)) }
 {
-    let mut threads = Vec::new(alloc);
+    let mut threads = Threads::new(alloc);
     let mut left = Some(list);
     'reading: while let Some(parts) = left {
         let (first, rest) = first_part(parts);
@@ -67,7 +66,20 @@ fn read_threads(alloc: Global, most: u32, list: &[u8]) -> Result<Option<Vec<u32>
     Ok(Some(threads))
 }
 
-// The atom of a predicate and threads, which are at most `most`.
+// What is wrong with an atom of which some number can't be read.
+fn atom_fault(predicate: &[u8], threads: &[u8]) -> FormName
+    ensures { result ≡ atom_fault predicate.now (between_commas threads.now) }
+{
+    if counts_as_decimal(predicate) && are_decimals(threads) {
+        FormName::Number
+    } else {
+        FormName::Field
+    }
+}
+
+// The atom of a predicate and threads, which are at most `most`. Whether the parts are in form is asked
+// only where a number can't be read, since one that can be is.
+#[tactic(auto, using(crate::proofs::Atoms::atom_read, crate::proofs::Atoms::atom_unnumbered, crate::proofs::Atoms::atom_threadless))]
 fn with_threads(
     alloc: Global,
     most: u32,
@@ -76,18 +88,15 @@ fn with_threads(
 ) -> Result<Atom, FieldEnd>
     ensures { IsRead result (atom_from most (predicate.now, between_commas threads.now)) }
 {
-    if !counts_as_decimal(predicate) || !are_decimals(threads) {
-        return Err(FieldEnd::Fault(FormName::Field));
-    }
-    let Some(predicate) = read_u32(predicate) else {
-        return Err(FieldEnd::Fault(FormName::Number));
+    let Some(number) = read_u32(predicate) else {
+        return Err(FieldEnd::Fault(atom_fault(predicate, threads)));
     };
     match read_threads(alloc, most, threads)? {
         Some(threads) => Ok(Atom {
-            predicate,
-            threads: Sequence::from_list(threads),
+            predicate: number,
+            threads,
         }),
-        None => Err(FieldEnd::Fault(FormName::Number)),
+        None => Err(FieldEnd::Fault(atom_fault(predicate, threads))),
     }
 }
 
@@ -98,7 +107,7 @@ fn without_threads(alloc: Global, field: &[u8]) -> Result<Atom, FieldEnd>
     match <Natural32 as Leaf>::read(None, field) {
         Ok(predicate) => Ok(Atom {
             predicate,
-            threads: Sequence::from_list(Vec::new(alloc)),
+            threads: Threads::new(alloc),
         }),
         Err(what) => Err(FieldEnd::Fault(what)),
     }

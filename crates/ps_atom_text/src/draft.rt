@@ -38,7 +38,8 @@ impl Model for Draft {
 
     ghost view = { λ d. record { at = d.at.items; atoms = d.atoms.items } };
 
-    ghost invariant = { λ d. IsMet d.met.items (record { at = d.at.items; atoms = d.atoms.items }) };
+    ghost invariant = { λ d. IsMet d.met.items
+        (record { at = d.at.items; atoms = d.atoms.items }) };
 }
 
 // Whether the thread comes after that of the last place, if there is one.
@@ -63,15 +64,17 @@ impl Draft {
         }
     }
 
-    /// The configuration.
+    /// The configuration, in no more memory than its lists need.
     pub(crate) fn into_config(self) -> Config
         ensures { result ≡ self }
     {
         let Draft {
-            at,
-            atoms,
+            mut at,
+            mut atoms,
             met: _met,
         } = self;
+        at.shrink_to_fit();
+        atoms.shrink_to_fit();
         Config::new(at, atoms)
     }
 

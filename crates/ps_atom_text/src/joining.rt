@@ -70,10 +70,33 @@ impl Growth for BeforeGrowth {
     }
 }
 
+// The same atoms, in no more memory than they need.
+fn fitted(before: Before) -> Before
+    ensures { result ≡ before }
+{
+    let Before { atoms } = before;
+    let mut atoms = atoms.into_list();
+    atoms.shrink_to_fit();
+    Before {
+        atoms: Sequence::from_list(atoms),
+    }
+}
+
+// The atoms before a command: the fields up to `by`.
+fn grown_before<'a>(alloc: Global, reader: &mut Reader<'a>) -> Result<Before, FormEnd>
+    ensures { Gives (λ x. x) result reader.new
+        (grow_at (goes_to (codes "by")) before_with none_before reader.old) }
+{
+    grow_fields::<BeforeGrowth>(alloc, &Until::Word(b"by"), no_atoms(alloc), reader)
+}
+
 /// Takes the atoms before a command: the fields up to `by`.
 pub(crate) fn take_before<'a>(alloc: Global, reader: &mut Reader<'a>) -> Result<Before, FormEnd>
     ensures { Gives (λ x. x) result reader.new
         (grow_at (goes_to (codes "by")) before_with none_before reader.old) }
 {
-    grow_fields::<BeforeGrowth>(alloc, &Until::Word(b"by"), no_atoms(alloc), reader)
+    match grown_before(alloc, reader) {
+        Ok(before) => Ok(fitted(before)),
+        Err(end) => Err(end),
+    }
 }

@@ -1,5 +1,6 @@
 //! Threads with their locations as fields: `T:L`.
-ghost use Rattle.std.specs.Prelude.{◌≡◌, option_map};
+ghost use Rattle.std.specs.Prelude.{◌≡◌, Some};
+ghost use Rattle.ps_atom_text.specs.inner.Faults.{place_fault};
 ghost use Rattle.ps_atom_text.specs.Reading.{place_from, place_in_field, place_of};
 
 use crate::atom::number_up_to;
@@ -18,18 +19,26 @@ fn place_of(parts: (&[u8], &[u8])) -> Option<(u32, u32)>
     }
 }
 
-fn place_from(parts: Option<(&[u8], &[u8])>) -> Result<(u32, u32), FormName>
-    ensures { result ≡ place_from (option_map (λ p. (p.0.now, p.1.now)) parts.entry) }
+// What is wrong with a place of which some number can't be read.
+fn place_fault(parts: (&[u8], &[u8])) -> FormName
+    ensures { result ≡ place_fault (parts.entry.0.now, parts.entry.1.now) }
 {
-    match parts {
-        Some((thread, location)) => {
-            if counts_as_decimal(thread) && counts_as_decimal(location) {
-                place_of((thread, location)).ok_or(FormName::Number)
-            } else {
-                Err(FormName::Field)
-            }
-        }
-        None => Err(FormName::Field),
+    if counts_as_decimal(parts.0) && counts_as_decimal(parts.1) {
+        FormName::Number
+    } else {
+        FormName::Field
+    }
+}
+
+// The place of two parts. Whether they are in form is asked only where a number can't be read, since one
+// that can be is.
+#[tactic(auto, using(crate::proofs::Atoms::place_read, crate::proofs::Atoms::place_unread))]
+fn place_from(parts: (&[u8], &[u8])) -> Result<(u32, u32), FormName>
+    ensures { result ≡ place_from (Some (parts.entry.0.now, parts.entry.1.now)) }
+{
+    match place_of(parts) {
+        Some(place) => Ok(place),
+        None => Err(place_fault(parts)),
     }
 }
 
@@ -37,5 +46,8 @@ fn place_from(parts: Option<(&[u8], &[u8])>) -> Result<(u32, u32), FormName>
 pub(crate) fn read_place(field: &[u8]) -> Result<(u32, u32), FormName>
     ensures { result ≡ place_in_field field.now }
 {
-    place_from(cut(field, b':'))
+    match cut(field, b':') {
+        Some(parts) => place_from(parts),
+        None => Err(FormName::Field),
+    }
 }

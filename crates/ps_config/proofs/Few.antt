@@ -75,11 +75,11 @@ start_is = record {
 pub start_from : (c : Configuration) → c ≡ start_configuration → IsConfig c
 start_from c e = subst (λ (d : Configuration). IsConfig d) (sym e) start_is
 
-pub start_lists : (at : List (ℕ × ℕ)) (none atoms : List Atom) (threads nobody : List ℕ) → at ≡ (0, 1) ∷ [] → atoms ≡ none ++ record { predicate = 0; threads = threads } ∷ [] → none ≡ [] → threads ≡ nobody → nobody ≡ []
+pub start_lists : (at : List (ℕ × ℕ)) (none atoms : List Atom) (threads : List ℕ) → at ≡ (0, 1) ∷ [] → atoms ≡ none ++ record { predicate = 0; threads = threads } ∷ [] → none ≡ [] → threads ≡ []
     → IsConfig (record { at = at; atoms = atoms })
-start_lists at none atoms threads nobody places is first is_nobody is_none =
+start_lists at none atoms threads places is first is_none =
     let atom : List ℕ → Atom = λ ts. record { predicate = 0; threads = ts } in
-    let only : atoms ≡ start_configuration.atoms = is ∙ (ap (λ (qs : List Atom). qs ++ atom threads ∷ []) first ∙ ap (λ (ts : List ℕ). atom ts ∷ []) (is_nobody ∙ is_none)) in
+    let only : atoms ≡ start_configuration.atoms = is ∙ (ap (λ (qs : List Atom). qs ++ atom threads ∷ []) first ∙ ap (λ (ts : List ℕ). atom ts ∷ []) is_none) in
     start_from (record { at = at; atoms = atoms }) (ap₂ (λ (ps : List (ℕ × ℕ)) (qs : List Atom). let c : Configuration = record { at = ps; atoms = qs } in c) places only)
 
 -- ---- threads listed one after another

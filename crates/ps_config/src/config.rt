@@ -6,7 +6,7 @@ ghost use Rattle.ps_config.specs.Forms.{IsConfig, IsFresh, config_cmp, start_con
 use crate::form::is_in_form;
 use crate::order::{compare_atoms, compare_places};
 use crate::threads::fresh_thread;
-use ps_atom::Atom;
+use ps_atom::{Atom, Threads};
 use ps_list::{Duplicate, Sequence};
 use std::alloc::{AllocError, Global};
 use std::cmp::Ordering;
@@ -64,7 +64,7 @@ impl Config {
         let mut atoms = Vec::with_capacity(alloc, 1)?;
         atoms.push(Atom {
             predicate: 0,
-            threads: Sequence::from_list(Vec::new(alloc)),
+            threads: Threads::new(alloc),
         })?;
         Ok(Config::new(Vec::from_slice(alloc, &[(0, 1)])?, atoms))
     }

@@ -1,8 +1,7 @@
 //! Which injection is the first: a case is `SMALL in LARGE gives IMAGES`, or `none`.
 use crate::text::{Lists, config, numbers};
-use ps_atom::Atom;
+use ps_atom::{Atom, Threads};
 use ps_cover::{Injection, covers, covers_lists};
-use ps_list::Sequence;
 use std::alloc::{AllocError, Global};
 use std::test::Fail;
 
@@ -93,7 +92,7 @@ fn many(alloc: Global) -> Result<Lists, AllocError> {
     }
     for predicate in 0..5u32 {
         for thread in 0..40u32 {
-            let threads = Sequence::from_slice(alloc, &[thread])?;
+            let threads = Threads::from_slice(alloc, &[thread])?;
             atoms.push(Atom { predicate, threads })?;
         }
     }

@@ -1,9 +1,8 @@
 //! Three hundred generated pairs, compared with the slow search.
 use crate::slow::first;
 use crate::text::{Lists, config_of};
-use ps_atom::Atom;
+use ps_atom::{Atom, Threads};
 use ps_cover::covers_lists;
-use ps_list::Sequence;
 use std::alloc::{AllocError, Global};
 use std::collections::BTreeSet;
 use std::test::Fail;
@@ -23,7 +22,7 @@ fn atoms_of(alloc: Global, keys: &BTreeSet<Vec<u32>>) -> Result<Vec<Atom>, Alloc
     let mut atoms = Vec::new(alloc);
     for key in keys.iter() {
         if let Some((predicate, threads)) = key.as_slice().split_first() {
-            let threads = Sequence::from_slice(alloc, threads)?;
+            let threads = Threads::from_slice(alloc, threads)?;
             atoms.push(Atom {
                 predicate: *predicate,
                 threads,

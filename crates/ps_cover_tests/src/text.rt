@@ -1,7 +1,6 @@
 //! Configurations as text: `0:3` is thread 0 at location 3, `2/0/1` is atom 2 of the threads 0 and 1.
-use ps_atom::Atom;
+use ps_atom::{Atom, Threads};
 use ps_config::Config;
-use ps_list::Sequence;
 use std::alloc::{AllocError, Global};
 
 /// The lists of a configuration.
@@ -26,14 +25,11 @@ pub fn numbers(alloc: Global, text: &str, between: char) -> Result<Vec<u32>, All
 fn atom(alloc: Global, text: &str) -> Result<Atom, AllocError> {
     let all = numbers(alloc, text, '/')?;
     let predicate = all.as_slice().first().copied().unwrap_or(0);
-    let mut threads = Vec::new(alloc);
+    let mut threads = Threads::new(alloc);
     for thread in all.as_slice().iter().skip(1) {
         threads.push(*thread)?;
     }
-    Ok(Atom {
-        predicate,
-        threads: Sequence::from_list(threads),
-    })
+    Ok(Atom { predicate, threads })
 }
 
 pub fn read_lists(alloc: Global, text: &str) -> Result<Lists, AllocError> {

@@ -6,8 +6,7 @@ ghost use Rattle.ps_config.specs.Sent.{sent};
 ghost use Rattle.ps_demand.specs.Demands.{agrees, is_renaming, demand};
 ghost use Rattle.ps_demand.specs.Pools.{lists_of};
 
-use ps_atom::Atom;
-use ps_list::Sequence;
+use ps_atom::{Atom, Threads};
 use ps_triple::Entry;
 use std::alloc::{AllocError, Global};
 
@@ -75,13 +74,13 @@ fn renamed_atom(
     ensures { IfOk result (λ new.
         new ≡ renamed (sent (0 ∷ numbers.now) (thread ∷ images.now)) atom.now) }
 {
-    let mut threads = Vec::with_capacity(alloc, atom.threads.as_slice().len())?;
+    let mut threads = Threads::new(alloc);
     for number in atom.threads.as_slice() {
         threads.push(image_of(thread, numbers, images, *number))?;
     }
     Ok(Atom {
         predicate: atom.predicate,
-        threads: Sequence::from_list(threads),
+        threads,
     })
 }
 

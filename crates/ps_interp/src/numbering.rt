@@ -2,8 +2,7 @@
 ghost use Rattle.std.specs.Prelude.{◌≡◌, ◌≤◌, IfOk, length};
 ghost use Rattle.ps_interp.specs.Entries.{numbered_threads, place_in, with_numbers};
 
-use ps_atom::Atom;
-use ps_list::Sequence;
+use ps_atom::{Atom, Threads};
 use std::alloc::{AllocError, Global};
 
 // The thread that runs the command, and then the others of the slots in their order.
@@ -31,7 +30,7 @@ pub(crate) fn with_numbers(alloc: Global, names: &[u32], atom: &Atom) -> Result<
     ensures { IfOk result (λ new. new ≡ with_numbers names.now atom.now) }
 {
     let slots = atom.threads.as_slice();
-    let mut threads = Vec::with_capacity(alloc, slots.len())?;
+    let mut threads = Threads::new(alloc);
     for slot in slots {
         let Ok(number) = u32::try_from(place_in(names, *slot)) else {
             return Err(AllocError);
@@ -40,7 +39,7 @@ pub(crate) fn with_numbers(alloc: Global, names: &[u32], atom: &Atom) -> Result<
     }
     Ok(Atom {
         predicate: atom.predicate,
-        threads: Sequence::from_list(threads),
+        threads,
     })
 }
 

@@ -11,7 +11,7 @@ ghost use Rattle.ps_triple.specs.Entries.{false_atom};
 use crate::numbering::{numbered_threads, with_numbers};
 use crate::standing::Standing;
 use crate::weights::{WeighedLetter, form_of};
-use ps_atom::Atom;
+use ps_atom::{Atom, Threads};
 use ps_command::Setting;
 use ps_list::Sequence;
 use ps_term::Row;
@@ -114,6 +114,6 @@ pub(crate) fn false_atom(alloc: Global) -> Atom
 {
     Atom {
         predicate: 0,
-        threads: Sequence::from_list(Vec::new(alloc)),
+        threads: Threads::new(alloc),
     }
 }

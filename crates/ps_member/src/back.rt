@@ -10,11 +10,10 @@ ghost use Rattle.ps_trace.specs.Traces.{pairs_in};
 ghost use Rattle.ps_triple.specs.Entries.{false_atom};
 
 use crate::cut::{Cut, Walk};
-use ps_atom::Atom;
+use ps_atom::{Atom, Threads};
 use ps_basis::Shown;
 use ps_demand::{demands_of, pool_of};
 use ps_graph::Graph;
-use ps_list::Sequence;
 use ps_trace::Letter;
 use std::alloc::{AllocError, Global};
 
@@ -25,7 +24,7 @@ fn false_alone(alloc: Global) -> Result<Vec<Atom>, AllocError>
     let mut atoms = Vec::with_capacity(alloc, 1)?;
     atoms.push(Atom {
         predicate: 0,
-        threads: Sequence::from_list(Vec::new(alloc)),
+        threads: Threads::new(alloc),
     })?;
     Ok(atoms)
 }

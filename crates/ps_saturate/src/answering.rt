@@ -16,9 +16,9 @@ use crate::question::Question;
 use crate::threads::{post_threads, thread_count};
 use crate::trial::Trial;
 use crate::walk::walk;
-use ps_atom::{Atom, Predicate, Predicates};
+use ps_atom::{Atom, Predicate, Predicates, Threads};
 use ps_command::Setting;
-use ps_list::{Sequence, copies};
+use ps_list::copies;
 use ps_term::{Row, TermEnd};
 use ps_triple::{Entry, Triple, denied_row};
 use std::alloc::{AllocError, Global};
@@ -94,9 +94,10 @@ fn trial_of<'a>(
     if question.now == 0 || !predicate.is_in_range(setting.globals, setting.locals) {
         return Ok(None);
     }
+    let threads = post_threads(alloc, question.pattern, predicate.arity)?;
     let post = Atom {
         predicate: question.post,
-        threads: Sequence::from_list(post_threads(alloc, question.pattern, predicate.arity)?),
+        threads: Threads::from_slice(alloc, threads.as_slice())?,
     };
     match common_rows(alloc, setting, predicates, question.command, &post) {
         Ok(rows) => Ok(Some(Trial {

@@ -7,9 +7,8 @@ ghost use Rattle.ps_triple.specs.Tests.{IsThere};
 
 use crate::arranging::arrangements;
 use crate::choice::Choice;
-use ps_atom::{Atom, Predicate};
+use ps_atom::{Atom, Predicate, Threads};
 use ps_command::Setting;
-use ps_list::Sequence;
 use ps_triple::atom_row;
 use std::alloc::{AllocError, Global};
 
@@ -95,7 +94,7 @@ fn push_choice(
 {
     let atom = Atom {
         predicate: number,
-        threads: Sequence::from_slice(alloc, of_atom)?,
+        threads: Threads::from_slice(alloc, of_atom)?,
     };
     let row = atom_row(alloc, setting, predicates, &atom)?;
     list.push(Choice { atom, row })?;

@@ -1,14 +1,13 @@
 //! The order of atoms, and the ranges of predicates.
 use crate::predicates::row;
-use ps_atom::{Atom, Predicate};
-use ps_list::Sequence;
+use ps_atom::{Atom, Predicate, Threads};
 use ps_term::Var;
 use std::alloc::{AllocError, Global};
 use std::cmp::Ordering;
 use std::test::Fail;
 
 fn atom(alloc: Global, predicate: u32, threads: &[u32]) -> Result<Atom, AllocError> {
-    let threads = Sequence::from_slice(alloc, threads)?;
+    let threads = Threads::from_slice(alloc, threads)?;
     Ok(Atom { predicate, threads })
 }
 

@@ -3,7 +3,7 @@
 //! A term is its pairs and its constant: `-1*g0 2*l1@5 7` is -1 times global 0, 2 times local 1 of thread or slot 5, and 7.
 //! An entry is `init 2 by 0 1 1`, or `triple COMMAND post ATOM pre ATOM ATOM by 1 0 1`, where an atom is a predicate, and
 //! after `:` its threads between commas.
-use ps_atom::Atom;
+use ps_atom::{Atom, Threads};
 use ps_list::Sequence;
 use ps_term::{Row, Term, TermEnd, Var, add_scaled};
 use ps_triple::{Entry, Initial, Triple, ascends};
@@ -65,11 +65,11 @@ pub fn read_assign(alloc: Global, text: &str) -> Result<(Var, Term), TermEnd> {
 }
 
 fn read_atom(alloc: Global, text: &str) -> Result<Atom, AllocError> {
-    let mut threads = Vec::new(alloc);
+    let mut threads = Threads::new(alloc);
     let Some((predicate, list)) = text.split_once(':') else {
         return Ok(Atom {
             predicate: number(text),
-            threads: Sequence::from_list(threads),
+            threads,
         });
     };
     for thread in list.split(',') {
@@ -77,7 +77,7 @@ fn read_atom(alloc: Global, text: &str) -> Result<Atom, AllocError> {
     }
     Ok(Atom {
         predicate: number(predicate),
-        threads: Sequence::from_list(threads),
+        threads,
     })
 }
 

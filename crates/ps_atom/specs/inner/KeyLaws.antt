@@ -1,13 +1,12 @@
 -- The laws of the comparison and of the hash of keys.
-use Rattle.std.specs.Prelude.{◌≡◌, ℤ, true, ◌&&◌, nat_eq}
+use Rattle.std.specs.Prelude.{◌≡◌, true, ◌&&◌, nat_eq}
 use Rattle.std.specs.Bool.{Decides}
 use Rattle.std.specs.Cmp.{IsEquivalence, IsPartialEquivalence, partial_equiv_from_equiv}
-use Rattle.std.proofs.Common.{refl, sym, ap, arith}
-use Rattle.std.proofs.lemmas.Bool.Decides.{Decides-and, Decides-eqb, Decides-int_eq, Decides-like, same_from_decides, nat_tests}
+use Rattle.std.proofs.Common.{refl, sym, ap}
+use Rattle.std.proofs.lemmas.Bool.Decides.{Decides-and, Decides-eqb, Decides-int_eq, Decides-like, same_from_decides}
 use Rattle.std.proofs.lemmas.Slice.Eq.{slice_eq-Decides}
 use Rattle.std.specs.Cmp.Lexicographic.{pointwise}
 use Rattle.std.specs.Ordering.{int_eq}
-use Rattle.ps_term.specs.declared.var.Var.{Var}
 use Rattle.ps_term.specs.Hashed.{pair_decides, pair_eq}
 use Rattle.ps_atom.specs.declared.key.Key.{Key}
 use Rattle.ps_atom.specs.inner.Keys.{key_eq, key_fed}

@@ -27,4 +27,4 @@ returns c =
     let ps = c.as_slice-pairs.result.now in
     let shares = c.in_ok-shares.shares.items in
     let arity_is : c.len.result ≡ length shares = omega (arith, c.len.ensures, c.in_ok-shares.shares.ok.0) in
-    shares_form c.args.tight.now ps c.args.threads.now shares c.len.result c.from_list.result _ c.from_list-2.result c.as_slice-pairs.ensures.list c.as_slice-pairs.ensures.canonical c.requires.ascending c.requires.occurring c.in_ok-shares.ensures c.requires.few arity_is (c.from_list.ensures ∙ (c.in_ok-list.ensures ∙ ap (λ (s : List Share). put_in_slots (share_pairs s) ps) c.as_slice.ensures.value)) (search rules) (c.from_list-2.ensures ∙ (c.in_ok-threads.ensures ∙ ap (λ (s : List Share). share_threads s) c.as_slice-2.ensures.value))
+    shares_form c.args.tight.now ps c.args.threads.now shares c.len.result c.from_list.result _ c.in_ok-threads.threads c.as_slice-pairs.ensures.list c.as_slice-pairs.ensures.canonical c.requires.ascending c.requires.occurring c.in_ok-shares.ensures c.requires.few arity_is (c.from_list.ensures ∙ (c.in_ok-list.ensures ∙ ap (λ (s : List Share). put_in_slots (share_pairs s) ps) c.as_slice.ensures.value)) (search rules) (c.in_ok-threads.ensures ∙ ap (λ (s : List Share). share_threads s) c.as_slice-2.ensures.value)

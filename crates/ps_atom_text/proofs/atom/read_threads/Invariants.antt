@@ -5,7 +5,7 @@ use Rattle.ps_atom_text.proofs.Threads.{Numbered}
 use Rattle.ps_atom_text.proofs.atom.read_threads.Given as goal
 
 abbrev pub invariant-reading : goal.invariant-reading
-invariant-reading l = Numbered l.most l.threads.items (option_map_or (λ r. between_commas r.now) l.left []) (between_commas l.list)
+invariant-reading l = Numbered l.most l.threads (option_map_or (λ r. between_commas r.now) l.left []) (between_commas l.list)
 
 abbrev pub decreases-reading : goal.decreases-reading
 decreases-reading l = length (option_map_or (λ r. between_commas r.now) l.left [])

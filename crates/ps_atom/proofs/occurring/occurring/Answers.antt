@@ -6,7 +6,7 @@ use Rattle.ps_term.specs.Pairs.{IsCanonical}
 use Rattle.ps_atom.specs.inner.Slots.{threads_after}
 use Rattle.ps_atom.specs.Threads.{AreOccurring}
 use Rattle.ps_atom.proofs.MetThreads.{increasing_from_rising, met_rising, met_occurring}
-use Rattle.ps_atom.proofs.threads.occurring.Goals as goal
+use Rattle.ps_atom.proofs.occurring.occurring.Goals as goal
 
 increasing : (pairs : List (Var × ℤ)) (ts : List ℕ) → IsCanonical pairs → ts ≡ threads_after None pairs → IsStrictlyIncreasing ts
 increasing pairs ts c e =
