@@ -47,10 +47,11 @@ impl Basis {
         }
     }
 
-    /// Makes room for so many more entries. Without memory the entries stay, and no room is lost.
+    /// Makes room for so many more entries; room for more stays. Without memory nothing changes.
     pub fn reserve(&mut self, _alloc: Global, more: u32) -> Result<(), AllocError>
         ensures entries { self.new.entries ≡ self.old.entries }
         ensures room { OnOk result (more ≤ self.new.room) }
+        ensures grows { OnOk result (self.old.room ≤ self.new.room) }
         ensures kept { OnErr result (self.new ≡ self.old) }
     {
         let more = more as usize;

@@ -1,17 +1,16 @@
 -- How the covers change as one more number is chosen.
-use Rattle.std.proofs.Common.{◌≡◌, ℕ, suc, zero, ◌+◌, ◌<◌, ◌≤◌, Bool, true, false, List, [], ◌∷◌, ◌++◌, length, get_or, drop, sym, subst, refl, inl, inr, Contains, All, arith, append_assoc, rules}
+use Rattle.std.proofs.Common.{◌≡◌, ℕ, suc, zero, ◌+◌, ◌<◌, ◌≤◌, Bool, true, false, List, [], ◌∷◌, ◌++◌, length, get_or, drop, sym, subst, refl, inl, inr, Contains, arith, append_assoc}
 use Rattle.std.specs.Prelude.{◌==◌}
 use Rattle.std.specs.List.{list_any, AllZip}
 use Rattle.std.specs.declared.vec.Vec.{Vec}
 use Rattle.std.proofs.lemmas.Bool.{both_ways}
 use Rattle.std.proofs.lemmas.List.{drop_more}
-use Rattle.std.proofs.lemmas.List.Elements.{All-head, All-tail, Contains-append_left, Contains-push, Contains-push_cases}
+use Rattle.std.proofs.lemmas.List.Elements.{Contains-append_left, Contains-push, Contains-push_cases}
 use Rattle.ps_hit.specs.declared.cover.Cover.{Cover}
 use Rattle.ps_hit.specs.declared.cover.Cover.TheVariants.{Unmet, Once, Again}
 use Rattle.ps_hit.specs.Hitting.{numbers_of}
 use Rattle.ps_hit.specs.inner.Covers.{IsCover, cover_with, covers_with, unmet}
 use Rattle.ps_list.proofs.Numbers.{has_from, has_to}
-use Rattle.ps_list.proofs.Members.{nothing}
 
 -- one more set is done
 pub covers_more : {A : Type 0} (n : ℕ) (sets : List (Vec ℕ A)) (covers : List Cover) (i : ℕ) (set : Vec ℕ A) (d : Cover) (done all : List Cover) (cover : Cover) (has : Bool)
@@ -56,15 +55,6 @@ covers_step chosen n new [] [] is = is
 covers_step chosen n new [] (c ∷ cs) is = absurd is
 covers_step chosen n new (set ∷ sets) [] is = absurd is
 covers_step chosen n new (set ∷ sets) (c ∷ cs) is = (cover_step chosen set n c (list_any (λ m. m == n) set) refl new is.0, covers_step chosen n new sets cs is.1)
-
-pub root_covers : (sets : List (List ℕ)) (covers : List Cover) → length covers ≡ length sets → All (λ (c : Cover). c ≡ Unmet) covers → AllZip (IsCover []) sets covers
-root_covers [] [] same each = search rules
-root_covers [] (c ∷ cs) same each = absurd (omega (arith, same))
-root_covers (set ∷ sets) [] same each = absurd (omega (arith, same))
-root_covers (set ∷ sets) (c ∷ cs) same each = (
-  subst (λ (k : Cover). IsCover [] set k) (sym (All-head (λ (k : Cover). k ≡ Unmet) c cs each)) (λ h. nothing h.0 h.1),
-  root_covers sets cs (omega (arith, same)) (All-tail (λ (k : Cover). k ≡ Unmet) c cs each),
-)
 
 -- ---- fewer sets are unmet
 

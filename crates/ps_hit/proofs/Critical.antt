@@ -90,7 +90,7 @@ pub record IsCovered (chosen set : List ℕ) (covers : List Cover) : Type 0 wher
   pub listed : Contains covers cover
   pub is : IsCover chosen set cover
 
-covered : (chosen : List ℕ) (sets : List (List ℕ)) (covers : List Cover) → AllZip (IsCover chosen) sets covers → (set : List ℕ) → Contains sets set → IsCovered chosen set covers
+pub covered : (chosen : List ℕ) (sets : List (List ℕ)) (covers : List Cover) → AllZip (IsCover chosen) sets covers → (set : List ℕ) → Contains sets set → IsCovered chosen set covers
 covered chosen [] cs are set h = absurd (nothing set h)
 covered chosen (x ∷ xs) [] are set h = absurd are
 covered chosen (x ∷ xs) (c ∷ cs) are set h = elim (cons_cases x xs set h) [
@@ -112,7 +112,7 @@ covers_set chosen (s ∷ ss) (x ∷ xs) are c h = elim (cons_cases x xs c h) [
 contains_once : (covers : List Cover) (n : ℕ) → HasOwn covers n → Contains covers (Once n)
 contains_once covers n h = subst (λ (c : Cover). Contains covers c) h.4 (h.0, h.2, h.3)
 
-once_contains : (covers : List Cover) (n : ℕ) → Contains covers (Once n) → HasOwn covers n
+pub once_contains : (covers : List Cover) (n : ℕ) → Contains covers (Once n) → HasOwn covers n
 once_contains covers n h = (h.0, Once n, h.1, h.2, refl)
 
 own_at : (chosen : List ℕ) (covers : List Cover) (set hit : List ℕ) → IsSubset chosen hit → (n : ℕ) → Contains chosen n → Contains set n → ((m : ℕ) → Contains hit m → Contains set m → m ≡ n)

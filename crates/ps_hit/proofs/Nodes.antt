@@ -1,10 +1,10 @@
 -- A node's children, and the work that is left below nodes.
-use Rattle.std.proofs.Common.{◌≡◌, ℕ, zero, suc, ◌+◌, ◌<◌, ◌≤◌, Bool, true, false, List, [], ◌∷◌, ◌++◌, length, get_or, sym, ap, ◌∙◌, subst, refl, inl, inr, Contains, All, arith, eqb, rules}
-use Rattle.std.specs.List.{list_any, AllZip, IsDistinct}
+use Rattle.std.proofs.Common.{◌≡◌, ℕ, zero, suc, ◌+◌, ◌<◌, ◌≤◌, Bool, true, false, List, [], ◌∷◌, ◌++◌, length, get_or, sym, ap, ◌∙◌, subst, refl, inl, inr, Contains, All, arith, eqb}
+use Rattle.std.specs.List.{list_any, AllZip}
 use Rattle.std.specs.Cmp.{nat_eq_equiv}
 use Rattle.std.specs.declared.vec.Vec.{Vec}
 use Rattle.std.proofs.lemmas.Bool.{both_ways, false≢true, eqb-true, or_cases, false_from_ne_true}
-use Rattle.std.proofs.lemmas.List.Elements.{All-nil, Contains-push_cases, Contains-get_or}
+use Rattle.std.proofs.lemmas.List.Elements.{Contains-push_cases, Contains-get_or}
 use Rattle.std.proofs.lemmas.Map.Keys.{IsDistinct-push}
 use Rattle.std.proofs.Math.Nat.{mul-le-mul_left}
 use Rattle.ps_hit.specs.declared.cover.Cover.{Cover}
@@ -14,7 +14,7 @@ use Rattle.ps_hit.specs.Hitting.{numbers_of, Meets, IsSubset, IsMinimalHit}
 use Rattle.ps_hit.specs.inner.Covers.{IsCover, HasOwn, covers_with, unmet}
 use Rattle.ps_hit.specs.inner.Searching.{IsNode, IsUnderNode, IsChild, HasNoChild, AddsChild, work, works}
 use Rattle.ps_list.proofs.Members.{here, there}
-use Rattle.ps_hit.proofs.CoverSteps.{covers_step, root_covers}
+use Rattle.ps_hit.proofs.CoverSteps.{covers_step}
 use Rattle.ps_hit.proofs.Critical.{has_own_below}
 
 -- ---- nodes
@@ -38,18 +38,6 @@ zip_at chosen (s ∷ ss) (c ∷ cs) are (suc place) d within = zip_at chosen ss 
 
 pub covers_length : {A : Type 0} (chosen : List ℕ) (sets : List (Vec ℕ A)) (covers : List Cover) → AllZip (IsCover chosen) (numbers_of sets) covers → length covers ≡ length sets
 covers_length chosen sets covers are = zip_length chosen (numbers_of sets) covers are ∙ length-numbers_of sets
-
-none_twice : IsDistinct eqb []
-unfolding IsDistinct
-none_twice = search rules
-
-pub root_node : {A : Type 0} (sets : List (Vec ℕ A)) (node : Node) → node.chosen.items ≡ [] → length node.covers.items ≡ length sets → All (λ (c : Cover). c ≡ Unmet) node.covers.items
-    → IsNode (numbers_of sets) node
-root_node sets node chosen same each = record {
-  covers = rw chosen (root_covers (numbers_of sets) node.covers.items (same ∙ sym (length-numbers_of sets)) each);
-  own = rw chosen (All-nil (HasOwn node.covers.items));
-  distinct = rw chosen none_twice;
-}
 
 eq_from : (xs : List ℕ) (n : ℕ) → list_any (eqb n) xs ≡ true → Contains xs n
 eq_from [] n h = absurd (false≢true h)

@@ -7,7 +7,7 @@ use Rattle.std.proofs.lemmas.List.Elements.{All-nil, All-cons, All-contains, Con
 use Rattle.ps_hit.specs.declared.cover.Cover.{Cover}
 use Rattle.ps_hit.specs.declared.cover.Cover.TheVariants.{Unmet, Once, Again}
 use Rattle.ps_hit.specs.declared.node.Node.{Node}
-use Rattle.ps_hit.specs.Hitting.{Meets, IsSubset, IsListedHit}
+use Rattle.ps_hit.specs.Hitting.{Meets, IsSubset, IsHit, IsListedHit}
 use Rattle.ps_hit.specs.Answer.{IsLexicographic}
 use Rattle.ps_hit.specs.inner.Covers.{unmet}
 use Rattle.ps_hit.specs.inner.Searching.{IsNode, IsUnderNode, Branches, work, works}
@@ -25,15 +25,11 @@ pub record Searching (sets found : List (List ℕ)) (waiting : List Node) : Type
   pub ordered : IsLexicographic found
 
 pub searching_first : (sets : List (List ℕ)) (node : Node) (found : List (List ℕ)) (waiting : List Node) → found ≡ [] → IsLexicographic found → waiting ≡ [] ++ node ∷ [] → IsNode sets node
-    → node.chosen.items ≡ [] → node.barred.items ≡ [] → Searching sets found waiting
-searching_first sets node found waiting none up one is chosen barred = record {
+    → ((hit : List ℕ) → IsHit sets hit → IsUnderNode node hit) → Searching sets found waiting
+searching_first sets node found waiting none up one is above = record {
   nodes = rw one (All-cons (IsNode sets) node [] is (All-nil (IsNode sets)));
   minimal = rw none (All-nil (IsListedHit sets));
-  every = λ hit listed. inr (
-    node,
-    rw one (here node []),
-    record { chosen = rw chosen (λ n h. absurd (nothing n h)); barred = rw barred (λ m. nothing m.0 m.1) },
-  );
+  every = λ hit listed. inr (node, rw one (here node []), above hit listed.is_minimal.hits);
   ordered = up;
 }
 

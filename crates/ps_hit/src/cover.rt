@@ -1,8 +1,9 @@
 //! How the numbers chosen so far meet a set.
-ghost use Rattle.std.specs.Prelude.{◌≡◌, ◌==◌, ◌⊎◌, ◌≢◌, ◌↔◌, ◌<◌, ◌≤◌, IfOk, IsTrue, All, length, IfSome, IfNone};
-ghost use Rattle.std.specs.List.{HoldsAt, list_any};
+ghost use Rattle.std.specs.Prelude.{◌≡◌, ◌==◌, ◌⊎◌, ◌≢◌, ◌↔◌, ◌<◌, ◌≤◌, IfOk, IsTrue, All, Contains, length, IfSome, IfNone};
+ghost use Rattle.std.specs.List.{AllZip, HoldsAt, list_any};
+ghost use Rattle.std.specs.List.Sorted.{IsStrictlyIncreasing};
 ghost use Rattle.ps_hit.specs.Hitting.{numbers_of};
-ghost use Rattle.ps_hit.specs.inner.Covers.{cover_with, covers_with, HasOwn};
+ghost use Rattle.ps_hit.specs.inner.Covers.{IsCover, cover_seen, cover_with, covers_with, HasOwn};
 
 use std::alloc::{AllocError, Global};
 
@@ -51,16 +52,50 @@ fn with(cover: Cover, number: u32, has: bool) -> Cover
     }
 }
 
-/// The covers of the sets before any number is chosen.
-pub fn none_chosen(alloc: Global, sets: &[Vec<u32>]) -> Result<Vec<Cover>, AllocError>
-    ensures length { IfOk result (λ covers. length covers.items ≡ length sets.now) }
-    ensures unmet { IfOk result (λ covers. All (λ cover. cover ≡ Cover.Unmet) covers.items) }
+/// The covers of the sets where these numbers are chosen, which ascend.
+pub fn covers_of(alloc: Global, sets: &[Vec<u32>], chosen: &[u32]) -> Result<Vec<Cover>, AllocError>
+    requires { IsStrictlyIncreasing chosen.now }
+    ensures { IfOk result
+        (λ covers. AllZip (IsCover chosen.now) (numbers_of sets.now) covers.items) }
 {
     let mut covers = Vec::with_capacity(alloc, sets.len())?;
-    while covers.len() < sets.len() {
-        covers.push(Cover::Unmet)?;
+    for set in sets {
+        covers.push(cover_of(set.as_slice(), chosen))?;
     }
     Ok(covers)
+}
+
+fn cover_of(set: &[u32], chosen: &[u32]) -> Cover
+    requires { IsStrictlyIncreasing chosen.now }
+    ensures { IsCover chosen.now set.now result }
+{
+    let mut cover = Cover::Unmet;
+    for number in set {
+        cover = seen(cover, *number, is_among(*number, chosen));
+    }
+    cover
+}
+
+/// Whether the number is one of these, which ascend, by a binary search.
+fn is_among(number: u32, numbers: &[u32]) -> bool
+    requires { IsStrictlyIncreasing numbers.now }
+    ensures { IsTrue result ↔ Contains numbers.now number }
+{
+    numbers.binary_search(&number).is_ok()
+}
+
+/// The cover once one more number of the set is seen, which is chosen or not.
+fn seen(cover: Cover, number: u32, is_chosen: bool) -> Cover
+    ensures { result ≡ cover_seen cover number is_chosen }
+{
+    if !is_chosen || is_once(cover, number) {
+        return cover;
+    }
+    match cover {
+        Cover::Unmet => Cover::Once(number),
+        Cover::Once(_) => Cover::Again,
+        Cover::Again => Cover::Again,
+    }
 }
 
 /// The covers of the sets once another number is chosen too.

@@ -3,6 +3,7 @@
 
 mod cover;
 mod hits;
+mod lone;
 mod node;
 mod search;
 pub mod worked;

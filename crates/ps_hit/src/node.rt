@@ -1,9 +1,10 @@
 //! A node of the search: what is chosen, and what may be chosen no more.
-ghost use Rattle.std.specs.Prelude.{◌≡◌, [], IfOk, OnOk};
-ghost use Rattle.ps_hit.specs.Hitting.{numbers_of};
-ghost use Rattle.ps_hit.specs.inner.Searching.{IsNode, AddsChild};
+ghost use Rattle.std.specs.Prelude.{ℕ, List, IfOk, OnOk};
+ghost use Rattle.ps_hit.specs.Hitting.{numbers_of, IsHit};
+ghost use Rattle.ps_hit.specs.inner.Searching.{IsNode, IsUnderNode, AddsChild};
 
-use crate::cover::{Cover, all_have_own, chosen_too, none_chosen, sizes};
+use crate::cover::{Cover, all_have_own, chosen_too, covers_of, sizes};
+use crate::lone::lone_numbers;
 use std::alloc::{AllocError, Global};
 
 /// What is chosen, what may be chosen no more, how the chosen numbers meet the sets, and how many
@@ -17,16 +18,19 @@ pub struct Node {
     pub free: Vec<usize>,
 }
 
-/// The node at which nothing is chosen and nothing is barred.
+/// The node at which the numbers are chosen that are alone in a set, which each hitting set has, and
+/// nothing is barred.
 pub fn root(alloc: Global, sets: &[Vec<u32>]) -> Result<Node, AllocError>
     ensures node { IfOk result (IsNode (numbers_of sets.now)) }
-    ensures chosen { IfOk result (λ node. node.chosen.items ≡ []) }
-    ensures barred { IfOk result (λ node. node.barred.items ≡ []) }
+    ensures above { IfOk result (λ node. (hit : List ℕ) → IsHit (numbers_of sets.now) hit
+        → IsUnderNode node hit) }
 {
+    let chosen = lone_numbers(alloc, sets)?;
+    let covers = covers_of(alloc, sets, chosen.as_slice())?;
     Ok(Node {
-        chosen: Vec::new(alloc),
+        chosen,
         barred: Vec::new(alloc),
-        covers: none_chosen(alloc, sets)?,
+        covers,
         free: sizes(alloc, sets)?,
     })
 }

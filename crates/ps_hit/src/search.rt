@@ -17,9 +17,9 @@ use std::collections::BTreeSet;
 /// order; or that there are more than `most`. Of no set at all the empty set is the only one, and an
 /// empty set has none. The sets may stand in any order, and may repeat a number.
 ///
-/// A search in depth takes at each node a set that is unmet, one with the fewest numbers that weren't
-/// tried at a sibling, and one of these numbers where each number chosen so far is still the only one
-/// that meets some set. So a set that no number can meet any more ends its branch at once. Each number
+/// A search in depth begins with all numbers that are alone in a set. It takes at each node a set that is
+/// unmet, one with the fewest numbers that weren't tried at a sibling, and one of these numbers where each
+/// number chosen so far is still the only one that meets some set. So a set that no number can meet any more ends its branch at once. Each number
 /// that is tried takes two passes over the sets, and each node that waits the memory of its numbers and
 /// of two small values a set. The search ends once more than `most` sets were found; how many nodes it
 /// tries until then isn't bounded by the number of hitting sets.

@@ -1,5 +1,5 @@
 -- Which sets the chosen numbers meet, and how often.
-use Rattle.std.specs.Prelude.{◌≡◌, ◌≢◌, ℕ, ◌+◌, Bool, true, false, ◌==◌, List, [], ◌∷◌, Contains, Any}
+use Rattle.std.specs.Prelude.{◌≡◌, ◌≢◌, ℕ, ◌+◌, Bool, true, false, ◌==◌, List, [], ◌∷◌, Contains, Any, if◌then◌else◌}
 use Rattle.std.specs.List.{list_any}
 use Rattle.ps_hit.specs.declared.cover.Cover.{Cover}
 use Rattle.ps_hit.specs.declared.cover.Cover.TheVariants.{Unmet, Once, Again}
@@ -18,7 +18,14 @@ cover_with Unmet n true = Once n
 cover_with (Once m) n true = Again
 cover_with Again n true = Again
 
--- the same of each set
+-- the cover once one more number of the set is seen, which is chosen or not
+abbrev pub cover_seen : Cover → ℕ → Bool → Cover
+cover_seen cover n false = cover
+cover_seen Unmet n true = Once n
+cover_seen (Once m) n true = if m == n then Once m else Again
+cover_seen Again n true = Again
+
+-- the cover of each set once another number is chosen
 abbrev pub covers_with : ℕ → List (List ℕ) → List Cover → List Cover
 covers_with n [] covers = []
 covers_with n (set ∷ sets) [] = []

@@ -11,6 +11,10 @@ pub record IsNode (sets : List (List ℕ)) (node : Node) : Type 0 where
   pub own : All (λ number. HasOwn node.covers.items number) node.chosen.items
   pub distinct : IsDistinct nat_eq node.chosen.items
 
+-- the number is alone in some set
+abbrev pub IsLone : List (List ℕ) → ℕ → Type 0
+IsLone sets number = Contains sets (number ∷ [])
+
 -- the set has what the node chose, and nothing that it barred
 pub record IsUnderNode (node : Node) (hit : List ℕ) : Type 0 where
   pub chosen : IsSubset node.chosen.items hit

@@ -14,7 +14,7 @@ loop-node-init c = record {
   searching = searching_first (numbers_of c.args.sets.now) c.in_ok-root.field-0 (numbers_of c.new-found.result.keys) c.push.new.self.items
       (rw c.new-found.ensures.empty refl) (numbers_ordered c.new-found.result.keys c.new-found.ensures.ordered)
       (c.in_ok-push.ensures.items ∙ ap (λ (nodes : List Node). nodes ++ c.in_ok-root.field-0 ∷ []) c.new-waiting.ensures.items)
-      c.in_ok-root.ensures.node c.in_ok-root.ensures.chosen c.in_ok-root.ensures.barred;
+      c.in_ok-root.ensures.node c.in_ok-root.ensures.above;
   few = rw c.new-found.ensures.empty (search rules);
 }
 
