@@ -88,14 +88,10 @@ fn is_among(number: u32, numbers: &[u32]) -> bool
 fn seen(cover: Cover, number: u32, is_chosen: bool) -> Cover
     ensures { result ≡ cover_seen cover number is_chosen }
 {
-    if !is_chosen || is_once(cover, number) {
+    if is_once(cover, number) {
         return cover;
     }
-    match cover {
-        Cover::Unmet => Cover::Once(number),
-        Cover::Once(_) => Cover::Again,
-        Cover::Again => Cover::Again,
-    }
+    with(cover, number, is_chosen)
 }
 
 /// The covers of the sets once another number is chosen too.

@@ -10,6 +10,7 @@ pub mod Expanding
 pub mod Fewer
 pub mod LeastSets
 pub mod Seen
+pub mod Alone
 pub mod Accepts
 pub mod Going
 pub mod Over

@@ -153,7 +153,7 @@ fn moved(
         ≡ filter (λ p. ltb p.0 thread) places.now
         ++ (thread, location) ∷ filter (λ p. ltb thread p.0) places.now) }
 {
-    let mut at = Vec::new(alloc);
+    let mut at = Vec::with_capacity(alloc, places.len() + 1)?;
     push_below(places, thread, &mut at)?;
     at.push((thread, location))?;
     push_above(places, thread, &mut at)?;

@@ -1,10 +1,13 @@
 //! The least hitting sets of demands.
-ghost use Rattle.std.specs.Prelude.{◌≡◌, ◌<◌, ℕ, List, IfOk, Contains, map, length};
+ghost use Rattle.std.specs.Prelude.{◌≡◌, ◌<◌, ◌∷◌, [], ℕ, List, IfOk, Contains, map, length};
 ghost use Rattle.ps_demand.specs.Demands.{demands};
 ghost use Rattle.ps_demand.specs.Numbered.{named};
+ghost use Rattle.ps_step.specs.declared.expand_end.TheConstants.{MOST_SETS as most_sets};
 ghost use Rattle.ps_step.specs.inner.Found.{IsFound};
 ghost use Rattle.ps_demand.specs.Pools.{lists_of, AreOfPool};
 
+use crate::expand_end::MOST_SETS;
+use crate::only::only_set;
 use ps_atom::Atom;
 use ps_basis::Shown;
 use ps_demand::{demands_of, numbered, pool_of};
@@ -12,7 +15,7 @@ use ps_hit::{Hits, minimal_hits};
 use ps_list::Sequence;
 use std::alloc::{AllocError, Global};
 
-/// The least sets of atoms that meet the demands of a step, or that there are more than were asked for.
+/// The least sets of atoms that meet the demands of a step, or that there are more than `MOST_SETS`.
 #[derive(Drop)]
 pub(crate) enum Found {
     All(Vec<Vec<Atom>>),
@@ -27,15 +30,42 @@ pub(crate) fn least_sets<B: Shown>(
     atoms: &[Atom],
     thread: u32,
     command: u32,
-    most: u32,
 ) -> Result<Found, AllocError>
     ensures { IfOk result
-        (IsFound (demands (B.entries basis.now) atoms.now thread command) most) }
+        (IsFound (demands (B.entries basis.now) atoms.now thread command) most_sets) }
 {
     let sets = demands_of(alloc, basis, atoms, thread, command)?;
-    let pool = pool_of(alloc, sets.as_slice())?;
-    let numbers = numbered(alloc, pool.as_slice(), sets.as_slice())?;
-    match minimal_hits(alloc, numbers.as_slice(), most)? {
+    let found = sets_found(alloc, sets.as_slice())?;
+    Ok(found)
+}
+
+/// The same for these demands. Mostly one set is least, of atoms that are demanded alone.
+fn sets_found(alloc: Global, sets: &[Vec<Atom>]) -> Result<Found, AllocError>
+    ensures { IfOk result (IsFound (lists_of sets.now) most_sets) }
+{
+    match only_set(alloc, sets)? {
+        Some(set) => Ok(Found::All(one_set(alloc, set)?)),
+        None => {
+            let found = searched(alloc, sets)?;
+            Ok(found)
+        }
+    }
+}
+
+fn one_set(alloc: Global, set: Vec<Atom>) -> Result<Vec<Vec<Atom>>, AllocError>
+    ensures { IfOk result (λ sets. lists_of sets.items ≡ set.items ∷ []) }
+{
+    let mut sets = Vec::with_capacity(alloc, 1)?;
+    sets.push(set)?;
+    Ok(sets)
+}
+
+fn searched(alloc: Global, sets: &[Vec<Atom>]) -> Result<Found, AllocError>
+    ensures { IfOk result (IsFound (lists_of sets.now) most_sets) }
+{
+    let pool = pool_of(alloc, sets)?;
+    let numbers = numbered(alloc, pool.as_slice(), sets)?;
+    match minimal_hits(alloc, numbers.as_slice(), MOST_SETS)? {
         Hits::All(hits) => Ok(Found::All(all_named(alloc, pool.as_slice(), hits.as_slice())?)),
         Hits::TooMany => Ok(Found::TooMany),
     }

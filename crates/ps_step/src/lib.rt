@@ -8,6 +8,7 @@ mod expanded;
 mod expansion;
 mod found;
 pub mod laws;
+mod only;
 mod sizes;
 mod standing;
 mod step;

@@ -73,7 +73,7 @@ fn add_least<B: Shown>(
     ensures wide { IfErr result (StepEndsBy (IsNamed number thread
         (IsWideOf (demands (B.entries basis.now) atoms.now thread command) at.now))) }
 {
-    match least_sets(alloc, basis, atoms, thread, command, MOST_SETS).map_err(ExpandEnd::Memory)? {
+    match least_sets(alloc, basis, atoms, thread, command).map_err(ExpandEnd::Memory)? {
         Found::TooMany => Err(ExpandEnd::Wide(WideStep {
             edge: number,
             thread,
