@@ -17,14 +17,14 @@ use crate::cuts::{Cuts, cuts_of};
 use crate::interp_end::InterpEnd;
 use crate::meeting::{Found, false_triples, meet_cuts};
 use crate::refutation::Refutation;
-use crate::start::{StartWeights, start_weights, threads_of};
+use crate::start::{StartWeights, start_weights};
 use crate::starting::push_initial;
 use ps_atom::Predicates;
 use ps_command::Setting;
 use ps_graph::Graph;
 use ps_list::{Sequence, copies};
 use ps_term::TermEnd;
-use ps_trace::{IndexedTrace, Letter};
+use ps_trace::{IndexedTrace, Letter, threads_of};
 use std::alloc::{AllocError, Global};
 
 // So many letters are too many.

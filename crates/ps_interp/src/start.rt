@@ -1,13 +1,10 @@
 // The multipliers of the rows at the start.
 ghost use Rattle.std.specs.Prelude.{◌≡◌, ◌≤◌, IfOk, length};
 ghost use Rattle.ps_interp.specs.inner.Starts.{AreStartWeights};
-ghost use Rattle.ps_trace.specs.Rows.{rows_at_start, threads_in_trace};
-ghost use Rattle.ps_trace.specs.Traces.{pairs_in};
+ghost use Rattle.ps_trace.specs.Rows.{rows_at_start};
 
 use ps_command::Setting;
-use ps_trace::Letter;
 use std::alloc::{AllocError, Global};
-use std::collections::BTreeSet;
 
 // A thread of the trace, with the multipliers of its rows at the start.
 #[derive(Drop)]
@@ -51,23 +48,4 @@ pub(crate) fn start_weights<'a>(
         threads: list,
         letters: &lambda[at..],
     })
-}
-
-// The threads of the letters, in ascending order.
-pub(crate) fn threads_of(alloc: Global, letters: &[Letter]) -> Result<Vec<u32>, AllocError>
-    ensures { IfOk result
-        (λ threads. threads.items ≡ threads_in_trace (pairs_in letters.now)) }
-{
-    let threads = set_of_threads(alloc, letters)?;
-    threads.iter().copied().collect(alloc)
-}
-
-fn set_of_threads(alloc: Global, letters: &[Letter]) -> Result<BTreeSet<u32>, AllocError>
-    ensures { IfOk result (λ threads. threads.keys ≡ threads_in_trace (pairs_in letters.now)) }
-{
-    let mut threads = BTreeSet::new(alloc);
-    for letter in letters {
-        threads.insert(letter.thread)?;
-    }
-    Ok(threads)
 }

@@ -2,14 +2,14 @@
 ghost use Rattle.std.specs.Prelude.{◌≡◌, ◌<◌, ◌≤◌, All, IfOk, IsTrue, length, map};
 ghost use Rattle.ps_interp.specs.Sums.{row_total, weighed};
 ghost use Rattle.ps_interp.specs.inner.Parts.{IsWeighedIn, part_in, part_of};
-ghost use Rattle.ps_soundness.specs.Traces.{command_of_edge, trace_of};
+ghost use Rattle.ps_soundness.specs.Traces.{trace_of};
 ghost use Rattle.ps_trace.specs.Own.{is_own_form};
 ghost use Rattle.ps_trace.specs.Traces.{pairs_in};
 ghost use Rattle.ps_triple.specs.Rows.{form_in};
 
 use ps_command::{Setting, SymbolicForm};
 use ps_graph::Graph;
-use ps_trace::Letter;
+use ps_trace::{Letter, command_of};
 use std::alloc::{AllocError, Global};
 
 // A letter's thread and command, and the multipliers of the command's rows.
@@ -48,15 +48,6 @@ pub(crate) fn weighed_letters<'a>(
         at = end;
     }
     Ok(list)
-}
-
-// The command of the edge.
-fn command_of(graph: &Graph, edge: u32) -> u32
-    requires { edge < length graph.now.edges }
-    ensures command { result ≡ command_of_edge graph.now.edges edge }
-    ensures there { result < length graph.now.setting.symbols }
-{
-    graph.edges.as_slice()[edge as usize].command
 }
 
 // The symbolic form of the command.

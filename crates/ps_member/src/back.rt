@@ -5,7 +5,7 @@ ghost use Rattle.ps_atom.specs.Atoms.{atom_cmp};
 ghost use Rattle.ps_demand.specs.Demands.{demands};
 ghost use Rattle.ps_demand.specs.Pools.{HasAll};
 ghost use Rattle.ps_member.specs.inner.Walks.{IsWalk, letter_of};
-ghost use Rattle.ps_soundness.specs.Traces.{command_of_edge, trace_of};
+ghost use Rattle.ps_soundness.specs.Traces.{trace_of};
 ghost use Rattle.ps_trace.specs.Traces.{pairs_in};
 ghost use Rattle.ps_triple.specs.Entries.{false_atom};
 
@@ -14,7 +14,7 @@ use ps_atom::{Atom, Threads};
 use ps_basis::Shown;
 use ps_demand::{demands_of, pool_of};
 use ps_graph::Graph;
-use ps_trace::Letter;
+use ps_trace::{Letter, command_of};
 use std::alloc::{AllocError, Global};
 
 // False alone.
@@ -44,14 +44,6 @@ fn atoms_before<B: Shown>(
     let sets = demands_of(alloc, basis, after, thread, command)?;
     let before = pool_of(alloc, sets.as_slice())?;
     Ok(before)
-}
-
-// The command of the edge.
-fn command_of(graph: &Graph, edge: u32) -> u32
-    requires { edge < length graph.now.edges }
-    ensures { result ≡ command_of_edge graph.now.edges edge }
-{
-    graph.edges.as_slice()[edge as usize].command
 }
 
 // The walk over the letters, the last one first.

@@ -1,4 +1,5 @@
 pub mod Begins
+pub mod Counting
 pub mod Exiting
 pub mod Following
 pub mod Knowing

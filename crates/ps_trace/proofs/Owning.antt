@@ -292,10 +292,14 @@ form_is graph n e f g h =
         let ops : ops_of graph.setting.commands e.command ≡ x.ops = ap (λ (p : Option Command). unwrap_or (option_map (λ (c : Command). c.ops) p) []) o in
         sym (same_Some (form_of x.ops) f r) ∙ ap form_of (sym (edge_ops_are graph.setting.commands graph.edges n e g ∙ ops))
 
-pub form_got : (graph : Graph) (edges : List Edge) (forms : List SymbolicForm) (n : ℕ) (e : Edge) (f : SymbolicForm) → edges ≡ graph.edges → forms ≡ graph.setting.symbols →
-    n < length graph.edges → e ≡ get_or edges n e → f ≡ get_or forms e.command f → f ≡ form_at graph n
-form_got graph edges forms n e f same alike w is got =
-    let edge : e ≡ get_or graph.edges n e = is ∙ ap (λ (es : List Edge). get_or es n e) same in
-    let below : e.command < length graph.setting.symbols = subst (λ (x : Edge). x.command < length graph.setting.symbols) (sym edge) (has_form graph n e w) in
-    let form : f ≡ get_or graph.setting.symbols e.command f = got ∙ ap (λ (fs : List SymbolicForm). get_or fs e.command f) alike in
-    form_is graph n e f (slice_get-get_or graph.edges n e w ∙ ap Some (sym edge)) (slice_get-get_or graph.setting.symbols e.command f below ∙ ap Some (sym form))
+-- what stands among the forms at the edge's command is the edge's form
+pub form_got : (graph : Graph) (forms : List SymbolicForm) (n k : ℕ) (f : SymbolicForm) → forms ≡ graph.setting.symbols → option_map (λ (e : Edge). e.command) (slice_get graph.edges n) ≡ Some k →
+    k < length graph.setting.symbols → f ≡ get_or forms k f → f ≡ form_at graph n
+form_got graph forms n k f alike is below got = at (slice_get graph.edges n) refl is
+  where
+    form : slice_get graph.setting.symbols k ≡ Some f
+    form = slice_get-get_or graph.setting.symbols k f below ∙ ap Some (sym (got ∙ ap (λ (fs : List SymbolicForm). get_or fs k f) alike))
+
+    at : (o : Option Edge) → slice_get graph.edges n ≡ o → option_map (λ (e : Edge). e.command) o ≡ Some k → f ≡ form_at graph n
+    at None o r = cc
+    at (Some e) o r = form_is graph n e f o (ap (λ (m : ℕ). slice_get graph.setting.symbols m) (same_Some e.command k r) ∙ form)

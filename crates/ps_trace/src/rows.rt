@@ -1,19 +1,20 @@
 //! The rows of a trace.
 ghost use Rattle.std.specs.Prelude.{◌≡◌, ◌<◌, ◌++◌, ◌^◌, All, IfOk, IsErrOf, IsTrue, OnOk, length, map};
 ghost use Rattle.std.specs.List.{list_all};
-ghost use Rattle.ps_trace.specs.Rows.{form_at, havocs_of_letters, nothing_yet, row_of_thread, rows_after, rows_of, RowsFit, rows_at_start, threads_in_trace};
+ghost use Rattle.ps_trace.specs.Rows.{havocs_of_letters, nothing_yet, row_of_thread, rows_after, rows_of, RowsFit, rows_at_start, threads_in_trace};
 ghost use Rattle.ps_trace.specs.Traces.{pairs_in, pairs_of};
-ghost use Rattle.ps_trace.specs.Own.{is_own_form, is_own_row};
+ghost use Rattle.ps_trace.specs.Own.{is_own_row};
 
+use crate::command::form_at;
 use crate::renaming::term_of_thread;
 use crate::so_far::SoFar;
+use crate::threads::threads_of;
 use crate::trace::{IndexedTrace, Letter};
-use ps_command::{Setting, SymbolicForm};
+use ps_command::Setting;
 use ps_graph::Graph;
 use ps_list::copies;
 use ps_term::{Row, TermEnd};
 use std::alloc::{AllocError, Global};
-use std::collections::BTreeSet;
 
 /// The rows that the trace asks of the values that it starts from, a thread's locals by its number, and of those that its
 /// havocs take, which are numbered through the trace: `init_once`, then `init_each` for each thread of the trace in
@@ -21,8 +22,8 @@ use std::collections::BTreeSet;
 /// and terms of its command's symbolic form by the rule of `substitute` of ps_term; it is `Past128` where a product or a
 /// partial sum of one of these lies outside `i128`.
 ///
-/// Each pair of a row or a term takes a binary search among the variables that were assigned so far, and time of the term
-/// that is put for it.
+/// Each row and each term takes one pass over the variables that were assigned so far, and each pair of it a binary search
+/// among them and time of the term that is put for it.
 pub fn trace_rows(alloc: Global, graph: &Graph, trace: &IndexedTrace) -> Result<Vec<Row>, TermEnd>
     requires edges { All (λ l. l.edge < length graph.now.edges) trace.now.letters }
     requires havocs { havocs_of_letters graph.now (pairs_of trace.now) < 2 ^ 32 }
@@ -57,16 +58,6 @@ fn append_rows(
     Ok(())
 }
 
-// The symbolic form of the command of the edge.
-pub(crate) fn form_at(graph: &Graph, edge: u32) -> &SymbolicForm
-    requires { edge < length graph.now.edges }
-    ensures form { result.now ≡ form_at graph.now edge }
-    ensures own { IsTrue (is_own_form result.now) }
-{
-    let taken = &graph.edges.as_slice()[edge as usize];
-    &graph.setting.symbols.as_slice()[taken.command as usize]
-}
-
 // The rows that are asked of the values at the start.
 fn rows_at_start(
     alloc: Global,
@@ -82,17 +73,6 @@ fn rows_at_start(
         append_of_thread(alloc, each, thread, &mut rows)?;
     }
     Ok(rows)
-}
-
-// The threads of the letters, in ascending order.
-pub(crate) fn threads_of(alloc: Global, letters: &[Letter]) -> Result<BTreeSet<u32>, AllocError>
-    ensures { IfOk result (λ threads. threads.keys ≡ threads_in_trace (pairs_in letters.now)) }
-{
-    let mut threads = BTreeSet::new(alloc);
-    for letter in letters {
-        threads.insert(letter.thread)?;
-    }
-    Ok(threads)
 }
 
 // The rows that hold for each thread.

@@ -8,9 +8,10 @@ ghost use Rattle.ps_trace.specs.Traces.{pairs_in, pairs_of};
 ghost use Rattle.ps_trace.specs.WitnessOf.{choices_by, new_number, picks_at, steps_by, value_among, witness_of};
 ghost use Rattle.ps_trace.specs.inner.Known.{known_values};
 
+use crate::command::form_at;
 use crate::known::{choices_of, globals_of, known_from, locals_of_each};
-use crate::rows::{form_at, threads_of};
 use crate::step::Step;
+use crate::threads::threads_of;
 use crate::trace::{IndexedTrace, Letter};
 use crate::witness::Witness;
 use ps_graph::{Graph, Pick};
@@ -38,7 +39,7 @@ pub fn witness_of(
 {
     let letters = trace.letters.as_slice();
     let known = known_from(alloc, values)?;
-    let threads = listed_threads(alloc, letters)?;
+    let threads = threads_of(alloc, letters)?;
     let globals = globals_of(alloc, &known, graph.setting.globals)?;
     let locals = locals_of_each(alloc, &known, graph.setting.locals, threads.as_slice())?;
     let steps = steps_of(alloc, graph, letters, threads.as_slice(), &known)?;
@@ -47,20 +48,6 @@ pub fn witness_of(
         locals,
         steps: Sequence::from_list(steps),
     })
-}
-
-// The threads of the letters, in ascending order.
-fn listed_threads(alloc: Global, letters: &[Letter]) -> Result<Vec<u32>, AllocError>
-    ensures threads { IfOk result
-        (λ list. list.items ≡ threads_in_trace (pairs_in letters.now)) }
-    ensures ascending { IfOk result (λ list. IsStrictlySortedBy nat_cmp list.items) }
-{
-    let threads = threads_of(alloc, letters)?;
-    let mut list = Vec::with_capacity(alloc, threads.len())?;
-    for thread in threads {
-        list.push(thread)?;
-    }
-    Ok(list)
 }
 
 // The steps of the letters.

@@ -3,7 +3,7 @@ use Rattle.std.proofs.lemmas.List.{drop_more}
 use Rattle.ps_trace.specs.Rows.{threads_from}
 use Rattle.ps_trace.specs.Traces.{pairs_in}
 use Rattle.ps_trace.specs.declared.trace.Letter.{Letter}
-use Rattle.ps_trace.proofs.rows.threads_of.Goals as goal
+use Rattle.ps_trace.proofs.threads.set_of_threads.Goals as goal
 
 pub loop-letter-preserved : goal.loop-letter-preserved
 loop-letter-preserved c =
