@@ -1,4 +1,5 @@
 pub mod Begins
+pub mod Columns
 pub mod Exiting
 pub mod Following
 pub mod Knowing
