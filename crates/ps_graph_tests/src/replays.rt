@@ -4,7 +4,9 @@ ghost use Rattle.std.specs.Prelude.{◌≡◌, []};
 use crate::graphs::empty_graph;
 use ps_list::Sequence;
 use ps_term::Var;
-use ps_trace::{IndexedTrace, Witness, is_error_trace, reach, replay, trace_rows, witness_of};
+use ps_trace::{
+    IndexedTrace, Steps, Witness, is_error_trace, reach, replay, trace_rows, witness_of,
+};
 use std::alloc::{AllocError, Global};
 use std::test::Fail;
 
@@ -22,7 +24,7 @@ fn idle(alloc: Global) -> Result<Witness, AllocError> {
     Ok(Witness {
         globals: Sequence::from_list(Vec::new(alloc)),
         locals: Sequence::from_list(vec![in alloc; locals]?),
-        steps: Sequence::from_list(Vec::new(alloc)),
+        steps: Steps::new(alloc),
     })
 }
 
@@ -60,7 +62,7 @@ fn takes_values(alloc: Global) -> Result<bool, AllocError> {
     let graph = empty_graph(alloc, 2)?;
     let values = [(Var::Global(1), 5), (Var::Global(1), 6)];
     let witness = witness_of(alloc, &graph, &no_letters(alloc), &values)?;
-    let has_none = witness.locals.as_slice().is_empty() && witness.steps.as_slice().is_empty();
+    let has_none = witness.locals.as_slice().is_empty() && witness.steps.len() == 0;
     Ok(has_none && witness.globals.as_slice() == [0, 5].as_slice())
 }
 

@@ -1,6 +1,6 @@
 //! Copies of traces and witnesses.
 use ps_list::Sequence;
-use ps_trace::{IndexedTrace, Letter, Step, Witness};
+use ps_trace::{IndexedTrace, Letter, Step, Steps, Witness};
 use std::alloc::{AllocError, Global};
 use std::test::Fail;
 
@@ -14,11 +14,35 @@ fn copies_a_trace(alloc: Global) -> Result<bool, AllocError> {
     Ok(copied.letters.as_slice() == LETTERS.as_slice())
 }
 
-fn step(alloc: Global) -> Result<Step, AllocError> {
-    Ok(Step {
-        thread: 1,
-        choices: Sequence::from_slice(alloc, &[-1, 0])?,
-    })
+// Steps of threads 1, 0 and 2, the second without choices.
+fn steps(alloc: Global) -> Result<Steps, AllocError> {
+    let mut steps = Steps::new(alloc);
+    push_step(alloc, &mut steps, 1, &[-1, 0])?;
+    push_step(alloc, &mut steps, 0, &[])?;
+    push_step(alloc, &mut steps, 2, &[7])?;
+    Ok(steps)
+}
+
+fn push_step(
+    alloc: Global,
+    steps: &mut Steps,
+    thread: u32,
+    choices: &[i128],
+) -> Result<(), AllocError> {
+    let choices = Sequence::from_slice(alloc, choices)?;
+    steps.push(&Step { thread, choices })
+}
+
+fn is_step(steps: &Steps, n: usize, thread: u32, choices: &[i128]) -> bool {
+    n < steps.len() && steps.thread(n) == thread && steps.choices(n) == choices
+}
+
+fn keeps_steps(alloc: Global) -> Result<bool, AllocError> {
+    let steps = steps(alloc)?;
+    let first = is_step(&steps, 0, 1, &[-1, 0]);
+    let second = is_step(&steps, 1, 0, &[]);
+    let third = is_step(&steps, 2, 2, &[7]);
+    Ok(steps.len() == 3 && first && second && third)
 }
 
 fn witness(alloc: Global) -> Result<Witness, AllocError> {
@@ -26,7 +50,7 @@ fn witness(alloc: Global) -> Result<Witness, AllocError> {
     Ok(Witness {
         globals: Sequence::from_slice(alloc, &[5])?,
         locals: Sequence::from_list(vec![in alloc; locals]?),
-        steps: Sequence::from_list(vec![in alloc; step(alloc)?]?),
+        steps: steps(alloc)?,
     })
 }
 
@@ -39,6 +63,12 @@ fn are_alike(alloc: Global, given: &Witness, copied: &Witness) -> Result<bool, A
 #[test]
 fn copies_traces(rt: HostRuntime) -> Result<(), Fail> {
     assert!(rt; copies_a_trace(rt.alloc())?);
+    Ok(())
+}
+
+#[test]
+fn keeps_steps_apart(rt: HostRuntime) -> Result<(), Fail> {
+    assert!(rt; keeps_steps(rt.alloc())?);
     Ok(())
 }
 

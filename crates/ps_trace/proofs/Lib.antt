@@ -1,4 +1,5 @@
 pub mod Begins
+pub mod Columns
 pub mod Counting
 pub mod Exiting
 pub mod Following

@@ -13,6 +13,7 @@ use Rattle.ps_command.specs.declared.state.State.{State}
 use Rattle.ps_graph.proofs.Strides.{seated, step_at_is, step_at_none}
 use Rattle.ps_graph.specs.Threads.{Seat, World}
 use Rattle.ps_graph.specs.declared.graph.Graph.{Graph}
+use Rattle.ps_trace.proofs.Columns.{next_step}
 use Rattle.ps_trace.specs.Reaches.{witness_state, step_pair, steps_of}
 use Rattle.ps_trace.specs.Replay.{along_first, at_error, entered, fails_at_last, MoveFits, moved_on, ReplayFits, Replays, StepsFit, TriesFit, world_of}
 use Rattle.ps_trace.specs.declared.seat.Seat.{Seat as Kept}
@@ -63,47 +64,47 @@ pub seat_sized : (setting : Setting) (globals : List ℤ) (ss : List Kept) (k : 
 seat_sized setting globals ss k s w is h = record { globals = h.globals; locals = sized_at setting.locals (map seat_of ss) k (seat_of s) (seat_got ss k s w is) h.seats }
 
 -- ---- one step
-module _ (graph : Graph) (m : Step) (globals : List ℤ) (ss : List Kept) (s : Kept) (w : m.thread < length ss) (is : s ≡ get_or ss m.thread s) where
-  got : slice_get (map seat_of ss) m.thread ≡ Some (seat_of s)
-  got = seat_got ss m.thread s w is
+module _ (graph : Graph) (m : ℕ × List ℤ) (globals : List ℤ) (ss : List Kept) (s : Kept) (w : m.0 < length ss) (is : s ≡ get_or ss m.0 s) where
+  got : slice_get (map seat_of ss) m.0 ≡ Some (seat_of s)
+  got = seat_got ss m.0 s w is
 
-  moved_is : moved_on graph (step_pair m) (world_from globals ss)
-      ≡ option_map (seated m.thread (map seat_of ss)) (along_first graph.setting.commands graph.edges s.at (seen_from globals s) m.choices)
-  moved_is = step_at_is (along_first graph.setting.commands graph.edges) m.thread globals (map seat_of ss) m.choices (seat_of s) got
+  moved_is : moved_on graph m (world_from globals ss)
+      ≡ option_map (seated m.0 (map seat_of ss)) (along_first graph.setting.commands graph.edges s.at (seen_from globals s) m.1)
+  moved_is = step_at_is (along_first graph.setting.commands graph.edges) m.0 globals (map seat_of ss) m.1 (seat_of s) got
 
-  pub stays_here : along_first graph.setting.commands graph.edges s.at (seen_from globals s) m.choices ≡ None → moved_on graph (step_pair m) (world_from globals ss) ≡ None
-  stays_here none = moved_is ∙ ap (option_map (seated m.thread (map seat_of ss))) none
+  pub stays_here : along_first graph.setting.commands graph.edges s.at (seen_from globals s) m.1 ≡ None → moved_on graph m (world_from globals ss) ≡ None
+  stays_here none = moved_is ∙ ap (option_map (seated m.0 (map seat_of ss))) none
 
-  set_is : (t : Kept) (b : ℕ) (more : List ℤ) → t.at ≡ b → seated m.thread (map seat_of ss) (seen_from more t, b) ≡ world_from more (slice_set ss m.thread t)
+  set_is : (t : Kept) (b : ℕ) (more : List ℤ) → t.at ≡ b → seated m.0 (map seat_of ss) (seen_from more t, b) ≡ world_from more (slice_set ss m.0 t)
   set_is t b more e =
       let seat : ℕ → Seat ℕ = λ i. record { locals = t.locals.items; at = i } in
       let make : List (Seat ℕ) → World ℕ = λ us. record { globals = more; seats = us } in
-      ap make (ap (λ (i : ℕ). slice_set (map seat_of ss) m.thread (seat i)) (sym e) ∙ sym (map-set seat_of ss m.thread t))
+      ap make (ap (λ (i : ℕ). slice_set (map seat_of ss) m.0 (seat i)) (sym e) ∙ sym (map-set seat_of ss m.0 t))
 
-  pub goes_here : (t : Kept) (b : ℕ) (more : List ℤ) → along_first graph.setting.commands graph.edges s.at (seen_from globals s) m.choices ≡ Some (seen_from more t, b) → t.at ≡ b →
-      moved_on graph (step_pair m) (world_from globals ss) ≡ Some (world_from more (slice_set ss m.thread t))
-  goes_here t b more some e = moved_is ∙ ap (option_map (seated m.thread (map seat_of ss))) some ∙ ap Some (set_is t b more e)
+  pub goes_here : (t : Kept) (b : ℕ) (more : List ℤ) → along_first graph.setting.commands graph.edges s.at (seen_from globals s) m.1 ≡ Some (seen_from more t, b) → t.at ≡ b →
+      moved_on graph m (world_from globals ss) ≡ Some (world_from more (slice_set ss m.0 t))
+  goes_here t b more some e = moved_is ∙ ap (option_map (seated m.0 (map seat_of ss))) some ∙ ap Some (set_is t b more e)
 
-  pub error_here : (t : Kept) (b : ℕ) (more : List ℤ) → t.at ≡ b → at_error (world_from globals ss) ≡ false → at_error (world_from more (slice_set ss m.thread t)) ≡ (b == 1)
+  pub error_here : (t : Kept) (b : ℕ) (more : List ℤ) → t.at ≡ b → at_error (world_from globals ss) ≡ false → at_error (world_from more (slice_set ss m.0 t)) ≡ (b == 1)
   error_here t b more e none =
-      ap (list_any at_one) (map-set seat_of ss m.thread t)
-      ∙ error_set (map seat_of ss) m.thread (seat_of t) (subst (λ (n : ℕ). m.thread < n) (sym (length_map ss)) w) none
+      ap (list_any at_one) (map-set seat_of ss m.0 t)
+      ∙ error_set (map seat_of ss) m.0 (seat_of t) (subst (λ (n : ℕ). m.0 < n) (sym (length_map ss)) w) none
       ∙ ap (λ (i : ℕ). i == 1) e
 
-  pub sized_here : (t : Kept) (more : List ℤ) → AreSized graph.setting (seen_from more t) → IsSizedWorld graph.setting (world_from globals ss) → IsSizedWorld graph.setting (world_from more (slice_set ss m.thread t))
+  pub sized_here : (t : Kept) (more : List ℤ) → AreSized graph.setting (seen_from more t) → IsSizedWorld graph.setting (world_from globals ss) → IsSizedWorld graph.setting (world_from more (slice_set ss m.0 t))
   sized_here t more sized h = record {
     globals = sized.globals;
-    seats = subst (λ (us : List (Seat ℕ)). AllByRecursion (λ (u : Seat ℕ). length u.locals ≡ graph.setting.locals) us) (sym (map-set seat_of ss m.thread t))
-        (sized_set graph.setting.locals (map seat_of ss) m.thread (seat_of t) sized.locals h.seats);
+    seats = subst (λ (us : List (Seat ℕ)). AllByRecursion (λ (u : Seat ℕ). length u.locals ≡ graph.setting.locals) us) (sym (map-set seat_of ss m.0 t))
+        (sized_set graph.setting.locals (map seat_of ss) m.0 (seat_of t) sized.locals h.seats);
   }
 
-  pub fits_here : TriesFit graph.setting.commands graph.edges s.at (seen_from globals s) m.choices → MoveFits graph (step_pair m) (world_from globals ss)
+  pub fits_here : TriesFit graph.setting.commands graph.edges s.at (seen_from globals s) m.1 → MoveFits graph m (world_from globals ss)
   fits_here f =
-      subst (λ (o : Option (Seat ℕ)). IfSome o (λ (u : Seat ℕ). TriesFit graph.setting.commands graph.edges u.at (record { globals = globals; locals = u.locals }) m.choices)) (sym got) f
+      subst (λ (o : Option (Seat ℕ)). IfSome o (λ (u : Seat ℕ). TriesFit graph.setting.commands graph.edges u.at (record { globals = globals; locals = u.locals }) m.1)) (sym got) f
 
-  pub fit_here : MoveFits graph (step_pair m) (world_from globals ss) → TriesFit graph.setting.commands graph.edges s.at (seen_from globals s) m.choices
+  pub fit_here : MoveFits graph m (world_from globals ss) → TriesFit graph.setting.commands graph.edges s.at (seen_from globals s) m.1
   fit_here f =
-      subst (λ (o : Option (Seat ℕ)). IfSome o (λ (u : Seat ℕ). TriesFit graph.setting.commands graph.edges u.at (record { globals = globals; locals = u.locals }) m.choices)) got f
+      subst (λ (o : Option (Seat ℕ)). IfSome o (λ (u : Seat ℕ). TriesFit graph.setting.commands graph.edges u.at (record { globals = globals; locals = u.locals }) m.1)) got f
 
 -- a thread that there isn't
 none_got : (us : List (Seat ℕ)) (k : ℕ) → length us ≤ k → slice_get us k ≡ None
@@ -111,13 +112,13 @@ none_got [] k h = refl
 none_got (u ∷ us) zero h = let no : ⊥ = omega (arith, h) in absurd no
 none_got (u ∷ us) (suc k) h = none_got us k (omega (arith, h))
 
-pub no_thread : (graph : Graph) (m : Step) (globals : List ℤ) (ss : List Kept) → length ss ≤ m.thread →
-    (moved_on graph (step_pair m) (world_from globals ss) ≡ None) × MoveFits graph (step_pair m) (world_from globals ss)
+pub no_thread : (graph : Graph) (m : ℕ × List ℤ) (globals : List ℤ) (ss : List Kept) → length ss ≤ m.0 →
+    (moved_on graph m (world_from globals ss) ≡ None) × MoveFits graph m (world_from globals ss)
 no_thread graph m globals ss h =
-    let past : length (map seat_of ss) ≤ m.thread = subst (λ (n : ℕ). n ≤ m.thread) (sym (length_map ss)) h in
-    let none : slice_get (map seat_of ss) m.thread ≡ None = none_got (map seat_of ss) m.thread past in (
-      step_at_none (along_first graph.setting.commands graph.edges) m.thread globals (map seat_of ss) m.choices none,
-      subst (λ (o : Option (Seat ℕ)). IfSome o (λ (u : Seat ℕ). TriesFit graph.setting.commands graph.edges u.at (record { globals = globals; locals = u.locals }) m.choices)) (sym none) tt,
+    let past : length (map seat_of ss) ≤ m.0 = subst (λ (n : ℕ). n ≤ m.0) (sym (length_map ss)) h in
+    let none : slice_get (map seat_of ss) m.0 ≡ None = none_got (map seat_of ss) m.0 past in (
+      step_at_none (along_first graph.setting.commands graph.edges) m.0 globals (map seat_of ss) m.1 none,
+      subst (λ (o : Option (Seat ℕ)). IfSome o (λ (u : Seat ℕ). TriesFit graph.setting.commands graph.edges u.at (record { globals = globals; locals = u.locals }) m.1)) (sym none) tt,
     )
 
 -- ---- all steps
@@ -192,8 +193,23 @@ walked graph all start w rest failed e t =
     let r : IsWalking graph all start w [] failed = subst (λ (ms : List (ℕ × List ℤ)). IsWalking graph all start w ms failed) e t in
     (r.failed_is ∙ r.same, r.fits tt)
 
-pub steps_from : (ms : List Step) (i : ℕ) (d : Step) → i < length ms → map step_pair (drop i ms) ≡ step_pair (get_or ms i d) ∷ map step_pair (drop (i + 1) ms)
-steps_from ms i d w = ap (map step_pair) (drop_more ms i d w)
+-- the steps from a number on are that of the number, by its thread and choices, and those after it
+pub pairs_from : (ss : List Step) (n t : ℕ) (cs : List ℤ) → option_map (λ (s : Step). s.thread) (slice_get ss n) ≡ Some t → option_map (λ (s : Step). s.choices) (slice_get ss n) ≡ Some cs →
+    map step_pair (drop n ss) ≡ (t, cs) ∷ map step_pair (drop (n + 1) ss)
+pairs_from ss n t cs a b = ap (map step_pair) (next_step ss n t cs a b)
+
+module _ (graph : Graph) (start w : World ℕ) (ss : List Step) (n : ℕ) (failed : Bool) (h : IsWalking graph (map step_pair ss) start w (map step_pair (drop n ss)) failed) where
+  -- before the step of this number
+  pub stepping : (t : ℕ) (cs : List ℤ) → option_map (λ (s : Step). s.thread) (slice_get ss n) ≡ Some t → option_map (λ (s : Step). s.choices) (slice_get ss n) ≡ Some cs →
+      IsWalking graph (map step_pair ss) start w ((t, cs) ∷ map step_pair (drop (n + 1) ss)) failed
+  stepping t cs a b = subst (λ (ms : List (ℕ × List ℤ)). IsWalking graph (map step_pair ss) start w ms failed) (pairs_from ss n t cs a b) h
+
+  -- a failure before it
+  pub failed_before : n < length ss → failed ≡ true → (fails_at_last graph (map step_pair ss) start ≡ false) × StepsFit graph (map step_pair ss) start
+  failed_before l f =
+      let d : Step = record { thread = 0; choices = [] } in
+      walked_past graph (map step_pair ss) start w (step_pair (get_or ss n d)) (map step_pair (drop (n + 1) ss)) failed
+      (subst (λ (ms : List (ℕ × List ℤ)). IsWalking graph (map step_pair ss) start w ms failed) (ap (map step_pair) (drop_more ss n d l)) h) f
 
 -- ---- the whole replay
 pub fits_not_initial : (graph : Graph) (w : Witness) (s : State) (answer : Bool) → s ≡ witness_state w → StartFits graph.setting s → (IsInitial graph.setting s → answer ≡ true) → answer ≡ false → ReplayFits graph w
@@ -202,23 +218,22 @@ fits_not_initial graph w s answer e f said wrong = record {
   steps = λ h. absurd (false_true (sym wrong ∙ said (subst (λ (x : State). IsInitial graph.setting x) (sym e) h)));
 }
 
-pub fits_whole : (graph : Graph) (w : Witness) (s : State) (steps : List Step) → s ≡ witness_state w → steps ≡ w.steps → StartFits graph.setting s →
-    StepsFit graph (map step_pair steps) (entered (slice_index_or graph.entries 0 0) s) → ReplayFits graph w
-fits_whole graph w s steps e same f g = record {
+pub fits_whole : (graph : Graph) (w : Witness) (s : State) → s ≡ witness_state w → StartFits graph.setting s →
+    StepsFit graph (steps_of w) (entered (slice_index_or graph.entries 0 0) s) → ReplayFits graph w
+fits_whole graph w s e f g = record {
   start = subst (λ (x : State). StartFits graph.setting x) e f;
-  steps = λ h. subst (λ (x : State). StepsFit graph (steps_of w) (entered (slice_index_or graph.entries 0 0) x)) e
-      (subst (λ (ms : List Step). StepsFit graph (map step_pair ms) (entered (slice_index_or graph.entries 0 0) s)) same g);
+  steps = λ h. subst (λ (x : State). StepsFit graph (steps_of w) (entered (slice_index_or graph.entries 0 0) x)) e g;
 }
 
-pub past_whole : (graph : Graph) (w : Witness) (s : State) (steps : List Step) → s ≡ witness_state w → steps ≡ w.steps → IsInitial graph.setting s →
-    ¬ StepsFit graph (map step_pair steps) (entered (slice_index_or graph.entries 0 0) s) → ¬ ReplayFits graph w
-past_whole graph w s steps e same h past f =
-    past (subst (λ (ms : List Step). StepsFit graph (map step_pair ms) (entered (slice_index_or graph.entries 0 0) s)) (sym same)
-    (subst (λ (x : State). StepsFit graph (steps_of w) (entered (slice_index_or graph.entries 0 0) x)) (sym e) (f.steps (subst (λ (x : State). IsInitial graph.setting x) e h))))
+pub past_whole : (graph : Graph) (w : Witness) (s : State) → s ≡ witness_state w → IsInitial graph.setting s →
+    ¬ StepsFit graph (steps_of w) (entered (slice_index_or graph.entries 0 0) s) → ¬ ReplayFits graph w
+past_whole graph w s e h past f =
+    past (subst (λ (x : State). StepsFit graph (steps_of w) (entered (slice_index_or graph.entries 0 0) x)) (sym e)
+    (f.steps (subst (λ (x : State). IsInitial graph.setting x) e h)))
 
-pub answer_whole : (graph : Graph) (w : Witness) (s : State) (steps : List Step) (answer : Bool) → s ≡ witness_state w → steps ≡ w.steps → IsInitial graph.setting s →
-    answer ≡ fails_at_last graph (map step_pair steps) (entered (slice_index_or graph.entries 0 0) s) → (answer ≡ true → Replays graph w) × (Replays graph w → answer ≡ true)
-answer_whole graph w s steps answer e same h is = (λ t. record { initial = subst (λ (x : State). IsInitial graph.setting x) e h; fails = sym whole ∙ t }, λ r. whole ∙ r.fails)
+pub answer_whole : (graph : Graph) (w : Witness) (s : State) (answer : Bool) → s ≡ witness_state w → IsInitial graph.setting s →
+    answer ≡ fails_at_last graph (steps_of w) (entered (slice_index_or graph.entries 0 0) s) → (answer ≡ true → Replays graph w) × (Replays graph w → answer ≡ true)
+answer_whole graph w s answer e h is = (λ t. record { initial = subst (λ (x : State). IsInitial graph.setting x) e h; fails = sym whole ∙ t }, λ r. whole ∙ r.fails)
   where
     whole : answer ≡ fails_at_last graph (steps_of w) (world_of graph w)
-    whole = is ∙ ap₂ (λ (ms : List Step) (x : State). fails_at_last graph (map step_pair ms) (entered (slice_index_or graph.entries 0 0) x)) same e
+    whole = is ∙ ap (λ (x : State). fails_at_last graph (steps_of w) (entered (slice_index_or graph.entries 0 0) x)) e

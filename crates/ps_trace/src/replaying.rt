@@ -6,7 +6,7 @@ ghost use Rattle.ps_trace.specs.Reaches.{witness_state, step_pair};
 ghost use Rattle.ps_trace.specs.Replay.{entered, fails_at_last, ReplayFits, Replays, StepsFit};
 
 use crate::leaving::Leaving;
-use crate::step::Step;
+use crate::steps::Steps;
 use crate::walk::Walk;
 use crate::witness::Witness;
 use ps_command::{RunEnd, State, is_initial_state};
@@ -34,7 +34,7 @@ pub fn replay(alloc: Global, graph: &Graph, witness: &Witness) -> Result<bool, R
     match is_initial(graph, &state) {
         Ok(initial) => {
             if initial {
-                run_steps(alloc, graph, state, witness.steps.as_slice())
+                run_steps(alloc, graph, state, &witness.steps)
             } else {
                 Ok(false)
             }
@@ -66,7 +66,7 @@ fn start_of(alloc: Global, witness: &Witness) -> Result<State, AllocError>
 }
 
 // Whether the steps from the state fail at the last one, and at no earlier one.
-fn run_steps(alloc: Global, graph: &Graph, state: State, steps: &[Step]) -> Result<bool, RunEnd>
+fn run_steps(alloc: Global, graph: &Graph, state: State, steps: &Steps) -> Result<bool, RunEnd>
     requires few { length graph.now.edges < 2 ^ 32 }
     requires initial { IsInitial graph.now.setting state }
     ensures answer { IfOk result (λ yes. yes ≡ fails_at_last graph.now (map step_pair steps.now)
@@ -80,11 +80,11 @@ fn run_steps(alloc: Global, graph: &Graph, state: State, steps: &[Step]) -> Resu
     let leaving = Leaving::of(alloc, graph).map_err(RunEnd::Memory)?;
     let mut walk = Walk::new(alloc, state, entry).map_err(RunEnd::Memory)?;
     let mut failed = entry == 1;
-    for step in steps {
+    for n in 0..steps.len() {
         if failed {
             return Ok(false);
         }
-        match walk.take(graph, &leaving, step)? {
+        match walk.take(graph, &leaving, steps.thread(n), steps.choices(n))? {
             Some(location) => failed = location == 1,
             None => return Ok(false),
         }

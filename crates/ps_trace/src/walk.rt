@@ -1,13 +1,11 @@
 // The world of a replay, which steps change in place.
 ghost use Rattle.std.specs.Prelude.{◌≡◌, ◌<◌, ◌^◌, ◌==◌, IfOk, IsErrOf, IsFalse, MatchOption, OnOk, Some, None, length, map, slice_index_or};
 ghost use Rattle.ps_trace.specs.Replay.{along_first, at_error, entered, MoveFits, moved_on, TriesFit};
-ghost use Rattle.ps_trace.specs.Reaches.{step_pair};
 ghost use Rattle.ps_trace.specs.inner.Leaving.{HoldsAll};
 ghost use Rattle.ps_trace.specs.inner.Trying.{AreSized, IsSizedWorld, seat_of, seats_from, seen_from, world_from};
 
 use crate::leaving::Leaving;
 use crate::seat::Seat;
-use crate::step::Step;
 use crate::trying::go_along_first;
 use ps_command::{RunEnd, Runner, State};
 use ps_graph::Graph;
@@ -35,20 +33,22 @@ impl Walk {
         })
     }
 
-    // Takes the step, and answers the location to which its thread comes, or `None` where there is no such step.
+    // Takes a step of the thread with these choices, and answers the location to which it comes, or `None` where there is no
+    // such step.
     pub(crate) fn take(
         &mut self,
         graph: &Graph,
         leaving: &Leaving,
-        step: &Step,
+        thread: u32,
+        choices: &[i128],
     ) -> Result<Option<u32>, RunEnd>
         requires leaving { HoldsAll graph.now.edges leaving.now.lists.items }
         requires sized { IsSizedWorld graph.now.setting
             (world_from self.old.runner.globals self.old.seats.items) }
         ensures moves { IfOk result (λ to. MatchOption to
-            (moved_on graph.now (step_pair step.now)
+            (moved_on graph.now (thread, choices.now)
             (world_from self.old.runner.globals self.old.seats.items) ≡ None)
-            (λ b. moved_on graph.now (step_pair step.now)
+            (λ b. moved_on graph.now (thread, choices.now)
             (world_from self.old.runner.globals self.old.seats.items)
             ≡ Some (world_from self.new.runner.globals self.new.seats.items))) }
         ensures error { IfOk result (λ to. MatchOption to Unit
@@ -56,19 +56,19 @@ impl Walk {
             → at_error (world_from self.new.runner.globals self.new.seats.items) ≡ (b == 1))) }
         ensures sized { OnOk result (IsSizedWorld graph.now.setting
             (world_from self.new.runner.globals self.new.seats.items)) }
-        ensures fits { OnOk result (MoveFits graph.now (step_pair step.now)
+        ensures fits { OnOk result (MoveFits graph.now (thread, choices.now)
             (world_from self.old.runner.globals self.old.seats.items)) }
-        ensures past { IsErrOf result RunEnd.Past128 → ¬ MoveFits graph.now (step_pair step.now)
+        ensures past { IsErrOf result RunEnd.Past128 → ¬ MoveFits graph.now (thread, choices.now)
             (world_from self.old.runner.globals self.old.seats.items) }
     {
-        let thread = step.thread as usize;
+        let thread = thread as usize;
         if thread < self.seats.len() {
             move_seat(
                 &mut self.runner,
                 &mut self.seats[thread],
                 graph,
                 leaving,
-                step.choices.as_slice(),
+                choices,
                 &mut self.havocs,
             )
         } else {

@@ -1,7 +1,7 @@
 //! Witnesses.
 ghost use Rattle.std.specs.Prelude.{◌≡◌, IfOk};
 
-use crate::step::Step;
+use crate::steps::Steps;
 use ps_list::Sequence;
 use std::alloc::{AllocError, Global};
 
@@ -10,7 +10,7 @@ use std::alloc::{AllocError, Global};
 pub struct Witness {
     pub globals: Sequence<i128>,
     pub locals: Sequence<Sequence<i128>>,
-    pub steps: Sequence<Step>,
+    pub steps: Steps,
 }
 
 impl Witness {

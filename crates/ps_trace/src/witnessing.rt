@@ -11,11 +11,11 @@ ghost use Rattle.ps_trace.specs.inner.Known.{known_values};
 use crate::command::form_at;
 use crate::known::{choices_of, globals_of, known_from, locals_of_each};
 use crate::step::Step;
+use crate::steps::Steps;
 use crate::threads::threads_of;
 use crate::trace::{IndexedTrace, Letter};
 use crate::witness::Witness;
 use ps_graph::{Graph, Pick};
-use ps_list::Sequence;
 use ps_term::Var;
 use std::alloc::{AllocError, Global};
 use std::collections::BTreeMap;
@@ -46,7 +46,7 @@ pub fn witness_of(
     Ok(Witness {
         globals,
         locals,
-        steps: Sequence::from_list(steps),
+        steps,
     })
 }
 
@@ -57,22 +57,20 @@ fn steps_of(
     letters: &[Letter],
     threads: &[u32],
     known: &BTreeMap<Var, i128>,
-) -> Result<Vec<Step>, AllocError>
+) -> Result<Steps, AllocError>
     requires edges { All (λ l. l.edge < length graph.now.edges) letters.now }
     requires havocs { havocs_of_letters graph.now (pairs_in letters.now) < 2 ^ 32 }
     requires ascending { IsStrictlySortedBy nat_cmp threads.now }
-    ensures { IfOk result (λ steps. steps.items
+    ensures { IfOk result (λ steps. steps
         ≡ steps_by graph.now threads.now (known_values known.now) 0 (pairs_in letters.now)) }
 {
-    let mut steps = Vec::with_capacity(alloc, letters.len())?;
+    let mut steps = Steps::new(alloc);
     let mut first = 0;
     for letter in letters {
         let havocs = form_at(graph, letter.edge).havocs;
         let choices = choices_of(alloc, known, first, picks_at(graph, letter.edge))?;
-        steps.push(Step {
-            thread: new_number(threads, letter.thread),
-            choices,
-        })?;
+        let thread = new_number(threads, letter.thread);
+        steps.push(&Step { thread, choices })?;
         first += havocs;
     }
     Ok(steps)

@@ -1,12 +1,13 @@
 -- Witnesses, printed in pieces.
-use Rattle.std.proofs.Common.{◌≡◌, ℕ, suc, ℤ, ◌+◌, List, [], ◌∷◌, ◌++◌, map, refl, sym, ap, ◌∙◌, append_assoc}
-use Rattle.std.specs.Prelude.{decimal, codes}
+use Rattle.std.proofs.Common.{◌≡◌, ℕ, suc, ℤ, ◌+◌, List, [], ◌∷◌, ◌++◌, drop, map, refl, sym, ap, ◌∙◌, append_assoc}
+use Rattle.std.specs.Prelude.{Some, codes, decimal, option_map, slice_get}
 use Rattle.std.specs.Fmt.{signed_decimal}
 use Rattle.std.specs.List.{flat_map}
 use Rattle.std.proofs.lemmas.List.{append-nil}
 use Rattle.std.proofs.lemmas.List.Concat.{flat_map-append}
 use Rattle.ps_lines.specs.Tokens.{after_blank, line_bytes, text_bytes}
 use Rattle.ps_lines.proofs.Bytes.{flat_map-map, spread_mapped}
+use Rattle.ps_trace.proofs.Columns.{next_step}
 use Rattle.ps_trace.specs.declared.step.Step.{Step}
 use Rattle.ps_trace_text.specs.WitnessSpelling.{locals_lines, step_line}
 
@@ -39,6 +40,14 @@ printed_numbered out word word_done number_done done n vs a b c =
     ∙ append_assoc out word (after_blank (decimal n) ++ (values_bytes vs ++ 10 ∷ []))
     ∙ ap (λ (r : List ℕ). out ++ (word ++ r)) (sym (append_assoc (after_blank (decimal n)) (values_bytes vs) (10 ∷ [])))
     ∙ ap (λ (r : List ℕ). out ++ (word ++ ((after_blank (decimal n) ++ r) ++ 10 ∷ []))) (sym (flat_map-map after_blank signed_decimal vs))
+
+-- one step more
+pub printed_step : (ss : List Step) (n t : ℕ) (cs : List ℤ) (all out done : List ℕ) → option_map (λ (s : Step). s.thread) (slice_get ss n) ≡ Some t → option_map (λ (s : Step). s.choices) (slice_get ss n) ≡ Some cs →
+    done ≡ out ++ line_bytes (step_line (record { thread = t; choices = cs })) → out ++ flat_map (λ s. line_bytes (step_line s)) (drop n ss) ≡ all → done ++ flat_map (λ s. line_bytes (step_line s)) (drop (n + 1) ss) ≡ all
+printed_step ss n t cs all out done a b is h =
+    let line : List ℕ = line_bytes (step_line (record { thread = t; choices = cs })) in
+    let rest : List ℕ = flat_map (λ s. line_bytes (step_line s)) (drop (n + 1) ss) in
+    ap (λ (m : List ℕ). m ++ rest) is ∙ append_assoc out line rest ∙ ap (λ (xs : List Step). out ++ flat_map (λ s. line_bytes (step_line s)) xs) (sym (next_step ss n t cs a b)) ∙ h
 
 -- a whole text
 pub printed_text : (first second third last : List ℕ × List (List ℕ)) (vss : List (List ℤ)) (ss : List Step) (a b c d e f : List ℕ) → a ≡ line_bytes first → b ≡ a ++ line_bytes second → c ≡ b ++ line_bytes third →

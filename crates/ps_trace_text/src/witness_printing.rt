@@ -7,7 +7,7 @@ ghost use Rattle.ps_trace_text.specs.WitnessSpelling.{globals_line, locals_line,
 
 use ps_list::Sequence;
 use ps_text::{put_end, put_field, put_header, put_integer, put_natural, put_only, put_word};
-use ps_trace::{Step, Witness};
+use ps_trace::{Steps, Witness};
 use std::alloc::{AllocError, Global};
 
 // The values, and the end of the line.
@@ -49,21 +49,22 @@ fn put_all_locals(out: &mut Vec<u8>, all: &[Sequence<i128>]) -> Result<(), Alloc
     Ok(())
 }
 
-fn put_step(out: &mut Vec<u8>, step: &Step) -> Result<(), AllocError>
-    ensures { OnOk result (out.new.items ≡ out.old.items ++ line_bytes (step_line step.now)) }
+fn put_step(out: &mut Vec<u8>, thread: u32, choices: &[i128]) -> Result<(), AllocError>
+    ensures { OnOk result (out.new.items ≡ out.old.items
+        ++ line_bytes (step_line (record { thread = thread; choices = choices.now }))) }
 {
     put_word(out, b"step")?;
-    put_natural(out, step.thread as u128)?;
-    put_values(out, step.choices.as_slice())?;
+    put_natural(out, thread as u128)?;
+    put_values(out, choices)?;
     put_end(out)
 }
 
-fn put_steps(out: &mut Vec<u8>, steps: &[Step]) -> Result<(), AllocError>
+fn put_steps(out: &mut Vec<u8>, steps: &Steps) -> Result<(), AllocError>
     ensures { OnOk result
         (out.new.items ≡ out.old.items ++ flat_map (λ s. line_bytes (step_line s)) steps.now) }
 {
-    for step in steps {
-        put_step(out, step)?;
+    for n in 0..steps.len() {
+        put_step(out, steps.thread(n), steps.choices(n))?;
     }
     Ok(())
 }
@@ -89,7 +90,7 @@ pub fn print_witness(alloc: Global, witness: &Witness) -> Result<Vec<u8>, AllocE
     put_header(&mut out, b"threads", all.len() as u32)?;
     put_globals(&mut out, witness.globals.as_slice())?;
     put_all_locals(&mut out, all)?;
-    put_steps(&mut out, witness.steps.as_slice())?;
+    put_steps(&mut out, &witness.steps)?;
     put_only(&mut out, b"end")?;
     Ok(out)
 }

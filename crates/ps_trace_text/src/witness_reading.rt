@@ -1,15 +1,15 @@
 //! Reading witnesses, with the first fault.
-ghost use Rattle.std.specs.Prelude.{◌≡◌, ◌+◌, ◌<◌, ◌≤◌, ◌^◌, length, IfOk, None, Ok};
+ghost use Rattle.std.specs.Prelude.{◌≡◌, ◌+◌, ◌<◌, ◌≤◌, ◌^◌, codes, length, IfOk, None, Ok};
 ghost use Rattle.ps_lines.specs.Tokens.{text_bytes};
-ghost use Rattle.ps_lines.specs.Reading.{text_start, Gives, Reads, Tells};
+ghost use Rattle.ps_lines.specs.Reading.{text_start, while_at, Gives, Reads, Tells};
 ghost use Rattle.ps_trace.specs.declared.witness.Witness.{Witness};
 ghost use Rattle.ps_trace_text.specs.WitnessReading.{all_locals_at, globals_at, locals_at, step_at, values_at, version_at, witness_at};
 ghost use Rattle.ps_trace_text.specs.WitnessSpelling.{witness_lines, WitnessFits};
 
 use crate::due_thread::DueThread;
 use ps_list::Sequence;
-use ps_text::{Form, FormEnd, FormFault, Integer, Reader, Until, list, take_leaf, while_lines};
-use ps_trace::{Step, Witness};
+use ps_text::{FormEnd, FormFault, FormName, Integer, Reader, Until, list, take_leaf};
+use ps_trace::{Step, Steps, Witness};
 use std::alloc::Global;
 
 /// How many threads a witness may have.
@@ -80,20 +80,34 @@ fn take_all_locals<'a>(
 }
 
 // A line `step` with a thread and choices.
-struct StepLine;
+#[tactic(auto, unfolding(crate::specs::WitnessReading::step_at, ps_lines::specs::Steps::and_then))]
+fn take_step<'a>(alloc: Global, reader: &mut Reader<'a>) -> Result<Step, FormEnd>
+    ensures { Gives (λ x. x) result reader.new (step_at reader.old) }
+{
+    reader.line(b"step")?;
+    let thread = reader.natural32()?;
+    let choices = take_values(alloc, reader)?;
+    Ok(Step { thread, choices })
+}
 
-impl Form for StepLine {
-    type Value = Step;
-
-    ghost reading = { step_at };
-
-    #[tactic(auto, unfolding(crate::specs::WitnessReading::step_at, ps_lines::specs::Steps::and_then))]
-    fn take<'a>(alloc: Global, reader: &mut Reader<'a>) -> Result<Step, FormEnd> {
-        reader.line(b"step")?;
-        let thread = reader.natural32()?;
-        let choices = take_values(alloc, reader)?;
-        Ok(Step { thread, choices })
+// Such lines, as long as one follows, and at most `limit`.
+#[tactic(auto, using(ps_lines::proofs::Loop::whiles_none, ps_lines::proofs::Loop::whiles_more, ps_lines::proofs::Loop::whiles_stop, ps_lines::proofs::Loop::whiles_limit))]
+fn take_steps<'a>(alloc: Global, limit: u32, reader: &mut Reader<'a>) -> Result<Steps, FormEnd>
+    ensures { Gives (λ x. x) result reader.new
+        (while_at (codes "step") step_at limit reader.old) }
+{
+    let mut steps = Steps::new(alloc);
+    for _ in 0..limit {
+        if !reader.begins(b"step") {
+            return Ok(steps);
+        }
+        let step = take_step(alloc, reader)?;
+        steps.push(&step)?;
     }
+    if reader.begins(b"step") {
+        return Err(FormEnd::Fault(reader.line_fault(FormName::Limit)));
+    }
+    Ok(steps)
 }
 
 #[tactic(auto, unfolding(crate::specs::WitnessReading::witness_at, ps_lines::specs::Steps::and_then))]
@@ -108,8 +122,7 @@ fn whole(alloc: Global, bytes: &[u8], first: u32) -> Result<Witness, FormEnd>
     let globals = take_globals(alloc, &mut reader)?;
     let locals = take_all_locals(alloc, count, &mut reader)?;
     let locals = Sequence::from_list(locals);
-    let steps = while_lines::<StepLine>(alloc, b"step", MOST_STEPS, &mut reader)?;
-    let steps = Sequence::from_list(steps);
+    let steps = take_steps(alloc, MOST_STEPS, &mut reader)?;
     reader.only(b"end")?;
     reader.done()?;
     Ok(Witness {

@@ -9,7 +9,7 @@ use Rattle.ps_trace.proofs.replaying.replay.Goals as goal
 pub returns-then-initial-clause-fits : goal.returns-then-initial-clause-fits
 returns-then-initial-clause-fits c =
     let same : c.in_ok-state.state ≡ witness_state c.args.witness.now = search rules in
-    on_ok c.run_steps.result (λ f. fits_whole c.args.graph.now c.args.witness.now c.in_ok-state.state c.as_slice.result.now same c.as_slice.ensures c.in-Ok.ensures.fits f) c.run_steps.ensures.fits
+    on_ok c.run_steps.result (λ f. fits_whole c.args.graph.now c.args.witness.now c.in_ok-state.state same c.in-Ok.ensures.fits f) c.run_steps.ensures.fits
 
 pub returns-else-initial-clause-fits : goal.returns-else-initial-clause-fits
 returns-else-initial-clause-fits c =

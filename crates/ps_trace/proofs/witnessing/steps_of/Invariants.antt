@@ -5,4 +5,4 @@ use Rattle.ps_trace.proofs.Stepping.{AreStepped}
 use Rattle.ps_trace.proofs.witnessing.steps_of.Given as goal
 
 abbrev pub invariant-loop-letter : goal.invariant-loop-letter
-invariant-loop-letter l = AreStepped l.graph l.threads (known_values l.known) (pairs_in l.letters) l.steps.items l.first (pairs_in (drop l.letter-index l.letters))
+invariant-loop-letter l = AreStepped l.graph l.threads (known_values l.known) (pairs_in l.letters) l.steps l.first (pairs_in (drop l.letter-index l.letters))

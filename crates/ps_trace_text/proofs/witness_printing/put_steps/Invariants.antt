@@ -4,6 +4,6 @@ use Rattle.ps_lines.specs.Tokens.{line_bytes}
 use Rattle.ps_trace_text.specs.WitnessSpelling.{step_line}
 use Rattle.ps_trace_text.proofs.witness_printing.put_steps.Given as goal
 
-abbrev pub invariant-loop-step : goal.invariant-loop-step
-invariant-loop-step l =
-    l.out.items ++ flat_map (λ s. line_bytes (step_line s)) (drop l.step-index l.steps) ≡ l.fn.out.items ++ flat_map (λ s. line_bytes (step_line s)) l.steps
+abbrev pub invariant-loop-n : goal.invariant-loop-n
+invariant-loop-n l =
+    l.out.items ++ flat_map (λ s. line_bytes (step_line s)) (drop l.n l.steps) ≡ l.fn.out.items ++ flat_map (λ s. line_bytes (step_line s)) l.steps
