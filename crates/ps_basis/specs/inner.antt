@@ -1,3 +1,2 @@
 pub mod Index
 pub mod Indexed
-pub mod Tests

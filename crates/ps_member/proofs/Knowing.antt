@@ -13,7 +13,6 @@ use Rattle.std.proofs.lemmas.List.Kept.{IsStrictlySortedBy-filter}
 use Rattle.ps_atom.specs.Atoms.{atom_cmp}
 use Rattle.ps_atom.specs.declared.atom.Atom.{Atom}
 use Rattle.ps_basis.specs.Demands.{IsGiven}
-use Rattle.ps_basis.specs.inner.Tests.{is_initial_for}
 use Rattle.ps_cover.proofs.Testing.{all_from, all_to, any_from, any_to}
 use Rattle.ps_demand.proofs.Atoms.{atoms_exact, atoms_total}
 use Rattle.ps_demand.proofs.Giving.{demanded, demand_of}
@@ -25,7 +24,7 @@ use Rattle.ps_list.proofs.Mapped.{from_kept, kept}
 use Rattle.ps_list.proofs.Members.{cons_cases, here, nothing}
 use Rattle.ps_member.proofs.Walking.{walk_first, walk_less}
 use Rattle.ps_member.specs.declared.cut.Cut.{Cut}
-use Rattle.ps_member.specs.inner.Known.{are_among, is_among, is_initial_in, is_met}
+use Rattle.ps_member.specs.inner.Known.{are_among, is_among, is_initial_in, is_met, is_initial_for}
 use Rattle.ps_member.specs.inner.Walks.{IsWalkFrom, letter_of}
 use Rattle.ps_triple.proofs.Membership.{all_of, any_default}
 use Rattle.ps_triple.specs.Entries.{GivesAtom, HasInitial, false_atom}
