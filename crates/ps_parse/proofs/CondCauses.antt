@@ -9,7 +9,7 @@ use Rattle.ps_tree.specs.declared.cond.Cond.{Cond}
 use Rattle.ps_tree.specs.declared.cond.Cond.TheVariants as cond
 use Rattle.ps_tree.specs.declared.limit_name.LimitName.TheVariants as limit
 use Rattle.ps_parse.specs.declared.read_refusal.ReadRefusal.TheVariants.{Limit}
-use Rattle.ps_parse.specs.Causes.{Level, block, atomic_block, parens, negation, without_negations, closed, levels, levels_with, opens_level}
+use Rattle.ps_parse.specs.Causes.{Level, parens, negation, without_negations, closed, levels, levels_with, opens_level}
 use Rattle.ps_parse.specs.Inner.Conds.{members_at, conj_with, cond_with, opens_at, unary_at, cond_at, test_at, parens_at}
 use Rattle.ps_grammar.specs.Declarations.{most_levels}
 use Rattle.ps_grammar.specs.Names.{Names}

@@ -1,7 +1,7 @@
 -- The laws of conditions and tests.
-use Rattle.std.proofs.Common.{◌≡◌, ℕ, zero, suc, ◌-◌, ◌≤◌, Bool, true, false, ◌||◌, ◌⊎◌, inl, inr, List, [], ◌∷◌, ◌++◌, map, drop, Some, refl, sym, ap, subst, ◌∙◌, arith, append_assoc}
+use Rattle.std.proofs.Common.{◌≡◌, ℕ, zero, suc, ◌-◌, Bool, true, false, ◌||◌, ◌⊎◌, inl, inr, List, [], ◌∷◌, ◌++◌, map, drop, Some, refl, sym, ap, subst, ◌∙◌, arith, append_assoc}
 use Rattle.std.specs.Prelude.{◌↔◌}
-use Rattle.std.specs.List.{flat_map, All, AllByRecursion}
+use Rattle.std.specs.List.{flat_map, AllByRecursion}
 use Rattle.std.proofs.lemmas.Bool.{true≢false}
 use Rattle.std.proofs.lemmas.List.{append-nil}
 use Rattle.std.proofs.lemmas.List.Elements.{All-from_recursion, All-weaker, recursion_from_All}
@@ -13,8 +13,8 @@ use Rattle.ps_tree.specs.declared.cond.Cond.TheVariants as cond
 use Rattle.ps_tree.specs.declared.cond.Test.TheVariants as test
 use Rattle.ps_tree.specs.declared.limit_name.LimitName.TheVariants as limit
 use Rattle.ps_parse.specs.declared.read_refusal.ReadRefusal.TheVariants.{Limit}
-use Rattle.ps_grammar.specs.Grammar.{ProductText, number, name, number_name, name_number, SumText, RelationText, CondText, last_conj, or_else, ConjText, last_unary, and_also, UnaryText, negation, in_parens, relation, TestText, either, condition}
-use Rattle.ps_grammar.specs.Fits.{IsKnownName, ProductFits, SumTextFits, RelationFits, CondFits, ConjFits, UnaryFits, TestFits}
+use Rattle.ps_grammar.specs.Grammar.{ProductText, number, SumText, RelationText, CondText, last_conj, or_else, ConjText, last_unary, and_also, UnaryText, negation, in_parens, relation, TestText, either, condition}
+use Rattle.ps_grammar.specs.Fits.{ProductFits, SumTextFits, RelationFits, CondFits, ConjFits, UnaryFits, TestFits}
 use Rattle.ps_grammar.specs.Names.{Names}
 use Rattle.ps_grammar.specs.Spelling.{Piece, Mark, pieces, relation_pieces, cond_pieces, conj_pieces, unary_pieces, test_pieces}
 use Rattle.ps_grammar.specs.Trees.{relation_tree, gathered, cond_members, conj_members, unary_tree, cond_tree, test_tree}

@@ -1,7 +1,7 @@
 -- The laws of declarations, apart from how many rows hold at the start.
-use Rattle.std.proofs.Common.{◌≡◌, ◌≢◌, ℕ, suc, ◌+◌, ◌<◌, ◌≤◌, ℤ, Bool, true, false, ◌⊎◌, inl, inr, List, [], ◌∷◌, ◌++◌, length, Option, Some, None, refl, ap, subst, ◌∙◌, sym, arith}
+use Rattle.std.proofs.Common.{◌≡◌, ◌≢◌, ℕ, suc, ◌<◌, ◌≤◌, ℤ, Bool, true, false, ◌⊎◌, inl, inr, List, [], ◌∷◌, ◌++◌, length, Option, Some, None, refl, ap, subst, ◌∙◌, sym, arith}
 use Rattle.std.specs.Prelude.{nat_le}
-use Rattle.std.specs.List.{flat_map, All, AllByRecursion}
+use Rattle.std.specs.List.{flat_map, AllByRecursion}
 use Rattle.std.proofs.lemmas.Bool.{leb-false, leb-true, true≢false}
 use Rattle.std.proofs.lemmas.List.Elements.{All-from_recursion, All-weaker, recursion_from_All}
 use Rattle.ps_term.specs.declared.var.Var.{Var}
@@ -18,12 +18,11 @@ use Rattle.ps_grammar.specs.Fits.{RelationFits, IsNew}
 use Rattle.ps_grammar.specs.Grammar.{RelationText, ValueText, ItemText, global, local, init}
 use Rattle.ps_grammar.specs.Names.{variable_of_name}
 use Rattle.ps_grammar.specs.Numbers.{number_value, signed}
-use Rattle.ps_grammar.specs.Spelling.{Piece, NumberPiece, NamePiece, Mark, pieces, minus_pieces, relation_pieces, value_pieces, more_relations, item_pieces}
+use Rattle.ps_grammar.specs.Spelling.{Piece, NumberPiece, NamePiece, Mark, minus_pieces, relation_pieces, value_pieces, more_relations, item_pieces}
 use Rattle.ps_grammar.specs.Trees.{relation_tree, declared_value, with_item}
 use Rattle.ps_grammar.specs.Words.{Word}
-use Rattle.ps_parse.specs.Inner.Blocks.{ended_at}
 use Rattle.ps_parse.specs.Inner.Items.{is_some_variable, refused_name, new_name_at, signed_number_ahead, declared_value_ahead, global_at, local_at, init_at, counted_item_at, with_rows}
-use Rattle.ps_parse.specs.Inner.Reading.{WordsAhead, next_is, next_word, after_word, words_while}
+use Rattle.ps_parse.specs.Inner.Reading.{WordsAhead, next_word, after_word}
 use Rattle.ps_parse.specs.Inner.Sums.{init_sign_of, relation_at}
 use Rattle.ps_parse.specs.Reads.{HasInitSigns, refusal_place}
 use Rattle.ps_parse.proofs.Steps.{begins_piece, Always, next_test, bind_bind}
@@ -170,7 +169,7 @@ relations_join (r ∷ rs) rest = (refl, refl)
 init_joins : Joins {C = RelationText} (λ rs. flat_map and_pieces rs ++ Mark kind.Semicolon ∷ []) (Then NoSum) Any Any
 init_joins = record { first = λ c rest h. relations_join c.1 rest; second = λ c rest h. tt }
 
-abbrev Allowed : RelationText → Type 0
+abbrev pub Allowed : RelationText → Type 0
 Allowed r = r.sign ≢ sign.NotEqual
 
 init_guards : (n : ℕ) (d : Declared) → Guards (suc n) (init_at d n) (λ (c : RelationText × List RelationText). item_pieces (init c.0 c.1)) (λ c. HasInitSigns (init c.0 c.1)) (λ c. NamesFit d (init c.0 c.1)) (λ c. declared_tree d (init c.0 c.1)) Any

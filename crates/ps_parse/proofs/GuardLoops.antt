@@ -10,7 +10,7 @@ use Rattle.ps_parse.specs.Inner.Reading.{WordsAhead, ReadWords, words_while}
 use Rattle.ps_lines.specs.Steps.{◌>>=◌}
 use Rattle.ps_grammar.specs.Spelling.{Piece, pieces}
 use Rattle.ps_parse.proofs.Steps.{places, Alike, IsTest}
-use Rattle.ps_parse.proofs.Guards.{IsGrammar, Keeps, keeps_bind, keeps_end, told, Against, Went, Stood, Made, Guards, went_places, went_as, stood_as, example_of}
+use Rattle.ps_parse.proofs.Guards.{Keeps, keeps_bind, keeps_end, told, Against, Went, Stood, Made, Guards, went_places, went_as, stood_as, example_of}
 use Rattle.ps_parse.proofs.GuardSteps.{room_left, pair_pieces, Both, Joins, went_then, stood_then, stood_first}
 
 -- A repetition goes on where a text begins, which is of a word at least, and a text may follow another.

@@ -14,7 +14,7 @@ use Rattle.ps_lines.specs.Steps.{◌>>=◌}
 use Rattle.ps_grammar.specs.Spelling.{Piece, Mark, piece_of_kind, pieces}
 use Rattle.ps_parse.specs.Reads.{refusal_place}
 use Rattle.ps_parse.proofs.Steps.{places, begins_piece, Always, Alike, IsTest, next_test, mapped, both, closed, IsMark}
-use Rattle.ps_parse.proofs.Guards.{IsGrammar, Keeps, keeps_bind, keeps_end, keeps_more, alike_next, pieces_both, pieces_are, told, resumes_more, Any, Went, Against, Stood, Made, Guards, GuardsWhere, guards_where, went_places, against_so, went_as, stood_as, Example, Resumed, stood_here, unfit_here, mark_sort, one_piece, IsWord, word_example, word_law, unfit_word}
+use Rattle.ps_parse.proofs.Guards.{IsGrammar, Keeps, keeps_bind, keeps_end, keeps_more, alike_next, pieces_both, pieces_are, told, resumes_more, Any, Went, Against, Stood, Made, Guards, GuardsWhere, guards_where, went_places, against_so, went_as, stood_as, Example, Resumed, stood_here, unfit_here, mark_sort, one_piece, word_example, word_law, unfit_word}
 
 -- fewer words are left after a front
 pub room_left : (n m : ℕ) (ws front vs : List Word) (ps : List Piece) → length ws < n → ws ≡ front ++ vs → pieces front ≡ ps → n ≤ length ps + m → length vs < m

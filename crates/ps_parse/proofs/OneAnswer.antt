@@ -1,19 +1,14 @@
 -- Words are one program at most, have one first fault at most, and not both; and no refusal stands after that fault, nor
 -- at it but for a second name of a product.
-use Rattle.std.proofs.Common.{◌≡◌, ◌≢◌, inl, inr, List, [], ◌∷◌, ◌++◌, Result, Ok, refl, sym, ap, subst, ◌∙◌, append_assoc}
-use Rattle.std.specs.List.{AllByRecursion}
+use Rattle.std.proofs.Common.{◌≡◌, inl, inr, List, [], ◌∷◌, ◌++◌, Result, Ok, refl, sym, ap, subst, ◌∙◌, append_assoc}
 use Rattle.std.proofs.lemmas.List.{append-nil, append_cancel_left}
-use Rattle.std.proofs.lemmas.List.Elements.{All-from_recursion, recursion_from_All}
+use Rattle.std.proofs.lemmas.List.Elements.{All-from_recursion}
 use Rattle.ps_token.specs.declared.place.Place.{Place}
 use Rattle.ps_tree.specs.declared.program.Program.{Program}
 use Rattle.ps_parse.specs.declared.read_refusal.ReadRefusal.{ReadRefusal}
-use Rattle.ps_tree.specs.declared.relation.Sign.TheVariants as sign
-use Rattle.ps_grammar.specs.Grammar.{RelationText, ItemText, global, local, init}
 use Rattle.ps_grammar.specs.Words.{Word}
 use Rattle.ps_parse.specs.Kinds.{place_of_next}
-use Rattle.ps_grammar.specs.Declarations.{Declared, names_of, nothing_declared}
-use Rattle.ps_grammar.specs.Trees.{with_item}
-use Rattle.ps_grammar.specs.Fits.{RelationFits, ItemFits, ItemsFit}
+use Rattle.ps_grammar.specs.Declarations.{nothing_declared}
 use Rattle.ps_grammar.specs.Programs.{IsProgramText}
 use Rattle.ps_parse.specs.Reads.{HasInitSigns, IsText, BeginAlike, IsFirstGrammarFault, PassesGrammar, StandsInText}
 use Rattle.ps_parse.proofs.ProgramGuards.{items_signs, program_of_again}

@@ -1,8 +1,8 @@
 -- The laws of items with their rows, and of whole programs: a text is read as a program exactly where it is one, and a fault
 -- of the grammar stands at the first word that no text of it goes on with.
-use Rattle.std.proofs.Common.{◌≡◌, ◌≢◌, inl, inr, ℕ, zero, suc, ◌+◌, ◌-◌, ◌<◌, ◌≤◌, Bool, true, false, ◌||◌, List, [], ◌∷◌, ◌++◌, length, drop, Some, None, Result, Ok, Err, refl, sym, ap, subst, ◌∙◌, arith}
+use Rattle.std.proofs.Common.{◌≡◌, ◌≢◌, inl, ℕ, zero, suc, ◌+◌, ◌-◌, ◌<◌, ◌≤◌, Bool, true, false, ◌||◌, List, [], ◌∷◌, ◌++◌, length, drop, Some, None, Result, Ok, Err, refl, sym, ap, subst, ◌∙◌, arith}
 use Rattle.std.specs.Prelude.{nat_lt, if◌then◌else◌}
-use Rattle.std.specs.List.{flat_map, All, AllByRecursion}
+use Rattle.std.specs.List.{flat_map, AllByRecursion}
 use Rattle.std.proofs.lemmas.Bool.{ltb-false, ltb-true}
 use Rattle.std.proofs.lemmas.List.{append-nil, drop-drop}
 use Rattle.std.proofs.lemmas.List.Elements.{All-from_recursion, All-weaker, recursion_from_All}
@@ -18,10 +18,9 @@ use Rattle.ps_grammar.specs.Grammar.{RelationText, ItemText, global, local, init
 use Rattle.ps_grammar.specs.Words.{Word}
 use Rattle.ps_parse.specs.Inner.Reading.{WordsAhead, next_is, place_at, after_word, words_end_from}
 use Rattle.ps_lines.specs.Steps.{◌>>=◌}
-use Rattle.ps_grammar.specs.Names.{Names}
 use Rattle.ps_parse.specs.Inner.Blocks.{block_at}
 use Rattle.ps_grammar.specs.Declarations.{Declared, most_rows, most_levels, nothing_declared, names_of}
-use Rattle.ps_grammar.specs.Fits.{RelationFits, RestFits, ItemFits, ItemsFit}
+use Rattle.ps_grammar.specs.Fits.{RelationFits, ItemFits, ItemsFit}
 use Rattle.ps_grammar.specs.Programs.{IsProgramText}
 use Rattle.ps_grammar.specs.Spelling.{Piece, Mark, pieces, item_pieces, block_pieces, program_pieces}
 use Rattle.ps_grammar.specs.Trees.{block_trees, with_item, with_items, program_tree}
@@ -33,13 +32,10 @@ use Rattle.ps_parse.proofs.GuardSteps.{room_left, pair_pieces, Both, Joins, went
 use Rattle.ps_parse.proofs.GuardLoops.{GoesOn, Ends, turn_goes, turn_ends, turn_fails, turn_stops}
 use Rattle.ps_parse.proofs.SumGuards.{relation_text}
 use Rattle.ps_parse.proofs.StmtGuards.{BlockFits, block_guards, block_example}
-use Rattle.ps_parse.proofs.DeclarationGuards.{NamesFit, declared_tree, counted_guards, init_item_okay}
+use Rattle.ps_parse.proofs.DeclarationGuards.{Allowed, NamesFit, counted_guards, init_item_okay}
 use Rattle.ps_parse.proofs.RowLaws.{rows_of_item, item_rows_again}
 
 -- ---- an item, with its rows
-
-abbrev Allowed : RelationText → Type 0
-Allowed s = s.sign ≢ sign.NotEqual
 
 abbrev RelationOkay : Declared → RelationText → Type 0
 RelationOkay d s = RelationFits (names_of d) s × (s.sign ≢ sign.NotEqual)

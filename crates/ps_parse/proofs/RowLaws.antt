@@ -19,14 +19,14 @@ use Rattle.ps_grammar.specs.Declarations.{rows_of_sign, rows_of_value}
 use Rattle.ps_parse.specs.Inner.Items.{rows_counted_on, rows_from, declared_value_ahead, item_rows}
 use Rattle.ps_grammar.specs.Spelling.{Piece, NumberPiece, NamePiece, Mark, piece_of_kind, pieces, product_pieces, minus_pieces, plus_or_minus, further_pieces, sum_pieces, sign_kind, relation_pieces, value_pieces, more_relations, item_pieces}
 use Rattle.ps_parse.specs.Inner.Sums.{init_sign_of, relation_at}
-use Rattle.ps_grammar.specs.Trees.{declared_value, rows_of_relations, relation_tree}
+use Rattle.ps_grammar.specs.Trees.{declared_value, rows_of_relations}
 use Rattle.ps_grammar.specs.Words.{Word}
 use Rattle.ps_parse.specs.Inner.Reading.{WordsAhead, next_is, word_from, next_word, after_word}
 use Rattle.ps_parse.specs.Kinds.{begins_with}
 use Rattle.ps_parse.proofs.Steps.{one_kind, Takes, takes_then, takes_so, takes_pieces, begins_piece, begins_pieces, Not, Always, Finds, Gets, found_bind, found_more, gets_bind, Alike, IsMark}
 use Rattle.ps_parse.proofs.Guards.{Went, again_of, found_of, keeps_finds, took, name_sort, word_law, word_again, mark_again, mark_found}
 use Rattle.ps_parse.proofs.SumGuards.{SignedText, further_piece, begins_adding, carries, no_both, init_signs, every_init_sign, no_init_sign, SignIn, relation_guards, RelationEnds, all_known}
-use Rattle.ps_parse.proofs.DeclarationGuards.{value_guards, value_ends}
+use Rattle.ps_parse.proofs.DeclarationGuards.{value_guards}
 
 -- ---- what is counted is at least what the words give, and no more where no `&&` follows
 
@@ -123,12 +123,13 @@ global_again at x v rest h stop =
     by_value at None q stop = let g = again_of (value_guards (suc (length at.words))) at None rest (omega arith) tt tt q stop in record { value = g.value; ok = g.ok; is = g.is.0 }
     by_value at (Some v) q stop = let g = again_of (value_guards (suc (length at.words))) at (Some v) rest (omega arith) tt tt q tt in record { value = g.value; ok = g.ok; is = g.is.0 }
 
-counts : {A : Type 0} (rows : A → ℕ) (rest : WordsAhead → ℕ) (r : Result (A × WordsAhead) ReadRefusal) (Q : A × WordsAhead → Type 0) (total : ℕ) → Gets r Q → ((y : A × WordsAhead) → Q y → rows y.0 + rest y.1 ≡ total) → rows_counted_on rows rest r ≡ total
-counts rows rest r Q total h k = ap (rows_counted_on rows rest) h.ok ∙ k h.value h.is
-
 global_rows : (at : WordsAhead) (x : List ℕ) (v : Option ValueText) (rest : List Piece) → pieces at.words ≡ Mark kind.Global ∷ NamePiece x ∷ (value_pieces v ++ rest) → (begins_piece kind.Equal (value_pieces v ++ rest) ≡ begins_piece kind.Equal (value_pieces v))
     → rows_counted_on rows_of_value (λ _. 0) (after_word kind.Global (after_word kind.Name declared_value_ahead) at) ≡ rows_of_value (declared_value v)
-global_rows at x v rest h stop = counts _ _ _ _ _ (global_again at x v rest h stop) (λ y p. let same : rows_of_value y.0 ≡ rows_of_value (declared_value v) = ap rows_of_value p in omega (arith, same))
+global_rows at x v rest h stop =
+    let g = global_again at x v rest h stop in
+    let all : rows_counted_on rows_of_value (λ _. 0) (after_word kind.Global (after_word kind.Name declared_value_ahead) at) ≡ rows_of_value g.value.0 + 0 = ap (rows_counted_on rows_of_value (λ _. 0)) g.ok in
+    let same : rows_of_value g.value.0 ≡ rows_of_value (declared_value v) = ap rows_of_value g.is in
+    omega (arith, all, same)
 
 value_apart : (v : Option ValueText) (rest : List Piece) → begins_piece kind.Equal (value_pieces v ++ (Mark kind.Semicolon ∷ rest)) ≡ begins_piece kind.Equal (value_pieces v)
 value_apart None rest = refl

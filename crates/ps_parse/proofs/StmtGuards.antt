@@ -21,15 +21,14 @@ use Rattle.ps_grammar.specs.Trees.{cond_tree, test_tree, place_of_first, stmt_tr
 use Rattle.ps_grammar.specs.Words.{Word}
 use Rattle.ps_parse.specs.Inner.Blocks.{assign_at, ended_at, havoc_at, cond_stmt_at, skip_at, atomic_at, else_at, if_at, while_stmt_at, kind_at, stmt_at, has_more, block_at}
 use Rattle.ps_parse.specs.Inner.Conds.{parens_at}
-use Rattle.ps_parse.specs.Inner.Reading.{WordsAhead, ReadWords, next_is, place_at, next_word, after_word}
+use Rattle.ps_parse.specs.Inner.Reading.{ReadWords, next_is, place_at, next_word, after_word}
 use Rattle.ps_parse.specs.Kinds.{is_kind, place_of_next}
-use Rattle.ps_lines.specs.Steps.{◌>>=◌}
 use Rattle.ps_parse.proofs.Steps.{places, begins_piece, Not, Always, IsTest, next_test, IsMark, of_pair, pair_up, three_is, bind_bind}
 use Rattle.ps_parse.proofs.Guards.{keeps_bind, keeps_end, pieces_both, Any, Then, Guards, GuardsWhere, guards_where, Example, example_of, resumed_mark}
 use Rattle.ps_parse.proofs.GuardSteps.{guards_same, guards_as, guards_so, mapped_guards, refusing_guards, nothing_guards, any_joins, both_guards, after_guards, alone_guards, word_refused_guards, closed_guards, OfSort, choice_guards, last_guards}
 use Rattle.ps_parse.proofs.GuardLoops.{GoesOn, Ends, list_trees, while_guards}
-use Rattle.ps_parse.proofs.SumGuards.{all_always, variable_guards, sum_guards, sum_text, NoSum, no_sum}
-use Rattle.ps_parse.proofs.CondGuards.{sum_known, one_less, CondEnds, cond_text, cond_guards, parens_guards, test_example}
+use Rattle.ps_parse.proofs.SumGuards.{all_always, variable_guards, sum_guards, sum_text, no_sum}
+use Rattle.ps_parse.proofs.CondGuards.{sum_known, one_less, cond_text, cond_guards, parens_guards, test_example}
 
 -- ---- simple statements
 

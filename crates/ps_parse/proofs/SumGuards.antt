@@ -29,9 +29,9 @@ use Rattle.ps_parse.specs.Kinds.{is_kind}
 use Rattle.ps_grammar.specs.Spelling.{Piece, NamePiece, NumberPiece, Mark, piece_of_kind, pieces, product_pieces, minus_pieces, plus_or_minus, further_pieces, sum_pieces, sign_kind, relation_pieces}
 use Rattle.ps_parse.specs.Reads.{PassesGrammar, refusal_place}
 use Rattle.ps_parse.proofs.Steps.{same_kind, kind_of, kind_of_piece, begins_piece, begins_pieces, Not, Always, next_test, either_test, IsMark, mapped, both, three_is, pair_up, of_pair, bind_same, bind_bind, bind_end}
-use Rattle.ps_parse.proofs.Guards.{IsGrammar, Keeps, keeps_bind, keeps_end, first_alike, none_alike, Any, Then, Went, Stood, Made, Guards, Example, stood_here, example_of, pieces_are, name_sort, number_sort, one_piece, word_law, word_guards, word_is, unfit_word}
-use Rattle.ps_parse.proofs.GuardSteps.{guards_same, guards_as, guards_so, mapped_guards, refusing_guards, nothing_guards, Both, Joins, any_joins, both_guards, after_guards, OfSort, choosing_guards, choice_guards}
-use Rattle.ps_parse.proofs.GuardLoops.{GoesOn, Ends, list_trees, cons, more_joins, while_guards}
+use Rattle.ps_parse.proofs.Guards.{IsGrammar, Keeps, keeps_bind, keeps_end, first_alike, none_alike, Any, Stood, Made, Guards, Example, stood_here, example_of, pieces_are, name_sort, number_sort, one_piece, word_law, word_guards, word_is, unfit_word}
+use Rattle.ps_parse.proofs.GuardSteps.{guards_same, guards_as, mapped_guards, refusing_guards, nothing_guards, Joins, any_joins, both_guards, after_guards, OfSort, choosing_guards, choice_guards}
+use Rattle.ps_parse.proofs.GuardLoops.{GoesOn, list_trees, more_joins, while_guards}
 
 -- ---- names
 
