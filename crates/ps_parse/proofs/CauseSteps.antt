@@ -98,39 +98,35 @@ test_clash w f e no' h = absurd (true≢false (sym h ∙ ap f e ∙ no'))
 
 -- some words of the kind have a cause of a refusal
 abbrev pub has_causes : TokenKind → Bool
-has_causes k = is_kind k kind.Name || (is_kind k kind.While || (opens_item k || opens_level k))
+has_causes k = (is_kind k kind.Name || is_kind k kind.While) || (opens_item k || opens_level k)
+
+-- a word that is neither a name nor `while`
+pub marked : (back : List Word) (w : Word) (ahead : List Word) (k : TokenKind) → (is_kind k kind.Name || is_kind k kind.While) ≡ false → w.kind ≡ k
+    → (opens_item w.kind ≡ true → (rows : ℕ) → GivesRows (w ∷ ahead) rows → rows_passed back + rows ≤ most_rows) → (opens_level w.kind ≡ true → length (levels back) < most_levels) → Allows back w ahead
+marked back w ahead k h e rows depth =
+    let a : (is_kind k kind.Name ≡ false) × (is_kind k kind.While ≡ false) = or_parts _ _ h in
+    record {
+      known = λ i. kind_clash w e a.0 i;
+      new = λ i. kind_clash w e a.0 i;
+      linear = λ i. kind_clash w e a.0 i;
+      globals = λ i. kind_clash w e a.0 i;
+      locals = λ i. kind_clash w e a.0 i;
+      loops = λ i. kind_clash w e a.1 i;
+      rows = rows;
+      depth = depth;
+    }
 
 pub plain : (back : List Word) (w : Word) (ahead : List Word) (k : TokenKind) → has_causes k ≡ false → w.kind ≡ k → Allows back w ahead
 plain back w ahead k h e =
-    let a : (is_kind k kind.Name ≡ false) × ((is_kind k kind.While || (opens_item k || opens_level k)) ≡ false) = or_parts _ _ h in
-    let b : (is_kind k kind.While ≡ false) × ((opens_item k || opens_level k) ≡ false) = or_parts _ _ a.1 in
-    let c : (opens_item k ≡ false) × (opens_level k ≡ false) = or_parts _ _ b.1 in
-    record {
-      known = λ i. kind_clash w e a.0 i;
-      new = λ i. kind_clash w e a.0 i;
-      linear = λ i. kind_clash w e a.0 i;
-      globals = λ i. kind_clash w e a.0 i;
-      locals = λ i. kind_clash w e a.0 i;
-      loops = λ i. kind_clash w e b.0 i;
-      rows = λ i. test_clash w opens_item e c.0 i;
-      depth = λ i. test_clash w opens_level e c.1 i;
-    }
+    let a : ((is_kind k kind.Name || is_kind k kind.While) ≡ false) × ((opens_item k || opens_level k) ≡ false) = or_parts _ _ h in
+    let b : (opens_item k ≡ false) × (opens_level k ≡ false) = or_parts _ _ a.1 in
+    marked back w ahead k a.0 e (λ i. test_clash w opens_item e b.0 i) (λ i. test_clash w opens_level e b.1 i)
 
 -- `{`, `(` and `!`, where fewer levels are open than may be
-pub opening : (back : List Word) (w : Word) (ahead : List Word) (k : TokenKind) → (is_kind k kind.Name || (is_kind k kind.While || opens_item k)) ≡ false → length (levels back) < most_levels → w.kind ≡ k → Allows back w ahead
+pub opening : (back : List Word) (w : Word) (ahead : List Word) (k : TokenKind) → (is_kind k kind.Name || is_kind k kind.While || opens_item k) ≡ false → length (levels back) < most_levels → w.kind ≡ k → Allows back w ahead
 opening back w ahead k h few e =
-    let a : (is_kind k kind.Name ≡ false) × ((is_kind k kind.While || opens_item k) ≡ false) = or_parts _ _ h in
-    let b : (is_kind k kind.While ≡ false) × (opens_item k ≡ false) = or_parts _ _ a.1 in
-    record {
-      known = λ i. kind_clash w e a.0 i;
-      new = λ i. kind_clash w e a.0 i;
-      linear = λ i. kind_clash w e a.0 i;
-      globals = λ i. kind_clash w e a.0 i;
-      locals = λ i. kind_clash w e a.0 i;
-      loops = λ i. kind_clash w e b.0 i;
-      rows = λ i. test_clash w opens_item e b.1 i;
-      depth = λ i. few;
-    }
+    let a : ((is_kind k kind.Name || is_kind k kind.While) ≡ false) × (opens_item k ≡ false) = or_parts _ _ h in
+    marked back w ahead k a.0 e (λ i. test_clash w opens_item e a.1 i) (λ i. few)
 
 -- `while`, where no atomic block is open
 pub looping : (back : List Word) (w : Word) (ahead : List Word) → ¬ Contains (levels back) atomic_block → w.kind ≡ kind.While → Allows back w ahead
@@ -233,13 +229,7 @@ pub least_grammar : (back ws : List Word) → Linear back ws → (other : ReadRe
 least_grammar back [] l other h = absurd h
 least_grammar back (w ∷ ws) l (refusal.NotLinear p) h =
     absurd (true≢false (sym (ap (λ (b : Bool). b && is_kind w.kind kind.Name) h.1 ∙ same_kind w.kind kind.Name h.0) ∙ l))
-least_grammar back (w ∷ ws) l (refusal.Grammar p) h = absurd h
-least_grammar back (w ∷ ws) l (refusal.UnknownName p) h = omega arith
-least_grammar back (w ∷ ws) l (refusal.Twice p) h = omega arith
-least_grammar back (w ∷ ws) l (refusal.LoopInAtomic p) h = omega arith
-least_grammar back (w ∷ ws) l (refusal.Limit p what) h = omega arith
-least_grammar back (w ∷ ws) l (refusal.Token p) h = omega arith
-least_grammar back (w ∷ ws) l (refusal.Memory e) h = omega arith
+least_grammar back (w ∷ ws) l other h = omega arith
 
 pub grammar_blamed : {t : Whole} {names : Names} {back ws : List Word} {end : Place} → In t names back (record { words = ws; end = end }) → Linear back ws → Blamed t (refusal.Grammar (place_of_next ws end))
 grammar_blamed {back = back} {ws = ws} {end = end} h l = blame (refusal.Grammar (place_of_next ws end)) h refl tt (least_grammar back ws l)
@@ -250,10 +240,8 @@ least_limit back w ws k e c (refusal.UnknownName p) h = kind_clash w e (or_parts
 least_limit back w ws k e c (refusal.Twice p) h = kind_clash w e (or_parts _ _ c).0 h.0
 least_limit back w ws k e c (refusal.NotLinear p) h = kind_clash w e (or_parts _ _ c).0 h.0
 least_limit back w ws k e c (refusal.LoopInAtomic p) h = kind_clash w e (or_parts _ _ c).1 h.0
-least_limit back w ws k e c (refusal.Limit p what) h = omega arith
 least_limit back w ws k e c (refusal.Grammar p) h = absurd h
-least_limit back w ws k e c (refusal.Token p) h = omega arith
-least_limit back w ws k e c (refusal.Memory e') h = omega arith
+least_limit back w ws k e c other h = omega arith
 
 pub depth_blamed : {t : Whole} {names : Names} {back : List Word} {w : Word} {ws : List Word} {end : Place} (k : TokenKind) → In t names back (record { words = w ∷ ws; end = end }) → w.kind ≡ k → (is_kind k kind.Name || is_kind k kind.While) ≡ false → opens_level k ≡ true → most_levels ≤ length (levels back) → Blamed t (refusal.Limit w.place limit.Depth)
 depth_blamed {back = back} {w = w} {ws = ws} k h e c o many = blame (refusal.Limit w.place limit.Depth) h refl (ap opens_level e ∙ o, many) (least_limit back w ws k e c)
@@ -262,11 +250,8 @@ least_loop : (back : List Word) (w : Word) (ws : List Word) → w.kind ≡ kind.
 least_loop back w ws e (refusal.UnknownName p) h = kind_clash w e refl h.0
 least_loop back w ws e (refusal.Twice p) h = kind_clash w e refl h.0
 least_loop back w ws e (refusal.NotLinear p) h = kind_clash w e refl h.0
-least_loop back w ws e (refusal.LoopInAtomic p) h = omega arith
-least_loop back w ws e (refusal.Limit p what) h = omega arith
 least_loop back w ws e (refusal.Grammar p) h = absurd h
-least_loop back w ws e (refusal.Token p) h = omega arith
-least_loop back w ws e (refusal.Memory e') h = omega arith
+least_loop back w ws e other h = omega arith
 
 pub loop_blamed : {t : Whole} {names : Names} {back : List Word} {w : Word} {ws : List Word} {end : Place} → In t names back (record { words = w ∷ ws; end = end }) → w.kind ≡ kind.While → Contains (levels back) atomic_block → Blamed t (refusal.LoopInAtomic w.place)
 loop_blamed {back = back} {w = w} {ws = ws} h e inside = blame (refusal.LoopInAtomic w.place) h refl (e, inside) (least_loop back w ws e)
@@ -274,12 +259,7 @@ loop_blamed {back = back} {w = w} {ws = ws} h e inside = blame (refusal.LoopInAt
 least_unknown : (back : List Word) (w : Word) (ws : List Word) → is_after_factor back ≡ false → (other : ReadRefusal) → IsCauseAt back w ws other → 2 ≤ rank other
 least_unknown back w ws l (refusal.NotLinear p) h = absurd (true≢false (sym h.1 ∙ l))
 least_unknown back w ws l (refusal.Grammar p) h = absurd h
-least_unknown back w ws l (refusal.UnknownName p) h = omega arith
-least_unknown back w ws l (refusal.Twice p) h = omega arith
-least_unknown back w ws l (refusal.LoopInAtomic p) h = omega arith
-least_unknown back w ws l (refusal.Limit p what) h = omega arith
-least_unknown back w ws l (refusal.Token p) h = omega arith
-least_unknown back w ws l (refusal.Memory e) h = omega arith
+least_unknown back w ws l other h = omega arith
 
 pub unknown_blamed : {t : Whole} {names : Names} {back : List Word} {w : Word} {ws : List Word} {end : Place} → In t names back (record { words = w ∷ ws; end = end }) → w.kind ≡ kind.Name → is_declaration back ≡ false → is_after_factor back ≡ false → ¬ Contains (declared_in back) w.text → Blamed t (refusal.UnknownName w.place)
 unknown_blamed {back = back} {w = w} {ws = ws} h e outside l none = blame (refusal.UnknownName w.place) h refl (e, outside, none) (least_unknown back w ws l)

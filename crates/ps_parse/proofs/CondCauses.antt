@@ -9,7 +9,7 @@ use Rattle.ps_tree.specs.declared.cond.Cond.{Cond}
 use Rattle.ps_tree.specs.declared.cond.Cond.TheVariants as cond
 use Rattle.ps_tree.specs.declared.limit_name.LimitName.TheVariants as limit
 use Rattle.ps_parse.specs.declared.read_refusal.ReadRefusal.TheVariants.{Limit}
-use Rattle.ps_parse.specs.Causes.{Level, block, atomic_block, parens, negation, without_negations, closed, levels, levels_with, opens_level}
+use Rattle.ps_parse.specs.Causes.{Level, parens, negation, without_negations, closed, levels, levels_with, opens_level}
 use Rattle.ps_parse.specs.Inner.Conds.{members_at, conj_with, cond_with, opens_at, unary_at, cond_at, test_at, parens_at}
 use Rattle.ps_grammar.specs.Declarations.{most_levels}
 use Rattle.ps_grammar.specs.Names.{Names}
@@ -20,7 +20,7 @@ use Rattle.ps_parse.specs.Kinds.{is_kind, begins_with, place_of_next}
 use Rattle.ps_lines.specs.Steps.{◌>>=◌}
 use Rattle.ps_parse.proofs.Steps.{one_kind}
 use Rattle.ps_parse.proofs.Guards.{Keeps, keeps_end, keeps_more}
-use Rattle.ps_parse.proofs.RelationLaws.{all_signs}
+use Rattle.ps_parse.proofs.SumGuards.{all_signs}
 use Rattle.ps_parse.proofs.CauseSteps.{Whole, In, Blamed, opens_item, has_causes, plain, opening, Fresh, joins, fresh_word, fresh_star, level_word, fresh_linear, depth_blamed, then_keeps, if_keeps, after_keeps, found_word, word_keeps}
 use Rattle.ps_parse.proofs.SumCauses.{Past, LevelsAre, past_as, mark_keeps, while_keeps, relation_keeps}
 
@@ -33,12 +33,10 @@ Settles ls back = without_negations (levels back) ≡ ls
 settled_again : (ls : List Level) → without_negations (without_negations ls) ≡ without_negations ls
 settled_again [] = refl
 settled_again (negation ∷ ls) = settled_again ls
-settled_again (block ∷ ls) = refl
-settled_again (atomic_block ∷ ls) = refl
-settled_again (parens ∷ ls) = refl
+settled_again (l ∷ ls) = refl
 
 -- a word that opens a level, where fewer are open than may be
-pub opening_keeps : {t : Whole} {names : Names} {back : List Word} {at : WordsAhead} {after : Bool} {ls : List Level} (k : TokenKind) → (is_kind k kind.Name || (is_kind k kind.While || opens_item k)) ≡ false → joins k ≡ false → is_kind k kind.Atomic ≡ false → length ls < most_levels
+pub opening_keeps : {t : Whole} {names : Names} {back : List Word} {at : WordsAhead} {after : Bool} {ls : List Level} (k : TokenKind) → (is_kind k kind.Name || is_kind k kind.While || opens_item k) ≡ false → joins k ≡ false → is_kind k kind.Atomic ≡ false → length ls < most_levels
     → In t names back at → Fresh after back → levels back ≡ ls → Keeps (next_word k at) (Past t names (LevelsAre (levels_with after k ls))) (Blamed t)
 opening_keeps {back = back} {at = at} {after = after} {ls = ls} k c j n few h f o =
     let room : length (levels back) < most_levels = subst (λ (xs : List Level). length xs < most_levels) (sym o) few in

@@ -1,8 +1,11 @@
--- The laws of refusals of declarations.
-use Rattle.std.proofs.Common.{◌≡◌, ◌≢◌, ℕ, suc, ◌+◌, ◌<◌, ℤ, Bool, true, false, ◌||◌, List, [], ◌∷◌, ◌++◌, length, Option, Some, None, Err, refl, ap, ◌∙◌, sym, arith}
-use Rattle.std.specs.Prelude.{nat_lt, nat_le, if◌then◌else◌}
-use Rattle.std.specs.List.{All, AllByRecursion}
-use Rattle.std.proofs.lemmas.List.Elements.{All-from_recursion, All-head, All-tail}
+-- The laws of declarations, apart from how many rows hold at the start.
+use Rattle.std.proofs.Common.{◌≡◌, ◌≢◌, ℕ, suc, ◌<◌, ◌≤◌, ℤ, Bool, true, false, ◌⊎◌, inl, inr, List, [], ◌∷◌, ◌++◌, length, Option, Some, None, refl, ap, subst, ◌∙◌, sym, arith}
+use Rattle.std.specs.Prelude.{nat_le}
+use Rattle.std.specs.List.{flat_map, AllByRecursion}
+use Rattle.std.proofs.lemmas.Bool.{leb-false, leb-true, true≢false}
+use Rattle.std.proofs.lemmas.List.Elements.{All-from_recursion, All-weaker, recursion_from_All}
+use Rattle.ps_term.specs.declared.var.Var.{Var}
+use Rattle.ps_token.specs.declared.place.Place.{Place}
 use Rattle.ps_token.specs.declared.token_kind.TokenKind.TheVariants as kind
 use Rattle.ps_tree.specs.declared.limit_name.LimitName.{LimitName}
 use Rattle.ps_tree.specs.declared.limit_name.LimitName.TheVariants as limit
@@ -10,79 +13,129 @@ use Rattle.ps_tree.specs.declared.relation.Relation.{Relation}
 use Rattle.ps_tree.specs.declared.relation.Sign.TheVariants as sign
 use Rattle.ps_parse.specs.declared.read_refusal.ReadRefusal.{ReadRefusal}
 use Rattle.ps_parse.specs.declared.read_refusal.ReadRefusal.TheVariants.{Limit, Twice}
-use Rattle.ps_grammar.specs.Grammar.{RelationText, ValueText, global, local, init}
-use Rattle.ps_grammar.specs.Words.{Word}
-use Rattle.ps_parse.specs.Inner.Reading.{WordsAhead, next_is, place_at, after_word, words_while}
+use Rattle.ps_grammar.specs.Declarations.{Declared, most_globals, most_locals, names_of}
+use Rattle.ps_grammar.specs.Fits.{RelationFits, IsNew}
+use Rattle.ps_grammar.specs.Grammar.{RelationText, ValueText, ItemText, global, local, init}
 use Rattle.ps_grammar.specs.Names.{variable_of_name}
-use Rattle.ps_grammar.specs.Numbers.{number_value}
+use Rattle.ps_grammar.specs.Numbers.{number_value, signed}
+use Rattle.ps_grammar.specs.Spelling.{Piece, NumberPiece, NamePiece, Mark, minus_pieces, relation_pieces, value_pieces, more_relations, item_pieces}
+use Rattle.ps_grammar.specs.Trees.{relation_tree, declared_value, with_item}
+use Rattle.ps_grammar.specs.Words.{Word}
+use Rattle.ps_parse.specs.Inner.Items.{is_some_variable, refused_name, new_name_at, signed_number_ahead, declared_value_ahead, global_at, local_at, init_at, counted_item_at, with_rows}
+use Rattle.ps_parse.specs.Inner.Reading.{WordsAhead, next_word, after_word}
 use Rattle.ps_parse.specs.Inner.Sums.{init_sign_of, relation_at}
-use Rattle.ps_parse.specs.Inner.Blocks.{ended_at}
-use Rattle.ps_grammar.specs.Declarations.{Declared, most_globals, most_locals, most_rows, names_of}
-use Rattle.ps_parse.specs.Inner.Items.{is_some_variable, refused_name, new_name_at, signed_number_ahead, declared_value_ahead, global_at, local_at, init_at, item_rows, counted_item_at, with_rows, item_at, has_item}
-use Rattle.ps_grammar.specs.Spelling.{Piece, Mark, relation_pieces, value_pieces, item_pieces}
 use Rattle.ps_parse.specs.Reads.{HasInitSigns, refusal_place}
-use Rattle.ps_parse.proofs.Steps.{Not, Always, next_test}
-use Rattle.ps_parse.proofs.Sequences.{pair_up, paired}
-use Rattle.ps_parse.proofs.RelationLaws.{init_signs, every_init_sign, no_init_sign, SignIn}
-use Rattle.ps_parse.proofs.DeclarationLaws.{number_sort, value_sort, NotGlobal, not_global, global_sort, local_sort, relations_go_on, number_pieces, negated, with_global, with_local, with_inits, more_is, relations_join}
-use Rattle.ps_parse.proofs.Guards.{IsGrammar, example_of, placed_word, Keeps, keeps_bind, keeps_end, Went, Stood, Guards, GuardsWhere, Example, Resumed, resumed_mark, stood_here, stood_at_word, pieces_are, word_guards}
-use Rattle.ps_parse.proofs.GuardSteps.{guards_same, guards_as, mapped_guards, nothing_guards, both_guards, both_guards_more, after_guards, after_guards_more, choice_guards}
-use Rattle.ps_parse.proofs.GuardLoops.{while_guards}
-use Rattle.ps_parse.proofs.SumGuards.{name_example, number_example, relation_guards, relation_text, relation_example}
-use Rattle.ps_parse.proofs.Scopes.{name_piece}
+use Rattle.ps_parse.proofs.Steps.{begins_piece, Always, next_test, bind_bind}
+use Rattle.ps_parse.proofs.Guards.{IsGrammar, Keeps, keeps_bind, keeps_end, pieces_are, Any, Then, Stood, Made, Guards, Example, example_of, name_sort, number_sort, IsWord, word_law, word_guards, word_is, unfit_word}
+use Rattle.ps_parse.proofs.GuardSteps.{guards_same, guards_as, guards_so, mapped_guards, Joins, any_joins, both_guards, both_guards_more, after_guards, after_guards_more, OfSort, choice_guards}
+use Rattle.ps_parse.proofs.GuardLoops.{GoesOn, Ends, while_guards}
+use Rattle.ps_parse.proofs.SumGuards.{name_piece, name_example, number_example, opt_pieces, OptFits, opt_tree, OptEnds, opt_guards, init_signs, every_init_sign, no_init_sign, SignIn, relation_guards, relation_text, relation_example, NoSum, no_sum}
+use Rattle.ps_parse.proofs.CondGuards.{listed, relation_known}
 use Rattle.ps_parse.proofs.StmtGuards.{ended_guards}
 
--- ---- names
+-- ---- a new name
 
-new_guards : (n : ℕ) (d : Declared) (count limit' : ℕ) (what : LimitName) → Guards n (new_name_at d count limit' what) name_piece Always Always
+abbrev NewFits : Declared → ℕ → ℕ → List ℕ → Type 0
+NewFits d count most x = IsNew d x × (count < most)
+
+not_declared : (o : Option Var) → is_some_variable o ≡ false → o ≡ None
+not_declared None h = refl
+not_declared (Some v) h = absurd cc
+
+new_guards : (n : ℕ) (d : Declared) (count most : ℕ) (what : LimitName) → Guards n (new_name_at d count most what) name_piece Always (NewFits d count most) (λ x ps. x) Any
 unfolding new_name_at
-new_guards n d count limit' what = record {
+new_guards n d count most what = record {
   stuck = λ at room.
-      keeps_bind _ _ _ _ _ _ (placed_word n kind.Name at room)
-      (λ w p. by_tests at w p.0 p.1 (is_some_variable (variable_of_name (names_of d) w.0.text)) (nat_le limit' count))
+      keeps_bind _ _ _ _ _ _ (word_law kind.Name NamePiece (λ t. t) (NewFits d count most) name_sort at)
+      (λ w p. by_tests at w p (is_some_variable (variable_of_name (names_of d) w.0.text)) (nat_le most count) refl refl)
       (λ e q. q);
 }
   where
-    at_name : (at : WordsAhead) (w : Word × WordsAhead) (e : ReadRefusal) → Went name_piece Always Always at w.1 → place_at at ≡ w.0.place → refusal_place e ≡ Some w.0.place → (IsGrammar e → ⊥) → Stood name_piece Always Always at e
-    at_name at w e p place is other = stood_at_word kind.Name at w.1 w.0.place e p place is other p.text tt [] (pieces_are p.front [] (name_piece p.text) [] p.spelled refl)
+    at_name : (at : WordsAhead) (w : Word × WordsAhead) (e : ReadRefusal) → IsWord NamePiece (λ t. t) at w → refusal_place e ≡ Some w.0.place → (IsGrammar e → ⊥) → (NewFits d count most w.0.text → ⊥) → Stood name_piece Always (NewFits d count most) Any at e
+    at_name at w e p is other unfit =
+        unfit_word NamePiece (λ t. t) at w e p is other p.went.text tt [] (pieces_are p.went.front [] (name_piece p.went.text) [] p.went.spelled refl)
+        (λ c tail ok fit stop h. unfit (subst (NewFits d count most) (word_is kind.Name NamePiece (λ t. t) name_sort at w p c tail h) fit))
 
-    by_tests : (at : WordsAhead) (w : Word × WordsAhead) → Went name_piece Always Always at w.1 → place_at at ≡ w.0.place → (t u : Bool) → Keeps {A = List ℕ × WordsAhead} (refused_name t u what w) (λ y. Went name_piece Always Always at y.1) (Stood name_piece Always Always at)
-    by_tests at w p place true u = record { is = at_name at w (Twice w.0.place) p place refl (λ g. g) }
-    by_tests at w p place false true = record { is = at_name at w (Limit w.0.place what) p place refl (λ g. g) }
-    by_tests at w p place false false = keeps_end _ _ _ p
+    by_tests : (at : WordsAhead) (w : Word × WordsAhead) → IsWord NamePiece (λ t. t) at w → (t u : Bool) → is_some_variable (variable_of_name (names_of d) w.0.text) ≡ t → nat_le most count ≡ u
+        → Keeps (refused_name t u what w) (Made name_piece Always (NewFits d count most) (λ x ps. x) Any at) (Stood name_piece Always (NewFits d count most) Any at)
+    by_tests at w p true u a b = record { is = at_name at w (Twice w.0.place) p refl (λ g. g) (λ fit. true≢false (sym a ∙ ap is_some_variable fit.0)) }
+    by_tests at w p false true a b = record { is = at_name at w (Limit w.0.place what) p refl (λ g. g) (λ fit. let le : most ≤ count = leb-true most count b in absurd (omega (arith, le, fit.1))) }
+    by_tests at w p false false a b = keeps_end _ _ _ (record { went = p.went; fit = subst (NewFits d count most) (sym p.text) (not_declared _ a, leb-false most count b); is = sym p.text })
 
 -- ---- values
 
-number_guards : (n : ℕ) → Guards n signed_number_ahead number_pieces Always Always
-unfolding signed_number_ahead
-number_guards n =
-    choice_guards number_pieces Always Always (next_test kind.Minus)
-    (λ d. record { negative = true; digits = d }) (λ d. refl) (λ d h. tt) (λ d. record { negative = false; digits = d }) (λ d. refl) (λ d h. tt)
-    (λ v ok. number_sort v.negative v.digits) (λ rest h. tt) (λ rest h. tt)
-    (mapped_guards negated (after_guards kind.Minus (λ u. refl) (word_guards n kind.Number) number_example))
-    (mapped_guards (λ (w : Word). number_value w.text) (word_guards n kind.Number))
+abbrev number_pieces : ValueText → List Piece
+number_pieces v = minus_pieces v.negative ++ NumberPiece v.digits ∷ []
 
-value_guards : (n : ℕ) → Guards n declared_value_ahead value_pieces Always (Not kind.Equal)
+abbrev value_number : ValueText → ℤ
+value_number v = (signed v.negative (number_value v.digits, None)).0
+
+minus_sort : (negative : Bool) (digits : List ℕ) → OfSort (begins_piece kind.Minus) true number_pieces Any (λ d. record { negative = true; digits = d }) Always (record { negative = negative; digits = digits }) ⊎ OfSort (begins_piece kind.Minus) false number_pieces Any (λ d. record { negative = false; digits = d }) Always (record { negative = negative; digits = digits })
+minus_sort true digits = inl (record { text = digits; same = refl; fine = tt; tells = λ rest h. refl })
+minus_sort false digits = inr (record { text = digits; same = refl; fine = tt; tells = λ rest h. refl })
+
+number_guards : (n : ℕ) → Guards n signed_number_ahead number_pieces Always Always (λ v ps. value_number v) Any
+unfolding signed_number_ahead after_word
+number_guards n =
+    choice_guards number_pieces Always Always (λ v ps. value_number v) Any (next_test kind.Minus) (λ d. record { negative = true; digits = d }) (λ d h. tt) (λ d. record { negative = false; digits = d }) (λ d h. tt)
+    (λ v ok. minus_sort v.negative v.digits) (λ d rest h. tt) (λ d rest h. tt)
+    (guards_same _ (λ at. sym (bind_bind (next_word kind.Minus at) _ _)) (after_guards kind.Minus (λ u. refl) number_example (word_guards n kind.Number NumberPiece (λ t. t) number_sort (λ d. (signed true (number_value d, None)).0))))
+    (word_guards n kind.Number NumberPiece (λ t. t) number_sort number_value)
+
+value_spelled : (v : Option ValueText) → opt_pieces kind.Equal number_pieces v ≡ value_pieces v
+value_spelled None = refl
+value_spelled (Some v) = refl
+
+value_said : (v : Option ValueText) (ps : List Place) → opt_tree (λ w qs. value_number w) v ps ≡ declared_value v
+value_said None ps = refl
+value_said (Some v) ps = refl
+
+value_unfit : (v : Option ValueText) → OptFits (λ (w : ValueText). Unit {0}) v
+value_unfit None = tt
+value_unfit (Some v) = tt
+
+pub value_guards : (n : ℕ) → Guards n declared_value_ahead value_pieces Always Always (λ v ps. declared_value v) (OptEnds kind.Equal)
 unfolding declared_value_ahead
 value_guards n =
-    choice_guards value_pieces Always (Not kind.Equal) (next_test kind.Equal) (λ v. Some v) (λ v. refl) (λ v h. tt) (λ (u : Unit {0}). None) (λ u. refl) (λ u h. tt) value_sort (λ rest h. tt) (λ rest h. tt)
-    (mapped_guards Some (after_guards kind.Equal (λ u. refl) (number_guards n) (example_of (record { negative = false; digits = [] }) tt refl)))
-    (nothing_guards n None Always)
+    guards_as (λ c. c) (λ c. c)
+    (record { back = λ c. refl; spelled = value_spelled; fine = λ c h. tt; unfine = λ c h. tt; fit = λ c h. tt; unfit = λ v h. value_unfit v; said = value_said; stops = λ c rest h. h })
+    (opt_guards kind.Equal (λ u. refl) (example_of (record { negative = false; digits = [] }) tt refl) (number_guards n))
 
 -- ---- declarations
 
-global_guards : (n : ℕ) (d : Declared) → Guards n (global_at d) (λ (c : List ℕ × Option ValueText). item_pieces (global c.0 c.1)) Always Always
+-- An item fits, its rows and its signs apart.
+abbrev pub NamesFit : Declared → ItemText → Type 0
+NamesFit d (global x v) = IsNew d x × (length d.globals < most_globals)
+NamesFit d (local x) = IsNew d x × (length d.locals < most_locals)
+NamesFit d (init r rs) = AllByRecursion (RelationFits (names_of d)) (r ∷ rs)
+
+-- what is declared after an item, its rows not counted
+abbrev pub declared_tree : Declared → ItemText → List Place → Declared
+declared_tree d i ps = with_rows d.rows (with_item d i)
+
+abbrev pub with_global : Declared → List ℕ → Option ℤ → Declared
+with_global d x v = record { globals = d.globals ++ record { name = x; value = v } ∷ []; locals = d.locals; inits = d.inits; rows = d.rows }
+
+abbrev with_local : Declared → List ℕ → Declared
+with_local d x = record { globals = d.globals; locals = d.locals ++ x ∷ []; inits = d.inits; rows = d.rows }
+
+abbrev with_inits : Declared → Relation → List Relation → Declared
+with_inits d r rs = record { globals = d.globals; locals = d.locals; inits = d.inits ++ r ∷ rs; rows = d.rows }
+
+pub value_ends : (v : Option ValueText) (rest : List Piece) → OptEnds kind.Equal v (Mark kind.Semicolon ∷ rest)
+value_ends None rest = refl
+value_ends (Some v) rest = tt
+
+global_guards : (n : ℕ) (d : Declared) → Guards n (global_at d) (λ (c : List ℕ × Option ValueText). item_pieces (global c.0 c.1)) Always (λ c. NamesFit d (global c.0 c.1)) (λ c. declared_tree d (global c.0 c.1)) Any
 unfolding global_at
 global_guards n d =
-    guards_as _ Always (λ c. c) (λ c. c) (λ c. refl) (λ c. refl) (λ c h. tt) (λ c h. (tt, tt))
-    (guards_same _ (paired (with_global d) (after_word kind.Global (new_name_at d (length d.globals) most_globals limit.Globals)) (ended_at declared_value_ahead))
-    (mapped_guards (λ (p : List ℕ × Option ℤ). with_global d p.0 p.1)
-    (both_guards pair_up (after_guards kind.Global (λ u. refl) (new_guards n d (length d.globals) most_globals limit.Globals) name_example) (ended_guards (λ rest. refl) (value_guards n)) (example_of None tt refl) (λ v rest h. tt))))
+    guards_so Always (λ c. NamesFit d (global c.0 c.1)) Any (λ c h. tt) (λ c h. (tt, tt)) (λ c h. h.0) (λ c h. (h, tt)) (λ c rest h. h)
+    (both_guards (with_global d) any_joins (example_of None tt refl) (after_guards kind.Global (λ u. refl) name_example (new_guards n d (length d.globals) most_globals limit.Globals)) (ended_guards value_ends (value_guards n)))
 
-local_guards : (n : ℕ) (d : Declared) → Guards n (local_at d) (λ x. item_pieces (local x)) Always Always
+local_guards : (n : ℕ) (d : Declared) → Guards n (local_at d) (λ x. item_pieces (local x)) Always (λ x. NamesFit d (local x)) (λ x. declared_tree d (local x)) Any
 unfolding local_at
 local_guards n d =
-    mapped_guards (with_local d) (after_guards kind.Local (λ u. refl) (ended_guards (λ rest. tt) (new_guards n d (length d.locals) most_locals limit.Locals)) (example_of [] tt refl))
+    mapped_guards (with_local d) (after_guards kind.Local (λ u. refl) (example_of [] tt refl) (ended_guards (λ c rest. tt) (new_guards n d (length d.locals) most_locals limit.Locals)))
 
 abbrev InitOk : RelationText → Type 0
 InitOk r = SignIn init_sign_of r.sign
@@ -90,72 +143,78 @@ InitOk r = SignIn init_sign_of r.sign
 init_example : Example relation_pieces InitOk
 init_example = relation_example init_sign_of refl
 
-abbrev IsInitSign : RelationText → Type 0
-IsInitSign s = s.sign ≢ sign.NotEqual
+init_relation : (n : ℕ) (d : Declared) → Guards n (relation_at init_sign_of (Some (names_of d)) n) relation_pieces InitOk (RelationFits (names_of d)) (λ r ps. relation_tree (names_of d) r) (Then NoSum)
+init_relation n d =
+    guards_so InitOk (RelationFits (names_of d)) (Then NoSum) (λ r h. h) (λ r h. h) (λ r h. (relation_known (names_of d) r).0 h) (λ r h. (relation_known (names_of d) r).1 h) (λ r rest h. no_sum r.right rest h)
+    (relation_guards n (Some (names_of d)) init_sign_of init_signs refl)
 
-init_guards : (n : ℕ) (d : Declared) → Guards (suc n) (init_at d n) (λ (c : RelationText × List RelationText). item_pieces (init c.0 c.1)) (λ c. HasInitSigns (init c.0 c.1)) Always
+abbrev and_pieces : RelationText → List Piece
+and_pieces r = Mark kind.And ∷ relation_pieces r
+
+more_is : (rs : List RelationText) → flat_map and_pieces rs ≡ more_relations rs
+more_is [] = refl
+more_is (r ∷ rs) = ap (λ (ps : List Piece). and_pieces r ++ ps) (more_is rs)
+
+relations_go_on : GoesOn (begins_piece kind.And) and_pieces (Then NoSum)
+relations_go_on = record { starts = λ r rest. refl; joins = λ r s rest. (refl, refl); some = λ r. omega arith }
+
+relations_end : (rs : List RelationText) (rest : List Piece) → Ends (begins_piece kind.And) (Then NoSum) rs (Mark kind.Semicolon ∷ rest)
+relations_end [] rest = refl
+relations_end (r ∷ rs) rest = (refl, (refl, refl))
+
+relations_join : (rs : List RelationText) (rest : List Piece) → NoSum ((flat_map and_pieces rs ++ Mark kind.Semicolon ∷ []) ++ rest)
+relations_join [] rest = (refl, refl)
+relations_join (r ∷ rs) rest = (refl, refl)
+
+init_joins : Joins {C = RelationText} (λ rs. flat_map and_pieces rs ++ Mark kind.Semicolon ∷ []) (Then NoSum) Any Any
+init_joins = record { first = λ c rest h. relations_join c.1 rest; second = λ c rest h. tt }
+
+abbrev pub Allowed : RelationText → Type 0
+Allowed r = r.sign ≢ sign.NotEqual
+
+init_guards : (n : ℕ) (d : Declared) → Guards (suc n) (init_at d n) (λ (c : RelationText × List RelationText). item_pieces (init c.0 c.1)) (λ c. HasInitSigns (init c.0 c.1)) (λ c. NamesFit d (init c.0 c.1)) (λ c. declared_tree d (init c.0 c.1)) Any
 unfolding init_at
 init_guards n d =
-    guards_as _ _ (λ c. c) (λ c. c) (λ c. refl)
-    (λ c. ap (λ (ps : List Piece). Mark kind.Init ∷ (relation_pieces c.0 ++ (ps ++ Mark kind.Semicolon ∷ []))) (more_is c.1))
-    (λ c h. All-from_recursion IsInitSign (c.0 ∷ c.1) (no_init_sign c.0.sign h.0, each c.1 h.1))
-    (λ c h. (every_init_sign c.0.sign (All-head IsInitSign c.0 c.1 h), back c.1 (All-tail IsInitSign c.0 c.1 h)))
-    (guards_same _ (paired (with_inits d) (after_word kind.Init (relation_at init_sign_of (Some (names_of d)) n)) (ended_at (words_while (next_is kind.And) (after_word kind.And (relation_at init_sign_of (Some (names_of d)) n)) n)))
-    (mapped_guards (λ (p : Relation × List Relation). with_inits d p.0 p.1)
-    (both_guards_more pair_up (after_guards_more kind.Init (λ u. refl) (relation_guards n (Some (names_of d)) init_sign_of init_signs refl) init_example) (λ c. omega arith)
-    (ended_guards (λ rest. (refl, (refl, refl))) (while_guards (next_test kind.And) relations_go_on (after_guards kind.And (λ u. refl) (relation_guards n (Some (names_of d)) init_sign_of init_signs refl) init_example)))
-    (example_of [] tt refl)
-    (λ rs rest h. relations_join rs rest))))
-  where
-    each : (rs : List RelationText) → AllByRecursion InitOk rs → AllByRecursion (λ (s : RelationText). s.sign ≢ sign.NotEqual) rs
-    each [] h = tt
-    each (r ∷ rs) h = (no_init_sign r.sign h.0, each rs h.1)
-
-    back : (rs : List RelationText) → All (λ (s : RelationText). s.sign ≢ sign.NotEqual) rs → AllByRecursion InitOk rs
-    back [] h = tt
-    back (r ∷ rs) h = (every_init_sign r.sign (All-head (λ (s : RelationText). s.sign ≢ sign.NotEqual) r rs h), back rs (All-tail (λ (s : RelationText). s.sign ≢ sign.NotEqual) r rs h))
+    guards_as (λ c. c) (λ c. c)
+    (record {
+      back = λ c. refl;
+      spelled = λ c. ap (λ (ps : List Piece). Mark kind.Init ∷ (relation_pieces c.0 ++ (ps ++ Mark kind.Semicolon ∷ []))) (more_is c.1);
+      fine = λ c h. All-weaker InitOk Allowed (λ r f. no_init_sign r.sign f) (c.0 ∷ c.1) (All-from_recursion InitOk (c.0 ∷ c.1) h);
+      unfine = λ c h. recursion_from_All InitOk (c.0 ∷ c.1) (All-weaker Allowed InitOk (λ r f. every_init_sign r.sign f) (c.0 ∷ c.1) h);
+      fit = λ c h. h;
+      unfit = λ c h. h;
+      said = λ c ps. ap (with_inits d (relation_tree (names_of d) c.0)) (listed and_pieces (relation_tree (names_of d)) c.1 _);
+      stops = λ c rest h. h;
+    })
+    (both_guards_more (with_inits d) init_joins (λ c. omega arith) (example_of [] tt refl) (after_guards_more kind.Init (λ u. refl) init_example (init_relation n d))
+    (ended_guards relations_end (while_guards (next_test kind.And) relations_go_on (after_guards kind.And (λ u. refl) init_example (init_relation n d)))))
 
 -- ---- items
 
-counted_guards : (n : ℕ) (d : Declared) → Guards (suc n) (counted_item_at d n) item_pieces HasInitSigns Always
+abbrev NotGlobal : ItemText → Type 0
+NotGlobal (global x v) = ⊥
+NotGlobal i = HasInitSigns i
+
+not_global : (i : ItemText) → NotGlobal i → HasInitSigns i
+not_global (global x v) h = tt
+not_global (local x) h = h
+not_global (init r rs) h = h
+
+global_sort : (i : ItemText) → HasInitSigns i → OfSort (begins_piece kind.Global) true item_pieces Any (λ (c : List ℕ × Option ValueText). global c.0 c.1) Always i ⊎ OfSort (begins_piece kind.Global) false item_pieces Any (λ (j : ItemText). j) NotGlobal i
+global_sort (global x v) ok = inl (record { text = (x, v); same = refl; fine = tt; tells = λ rest h. refl })
+global_sort (local x) ok = inr (record { text = local x; same = refl; fine = ok; tells = λ rest h. refl })
+global_sort (init r rs) ok = inr (record { text = init r rs; same = refl; fine = ok; tells = λ rest h. refl })
+
+local_sort : (i : ItemText) → NotGlobal i → OfSort (begins_piece kind.Local) true item_pieces Any local Always i ⊎ OfSort (begins_piece kind.Local) false item_pieces Any (λ (c : RelationText × List RelationText). init c.0 c.1) (λ c. HasInitSigns (init c.0 c.1)) i
+local_sort (global x v) ok = absurd ok
+local_sort (local x) ok = inl (record { text = x; same = refl; fine = tt; tells = λ rest h. refl })
+local_sort (init r rs) ok = inr (record { text = (r, rs); same = refl; fine = ok; tells = λ rest h. refl })
+
+pub counted_guards : (n : ℕ) (d : Declared) → Guards (suc n) (counted_item_at d n) item_pieces HasInitSigns (NamesFit d) (declared_tree d) Any
 unfolding counted_item_at
 counted_guards n d =
-    choice_guards item_pieces HasInitSigns Always (next_test kind.Global)
-    (λ c. global c.0 c.1) (λ c. refl) (λ c h. tt) (λ i. i) (λ i. refl) (not_global HasInitSigns) (global_sort HasInitSigns) (λ rest h. tt) (λ rest h. tt)
-    (global_guards (suc n) d)
-    (choice_guards item_pieces (NotGlobal HasInitSigns) Always (next_test kind.Local)
-    local (λ c. refl) (λ c h. tt) (λ c. init c.0 c.1) (λ c. refl) (λ c h. h) (local_sort HasInitSigns) (λ rest h. tt) (λ rest h. tt)
-    (local_guards (suc n) d) (init_guards n d))
+    choice_guards item_pieces HasInitSigns (NamesFit d) (declared_tree d) Any (next_test kind.Global) (λ c. global c.0 c.1) (λ c h. tt) (λ i. i) not_global global_sort (λ c rest h. tt) (λ i rest h. tt) (global_guards (suc n) d)
+    (choice_guards item_pieces NotGlobal (NamesFit d) (declared_tree d) Any (next_test kind.Local) local (λ c h. tt) (λ c. init c.0 c.1) (λ c h. h) local_sort (λ x rest h. tt) (λ c rest h. tt) (local_guards (suc n) d) (init_guards n d))
 
-global_item : Example item_pieces HasInitSigns
-global_item = example_of (global [] None) tt refl
-
-local_item : Example item_pieces HasInitSigns
-local_item = example_of (local []) tt refl
-
-init_item : Example item_pieces HasInitSigns
-init_item = example_of (init relation_text []) (All-from_recursion IsInitSign (relation_text ∷ []) (no_init_sign sign.Less refl, tt)) refl
-
--- an item that begins as the one that is refused
-item_resumed : (at : WordsAhead) (refused : ReadRefusal) → has_item at ≡ true → Resumed item_pieces HasInitSigns at.words refused
-unfolding global_item local_item init_item
-item_resumed at refused h = by_global (next_is kind.Global at) refl
-  where
-    by_local : (t : Bool) → next_is kind.Local at ≡ t → next_is kind.Global at ≡ false → Resumed item_pieces HasInitSigns at.words refused
-    by_local true e off = resumed_mark kind.Local (λ u. refl) at.words refused e local_item refl
-    by_local false e off =
-        let on : next_is kind.Init at ≡ true = sym (ap (λ (t : Bool). t || next_is kind.Local at || next_is kind.Init at) off ∙ ap (λ (t : Bool). t || next_is kind.Init at) e) ∙ h in
-        resumed_mark kind.Init (λ u. refl) at.words refused on init_item refl
-
-    by_global : (t : Bool) → next_is kind.Global at ≡ t → Resumed item_pieces HasInitSigns at.words refused
-    by_global true e = resumed_mark kind.Global (λ u. refl) at.words refused e global_item refl
-    by_global false e = by_local (next_is kind.Local at) refl e
-
-pub item_guards : (n : ℕ) (d : Declared) → GuardsWhere has_item (suc n) (item_at d n) item_pieces HasInitSigns Always
-unfolding item_at
-item_guards n d = record { stuck = λ at room on. by_test at room on (nat_lt most_rows (d.rows + item_rows n at)) }
-  where
-    by_test : (at : WordsAhead) → length at.words < suc n → has_item at ≡ true → (t : Bool)
-        → Keeps {A = Declared × WordsAhead} (if t then Err (Limit (place_at at) limit.Init) else counted_item_at (with_rows (d.rows + item_rows n at) d) n at) (λ y. Went item_pieces HasInitSigns Always at y.1) (Stood item_pieces HasInitSigns Always at)
-    by_test at room on true = record { is = stood_here at (Limit (place_at at) limit.Init) (item_resumed at (Limit (place_at at) limit.Init) on) refl (λ g. absurd g) }
-    by_test at room on false = (counted_guards n (with_rows (d.rows + item_rows n at) d)).stuck at room
+pub init_item_okay : HasInitSigns (init relation_text [])
+init_item_okay = All-from_recursion Allowed (relation_text ∷ []) (no_init_sign sign.Less refl, tt)

@@ -23,13 +23,13 @@ use Rattle.ps_grammar.specs.Words.{Word}
 use Rattle.ps_parse.specs.Inner.Reading.{WordsAhead, ReadWords, next_is, word_from, next_word, after_word, words_while}
 use Rattle.ps_parse.specs.Kinds.{is_kind, begins_with, place_of_next}
 use Rattle.ps_parse.proofs.Steps.{Finds, found_if}
-use Rattle.ps_parse.proofs.RelationLaws.{init_signs}
-use Rattle.ps_parse.proofs.DeclarationLaws.{with_global}
+use Rattle.ps_parse.proofs.SumGuards.{init_signs}
+use Rattle.ps_parse.proofs.DeclarationGuards.{with_global}
 use Rattle.ps_parse.proofs.Guards.{Keeps, keeps_end, keeps_found, keeps_more}
 use Rattle.ps_parse.proofs.ItemRows.{ones, weight, count_of_weight, Tallies, item_tallies}
 use Rattle.ps_parse.proofs.RowLaws.{rows_given, rows_counted}
 use Rattle.ps_parse.proofs.NamesDeclared.{has_name, Knows, knows_none, knows_global, knows_local, contains_named, named_contains, contains_known, not_contains}
-use Rattle.ps_parse.proofs.CauseSteps.{Whole, In, Blamed, opens_item, Allows, no_cause, kind_clash, test_clash, has_causes, stepped, Fresh, joins, fresh_word, level_word, blame, fresh_linear, least_limit, then_keeps, if_keeps, after_keeps, found_word}
+use Rattle.ps_parse.proofs.CauseSteps.{Whole, In, Blamed, opens_item, Allows, no_cause, kind_clash, test_clash, marked, has_causes, stepped, Fresh, joins, fresh_word, level_word, blame, fresh_linear, least_limit, then_keeps, if_keeps, after_keeps, found_word}
 use Rattle.ps_parse.proofs.SumCauses.{Past, LevelsAre, mark_keeps, while_keeps, relation_keeps}
 
 -- ---- between two words
@@ -139,11 +139,7 @@ least_twice : (back : List Word) (w : Word) (ws : List Word) → is_declaration 
 least_twice back w ws d f (refusal.UnknownName p) h = absurd (true≢false (sym d ∙ h.1))
 least_twice back w ws d f (refusal.NotLinear p) h = absurd (true≢false (sym h.1 ∙ f))
 least_twice back w ws d f (refusal.Grammar p) h = absurd h
-least_twice back w ws d f (refusal.Twice p) h = omega arith
-least_twice back w ws d f (refusal.LoopInAtomic p) h = omega arith
-least_twice back w ws d f (refusal.Limit p what) h = omega arith
-least_twice back w ws d f (refusal.Token p) h = omega arith
-least_twice back w ws d f (refusal.Memory e) h = omega arith
+least_twice back w ws d f other h = omega arith
 
 least_full : (back : List Word) (w : Word) (ws : List Word) → w.kind ≡ kind.Name → is_declaration back ≡ true → is_after_factor back ≡ false → ¬ Contains (declared_in back) w.text → (other : ReadRefusal) → IsCauseAt back w ws other → 5 ≤ rank other
 least_full back w ws e d f new (refusal.UnknownName p) h = absurd (true≢false (sym d ∙ h.1))
@@ -151,9 +147,7 @@ least_full back w ws e d f new (refusal.NotLinear p) h = absurd (true≢false (s
 least_full back w ws e d f new (refusal.Grammar p) h = absurd h
 least_full back w ws e d f new (refusal.Twice p) h = absurd (new h.2)
 least_full back w ws e d f new (refusal.LoopInAtomic p) h = kind_clash w e refl h.0
-least_full back w ws e d f new (refusal.Limit p what) h = omega arith
-least_full back w ws e d f new (refusal.Token p) h = omega arith
-least_full back w ws e d f new (refusal.Memory e') h = omega arith
+least_full back w ws e d f new other h = omega arith
 
 -- the limits of names that are kept
 record HasRoom (back : List Word) : Type 0 where
@@ -240,22 +234,12 @@ word_is k (w ∷ ws) end = found_if (is_kind w.kind k) _ _ _ (record { is = refl
 record RowsFit (back ws : List Word) : Type 0 where
   pub is : (rows : ℕ) → GivesRows ws rows → rows_passed back + rows ≤ most_rows
 
-item_allows : (back : List Word) (w : Word) (ahead : List Word) (k : TokenKind) → (is_kind k kind.Name || (is_kind k kind.While || opens_level k)) ≡ false → RowsFit back (w ∷ ahead) → w.kind ≡ k → Allows back w ahead
+item_allows : (back : List Word) (w : Word) (ahead : List Word) (k : TokenKind) → (is_kind k kind.Name || is_kind k kind.While || opens_level k) ≡ false → RowsFit back (w ∷ ahead) → w.kind ≡ k → Allows back w ahead
 item_allows back w ahead k h fit e =
-    let a : (is_kind k kind.Name ≡ false) × ((is_kind k kind.While || opens_level k) ≡ false) = or_parts _ _ h in
-    let b : (is_kind k kind.While ≡ false) × (opens_level k ≡ false) = or_parts _ _ a.1 in
-    record {
-      known = λ i. kind_clash w e a.0 i;
-      new = λ i. kind_clash w e a.0 i;
-      linear = λ i. kind_clash w e a.0 i;
-      globals = λ i. kind_clash w e a.0 i;
-      locals = λ i. kind_clash w e a.0 i;
-      loops = λ i. kind_clash w e b.0 i;
-      rows = λ i. fit.is;
-      depth = λ i. test_clash w opens_level e b.1 i;
-    }
+    let a : ((is_kind k kind.Name || is_kind k kind.While) ≡ false) × (opens_level k ≡ false) = or_parts _ _ h in
+    marked back w ahead k a.0 e (λ i. fit.is) (λ i. test_clash w opens_level e a.1 i)
 
-item_word : {t : Whole} {names : Names} {back : List Word} {at : WordsAhead} (k : TokenKind) → (is_kind k kind.Name || (is_kind k kind.While || opens_level k)) ≡ false → Stands t names back at → RowsFit back at.words
+item_word : {t : Whole} {names : Names} {back : List Word} {at : WordsAhead} (k : TokenKind) → (is_kind k kind.Name || is_kind k kind.While || opens_level k) ≡ false → Stands t names back at → RowsFit back at.words
     → Keeps (next_word k at) (λ y. (y.0.kind ≡ k) × In t names (y.0 ∷ back) y.1) (Blamed t)
 unfolding next_word
 item_word {back = back} {at = at} k h s fit =

@@ -18,9 +18,10 @@ use Rattle.ps_grammar.specs.Trees.{declared_value, rows_of_relations, with_item}
 use Rattle.ps_grammar.specs.Words.{Word}
 use Rattle.ps_parse.specs.Inner.Reading.{WordsAhead, place_at}
 use Rattle.ps_parse.specs.Kinds.{is_kind}
-use Rattle.ps_parse.proofs.Steps.{kind_of, kind_of_piece, takes_pieces, ahead_so, Finds, found_more}
-use Rattle.ps_parse.proofs.DeclarationLaws.{declaration_exact}
-use Rattle.ps_parse.proofs.ProgramLaws.{rows_of_item, item_rows_again, signs_of, room_of}
+use Rattle.ps_parse.proofs.Steps.{kind_of, kind_of_piece, takes_pieces, Finds, found_more}
+use Rattle.ps_parse.proofs.Guards.{found_of, took}
+use Rattle.ps_parse.proofs.DeclarationGuards.{counted_guards}
+use Rattle.ps_parse.proofs.RowLaws.{rows_of_item, item_rows_again}
 
 -- ---- weights of words by their kinds
 
@@ -165,11 +166,7 @@ row_sparse = record { name = refl; number = refl; star = refl; plus = refl; minu
 
 sign_rows : (s : Sign) → 1 + row_weight (sign_kind s) ≡ rows_of_sign s
 sign_rows sign.Equal = refl
-sign_rows sign.Less = refl
-sign_rows sign.LessEq = refl
-sign_rows sign.Greater = refl
-sign_rows sign.GreaterEq = refl
-sign_rows sign.NotEqual = refl
+sign_rows s = refl
 
 more_rows : (rs : List RelationText) → weigh_signs row_weight rs ≡ rows_of_relations rs
 more_rows [] = refl
@@ -194,45 +191,30 @@ local_sparse = record { name = refl; number = refl; star = refl; plus = refl; mi
 
 sign_global : (s : Sign) → ones kind.Global (sign_kind s) ≡ 0
 sign_global sign.Equal = refl
-sign_global sign.Less = refl
-sign_global sign.LessEq = refl
-sign_global sign.Greater = refl
-sign_global sign.GreaterEq = refl
-sign_global sign.NotEqual = refl
+sign_global s = refl
 
 sign_local : (s : Sign) → ones kind.Local (sign_kind s) ≡ 0
 sign_local sign.Equal = refl
-sign_local sign.Less = refl
-sign_local sign.LessEq = refl
-sign_local sign.Greater = refl
-sign_local sign.GreaterEq = refl
-sign_local sign.NotEqual = refl
+sign_local s = refl
 
-no_globals : (rs : List RelationText) → weigh_signs (ones kind.Global) rs ≡ 0
-no_globals [] = refl
-no_globals (r ∷ rs) = omega (arith, sign_global r.sign, no_globals rs)
+-- where neither signs nor `&&` nor `=` weigh anything, no relation and no value does
+no_signs : (f : TokenKind → ℕ) → f kind.And ≡ 0 → ((s : Sign) → f (sign_kind s) ≡ 0) → (rs : List RelationText) → weigh_signs f rs ≡ 0
+no_signs f a h [] = refl
+no_signs f a h (r ∷ rs) = omega (arith, a, h r.sign, no_signs f a h rs)
 
-no_locals : (rs : List RelationText) → weigh_signs (ones kind.Local) rs ≡ 0
-no_locals [] = refl
-no_locals (r ∷ rs) = omega (arith, sign_local r.sign, no_locals rs)
-
-value_global : (v : Option ValueText) → weigh (ones kind.Global) (value_pieces v) ≡ 0
-value_global None = refl
-value_global (Some v) = weigh_value (ones kind.Global) global_sparse v
-
-value_local : (v : Option ValueText) → weigh (ones kind.Local) (value_pieces v) ≡ 0
-value_local None = refl
-value_local (Some v) = weigh_value (ones kind.Local) local_sparse v
+no_value : (f : TokenKind → ℕ) → Sparse f → f kind.Equal ≡ 0 → (v : Option ValueText) → weigh f (value_pieces v) ≡ 0
+no_value f s e None = refl
+no_value f s e (Some v) = omega (arith, weigh_value f s v, e)
 
 weigh_globals : (d : Declared) (i : ItemText) → length (with_item d i).globals ≡ length d.globals + weigh (ones kind.Global) (item_pieces i)
-weigh_globals d (global x v) = omega (arith, weigh_global (ones kind.Global) global_sparse refl x v, value_global v, length-append d.globals (record { name = x; value = declared_value v } ∷ []))
+weigh_globals d (global x v) = omega (arith, weigh_global (ones kind.Global) global_sparse refl x v, no_value (ones kind.Global) global_sparse refl v, length-append d.globals (record { name = x; value = declared_value v } ∷ []))
 weigh_globals d (local x) = omega (arith, weigh_local (ones kind.Global) global_sparse refl x)
-weigh_globals d (init r rs) = omega (arith, weigh_init (ones kind.Global) global_sparse refl r rs, sign_global r.sign, no_globals rs)
+weigh_globals d (init r rs) = omega (arith, weigh_init (ones kind.Global) global_sparse refl r rs, sign_global r.sign, no_signs (ones kind.Global) refl sign_global rs)
 
 weigh_locals : (d : Declared) (i : ItemText) → length (with_item d i).locals ≡ length d.locals + weigh (ones kind.Local) (item_pieces i)
-weigh_locals d (global x v) = omega (arith, weigh_global (ones kind.Local) local_sparse refl x v, value_local v)
+weigh_locals d (global x v) = omega (arith, weigh_global (ones kind.Local) local_sparse refl x v, no_value (ones kind.Local) local_sparse refl v)
 weigh_locals d (local x) = omega (arith, weigh_local (ones kind.Local) local_sparse refl x, length-append d.locals (x ∷ []))
-weigh_locals d (init r rs) = omega (arith, weigh_init (ones kind.Local) local_sparse refl r rs, sign_local r.sign, no_locals rs)
+weigh_locals d (init r rs) = omega (arith, weigh_init (ones kind.Local) local_sparse refl r rs, sign_local r.sign, no_signs (ones kind.Local) refl sign_local rs)
 
 -- ---- what was counted, from what was passed
 
@@ -252,17 +234,18 @@ item_tallies n d at back room h = by_test (nat_lt most_rows (d.rows + item_rows 
     by_test : (t : Bool) → nat_lt most_rows (d.rows + item_rows n at) ≡ t → Finds (if t then Err (Limit (place_at at) limit.Init) else counted_item_at (with_rows (d.rows + item_rows n at) d) n at) (λ y. (back' : List Word) → words_at back' y.1.words ≡ words_at back at.words → Tallies y.0 back')
     by_test true test = record { is = tt }
     by_test false test =
-        found_more _ _ _ ((declaration_exact n (with_rows (d.rows + item_rows n at) d)).found at) (λ y p back' same.
+        found_more _ _ _ (found_of (counted_guards n (with_rows (d.rows + item_rows n at) d)) at (omega (arith, room))) (λ y p back' same.
+        let text : ItemText = p.went.text in
         let e : Declared = with_rows (d.rows + item_rows n at) d in
-        let rows : item_rows n at ≡ rows_of_item p.text = item_rows_again n at p.text (pieces y.1.words) (signs_of e p.text p.fit) (ahead_so (takes_pieces p.taken) (room_of n at room)) in
-        let passed : (f : TokenKind → ℕ) → weight f back' ≡ weight f back + weigh f (item_pieces p.text) =
-        λ f. weight_passed f back back' p.taken.front at.words y.1.words same p.taken.split ∙ ap (λ (k : ℕ). weight f back + k) (weigh_pieces f p.taken.front ∙ ap (weigh f) p.taken.spelled) in
+        let rows : item_rows n at ≡ rows_of_item text = item_rows_again n at text (pieces y.1.words) room p.went.fine (takes_pieces (took p.went)) in
+        let passed : (f : TokenKind → ℕ) → weight f back' ≡ weight f back + weigh f (item_pieces text) =
+        λ f. weight_passed f back back' p.went.front at.words y.1.words same p.went.split ∙ ap (λ (k : ℕ). weight f back + k) (weigh_pieces f p.went.front ∙ ap (weigh f) p.went.spelled) in
         let its_rows : y.0.rows ≡ d.rows + item_rows n at = ap (λ (c : Declared). c.rows) p.is in
-        let its_globals : length y.0.globals ≡ length d.globals + weigh (ones kind.Global) (item_pieces p.text) = ap (λ (c : Declared). length c.globals) p.is ∙ weigh_globals e p.text in
-        let its_locals : length y.0.locals ≡ length d.locals + weigh (ones kind.Local) (item_pieces p.text) = ap (λ (c : Declared). length c.locals) p.is ∙ weigh_locals e p.text in
+        let its_globals : length y.0.globals ≡ length d.globals + weigh (ones kind.Global) (item_pieces text) = ap (λ (c : Declared). length c.globals) p.is ∙ weigh_globals e text in
+        let its_locals : length y.0.locals ≡ length d.locals + weigh (ones kind.Local) (item_pieces text) = ap (λ (c : Declared). length c.locals) p.is ∙ weigh_locals e text in
         record {
           within = omega (arith, its_rows, ltb-false most_rows (d.rows + item_rows n at) test);
-          rows = omega (arith, its_rows, rows, h.rows, passed row_weight, weigh_rows p.text, rows_in_weight back, rows_in_weight back');
+          rows = omega (arith, its_rows, rows, h.rows, passed row_weight, weigh_rows text, rows_in_weight back, rows_in_weight back');
           globals = omega (arith, its_globals, h.globals, passed (ones kind.Global), count_of_weight kind.Global back, count_of_weight kind.Global back');
           locals = omega (arith, its_locals, h.locals, passed (ones kind.Local), count_of_weight kind.Local back, count_of_weight kind.Local back');
         })

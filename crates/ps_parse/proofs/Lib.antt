@@ -1,15 +1,6 @@
 pub mod Repeated
 pub mod Declarations
 pub mod Steps
-pub mod Sequences
-pub mod Scopes
-pub mod SumLaws
-pub mod RelationLaws
-pub mod CondLaws
-pub mod StmtLaws
-pub mod BlockLaws
-pub mod DeclarationLaws
-pub mod ProgramLaws
 pub mod WordsWithin
 pub mod TextLaws
 pub mod Guards

@@ -1,22 +1,17 @@
 -- Words are one program at most, have one first fault at most, and not both; and no refusal stands after that fault, nor
 -- at it but for a second name of a product.
-use Rattle.std.proofs.Common.{◌≡◌, ◌≢◌, inl, inr, List, [], ◌∷◌, ◌++◌, Result, Ok, refl, sym, ap, subst, ◌∙◌, append_assoc}
-use Rattle.std.specs.List.{AllByRecursion}
+use Rattle.std.proofs.Common.{◌≡◌, inl, inr, List, [], ◌∷◌, ◌++◌, Result, Ok, refl, sym, ap, subst, ◌∙◌, append_assoc}
 use Rattle.std.proofs.lemmas.List.{append-nil, append_cancel_left}
-use Rattle.std.proofs.lemmas.List.Elements.{All-from_recursion, recursion_from_All}
+use Rattle.std.proofs.lemmas.List.Elements.{All-from_recursion}
 use Rattle.ps_token.specs.declared.place.Place.{Place}
 use Rattle.ps_tree.specs.declared.program.Program.{Program}
 use Rattle.ps_parse.specs.declared.read_refusal.ReadRefusal.{ReadRefusal}
-use Rattle.ps_tree.specs.declared.relation.Sign.TheVariants as sign
-use Rattle.ps_grammar.specs.Grammar.{RelationText, ItemText, global, local, init}
 use Rattle.ps_grammar.specs.Words.{Word}
 use Rattle.ps_parse.specs.Kinds.{place_of_next}
-use Rattle.ps_grammar.specs.Declarations.{Declared, names_of, nothing_declared}
-use Rattle.ps_grammar.specs.Trees.{with_item}
-use Rattle.ps_grammar.specs.Fits.{RelationFits, ItemFits, ItemsFit}
+use Rattle.ps_grammar.specs.Declarations.{nothing_declared}
 use Rattle.ps_grammar.specs.Programs.{IsProgramText}
 use Rattle.ps_parse.specs.Reads.{HasInitSigns, IsText, BeginAlike, IsFirstGrammarFault, PassesGrammar, StandsInText}
-use Rattle.ps_parse.proofs.ProgramLaws.{program_of_again}
+use Rattle.ps_parse.proofs.ProgramGuards.{items_signs, program_of_again}
 use Rattle.ps_parse.proofs.Guards.{alike_itself}
 use Rattle.ps_parse.proofs.Spots.{Longer, compare, same_front}
 
@@ -67,19 +62,6 @@ not_at_fault words end p f e s g same =
     f.stops s.others (subst (λ (ws : List Word). BeginAlike ws s.others) (sym left) (s.next g)) (subst (λ (ws : List Word). IsText (ws ++ s.others)) (sym same) s.goes_on)
 
 -- ---- a program is a text of the grammar
-
-item_signs : (d : Declared) (i : ItemText) → ItemFits d i → HasInitSigns i
-item_signs d (global x v) h = tt
-item_signs d (local x) h = tt
-item_signs d (init r rs) h = All-from_recursion (λ (s : RelationText). s.sign ≢ sign.NotEqual) (r ∷ rs) (each (r ∷ rs) (recursion_from_All (λ (s : RelationText). RelationFits (names_of d) s × (s.sign ≢ sign.NotEqual)) (r ∷ rs) h.0))
-  where
-    each : (ss : List RelationText) → AllByRecursion (λ (s : RelationText). RelationFits (names_of d) s × (s.sign ≢ sign.NotEqual)) ss → AllByRecursion (λ (s : RelationText). s.sign ≢ sign.NotEqual) ss
-    each [] g = tt
-    each (s ∷ ss) g = (g.0.1, each ss g.1)
-
-items_signs : (d : Declared) (is : List ItemText) → ItemsFit d is → AllByRecursion HasInitSigns is
-items_signs d [] h = tt
-items_signs d (i ∷ is) h = (item_signs d i h.0, items_signs (with_item d i) is h.1)
 
 pub program_is_text : (words : List Word) (p : Program) → IsProgramText words p → IsText words
 program_is_text words p h = record { text = h.text; spelled = h.spelled; signs = All-from_recursion HasInitSigns h.text.items (items_signs nothing_declared h.text.items h.fits.items) }

@@ -26,8 +26,7 @@ use Rattle.ps_parse.proofs.CauseSteps.{rows_begin}
 use Rattle.ps_parse.proofs.Guards.{alike_itself}
 use Rattle.ps_parse.proofs.OneAnswer.{no_program, not_after_fault, not_at_fault, one_fault}
 use Rattle.ps_parse.proofs.ProgramCauses.{program_of_clean, program_of_first}
-use Rattle.ps_parse.proofs.ProgramGuards.{program_of_grammar, program_of_refused}
-use Rattle.ps_parse.proofs.ProgramLaws.{program_of_found}
+use Rattle.ps_parse.proofs.ProgramGuards.{program_of_found, program_of_grammar, program_of_refused}
 use Rattle.ps_parse.proofs.Spots.{Ascend, Same, cause_moved, clean_before, length_passed, one_spot, passed, same_spot, words_ascend}
 use Rattle.ps_parse.proofs.Steps.{one_kind}
 

@@ -13,8 +13,7 @@ use Rattle.ps_grammar.specs.Names.{Names}
 use Rattle.ps_grammar.specs.Words.{Word}
 use Rattle.ps_parse.specs.Inner.Reading.{words_end_from}
 use Rattle.ps_parse.proofs.Guards.{Keeps, keeps_end}
-use Rattle.ps_parse.proofs.ProgramGuards.{refused_is}
-use Rattle.ps_parse.proofs.ProgramLaws.{program_of_again}
+use Rattle.ps_parse.proofs.ProgramGuards.{refused_is, program_of_again}
 use Rattle.ps_parse.proofs.Spots.{no_cause_in}
 use Rattle.ps_parse.proofs.CauseSteps.{Whole, In, Blamed, Fresh, fresh_linear, grammar_blamed, then_keeps, after_keeps}
 use Rattle.ps_parse.proofs.SumCauses.{mark_keeps}

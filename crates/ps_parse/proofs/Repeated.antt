@@ -58,13 +58,7 @@ err_stays goes read front n i at r lt more e =
 -- one refusal is the other
 pub refuses_same : {A B : Type 0} (r : ReadRefusal) (x : Result A ReadRefusal) (y : Result B ReadRefusal) → (x ≡ Err r → y ≡ Err r) → Refuses r x → Refuses r y
 refuses_same (refusal.Memory m) x y same h = tt
-refuses_same (refusal.Token p) x y same h = same h
-refuses_same (refusal.Grammar p) x y same h = same h
-refuses_same (refusal.UnknownName p) x y same h = same h
-refuses_same (refusal.Twice p) x y same h = same h
-refuses_same (refusal.NotLinear p) x y same h = same h
-refuses_same (refusal.LoopInAtomic p) x y same h = same h
-refuses_same (refusal.Limit p l) x y same h = same h
+refuses_same r x y same h = same h
 
 pub repeats_fails : {A : Type 0} (goes : WordsAhead → Bool) (read : ReadWords A) (front : List A) (n i : ℕ) (at : WordsAhead) (r : ReadRefusal) (total : Result (List A × WordsAhead) ReadRefusal) → Repeats goes read front (n - i) at total → i < n → goes at ≡ true → Refuses r (read at) → Refuses r total
 repeats_fails goes read front n i at r total h lt more =

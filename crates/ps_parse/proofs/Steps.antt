@@ -1,14 +1,15 @@
--- The laws of reading functions of words, in steps: what is read is spelled so, and what is spelled so is read.
-use Rattle.std.proofs.Common.{◌≡◌, ℕ, ◌≤◌, Bool, true, false, ◌||◌, List, [], ◌∷◌, ◌++◌, map, length, drop, get_or, Result, Ok, Err, refl, sym, ap, subst, ◌∙◌, append_assoc, eq-eqb}
+-- Kinds and pieces of words, what is taken of the words ahead, what a step finds, tests of the next word, and reading
+-- functions that are made of others.
+use Rattle.std.proofs.Common.{◌≡◌, ℕ, Bool, true, false, ◌||◌, List, [], ◌∷◌, ◌++◌, map, length, drop, get_or, Result, Ok, Err, refl, sym, ap, subst, ◌∙◌, append_assoc, eq-eqb}
 use Rattle.std.specs.Prelude.{IfOk, if◌then◌else◌}
-use Rattle.std.proofs.lemmas.Bool.{cond-true, cond-false, eqb-true}
+use Rattle.std.proofs.lemmas.Bool.{eqb-true}
 use Rattle.std.proofs.lemmas.List.{map-append, length-map, drop_at, drop-map}
 use Rattle.ps_token.specs.declared.place.Place.{Place}
 use Rattle.ps_token.specs.declared.token_kind.TokenKind.{TokenKind}
 use Rattle.ps_token.specs.declared.token_kind.TokenKind.TheVariants as kind
 use Rattle.ps_parse.specs.declared.read_refusal.ReadRefusal.{ReadRefusal}
 use Rattle.ps_grammar.specs.Words.{Word}
-use Rattle.ps_parse.specs.Inner.Reading.{WordsAhead, ReadWords, next_is}
+use Rattle.ps_parse.specs.Inner.Reading.{WordsAhead, ReadWords, next_is, next_word}
 use Rattle.ps_parse.specs.Kinds.{kind_number, is_kind, begins_with}
 use Rattle.ps_lines.specs.Steps.{and_then, ◌>>=◌}
 use Rattle.ps_grammar.specs.Spelling.{Piece, NamePiece, NumberPiece, Mark, piece_of_kind, pieces}
@@ -20,38 +21,7 @@ kinds = kind.Name ∷ kind.Number ∷ kind.Global ∷ kind.Local ∷ kind.Init �
 
 numbered : (k : TokenKind) → get_or kinds (kind_number k) kind.Name ≡ k
 numbered kind.Name = refl
-numbered kind.Number = refl
-numbered kind.Global = refl
-numbered kind.Local = refl
-numbered kind.Init = refl
-numbered kind.Thread = refl
-numbered kind.Havoc = refl
-numbered kind.Assume = refl
-numbered kind.Assert = refl
-numbered kind.Skip = refl
-numbered kind.Atomic = refl
-numbered kind.If = refl
-numbered kind.Else = refl
-numbered kind.While = refl
-numbered kind.Becomes = refl
-numbered kind.LessEq = refl
-numbered kind.GreaterEq = refl
-numbered kind.EqualEqual = refl
-numbered kind.NotEqual = refl
-numbered kind.And = refl
-numbered kind.Or = refl
-numbered kind.Less = refl
-numbered kind.Greater = refl
-numbered kind.Not = refl
-numbered kind.Equal = refl
-numbered kind.Plus = refl
-numbered kind.Minus = refl
-numbered kind.Star = refl
-numbered kind.OpenParen = refl
-numbered kind.CloseParen = refl
-numbered kind.OpenBrace = refl
-numbered kind.CloseBrace = refl
-numbered kind.Semicolon = refl
+numbered k = refl
 
 pub one_kind : (a b : TokenKind) → is_kind a b ≡ true → a ≡ b
 one_kind a b h = sym (numbered a) ∙ ap (λ (n : ℕ). get_or kinds n kind.Name) (eqb-true (kind_number a) (kind_number b) h) ∙ numbered b
@@ -63,12 +33,6 @@ abbrev pub kind_of : Piece → TokenKind
 kind_of (NamePiece t) = kind.Name
 kind_of (NumberPiece t) = kind.Number
 kind_of (Mark k) = k
-
--- the bytes of a name or a number
-abbrev pub text_of : Piece → List ℕ
-text_of (NamePiece t) = t
-text_of (NumberPiece t) = t
-text_of (Mark k) = []
 
 pub kind_of_piece : (k : TokenKind) (t : List ℕ) → kind_of (piece_of_kind k t) ≡ k
 kind_of_piece kind.Name t = refl
@@ -85,9 +49,6 @@ pub record Takes (before : List Word) (ps : List Piece) (after : List Word) : Ty
   pub front : List Word
   pub split : before ≡ front ++ after
   pub spelled : pieces front ≡ ps
-
-pub takes_none : (ws : List Word) → Takes ws [] ws
-takes_none ws = record { front = []; split = refl; spelled = refl }
 
 pub takes_then : {a b c : List Word} {ps qs : List Piece} → Takes a ps b → Takes b qs c → Takes a (ps ++ qs) c
 takes_then {a = a} {b = b} {c = c} {ps = ps} {qs = qs} p q = record {
@@ -110,14 +71,6 @@ takes_drop {a = a} {b = b} {ps = ps} p =
 pub takes_places : {a b : List Word} {ps : List Piece} → Takes a ps b → places b ≡ drop (length ps) (places a)
 takes_places {a = a} {b = b} {ps = ps} p = ap places (takes_drop p) ∙ sym (drop-map (λ (w : Word). w.place) (length ps) a)
 
--- what is ahead is spelled so, and there are no more words than the bound
-pub record Ahead (n : ℕ) (at : WordsAhead) (ps : List Piece) : Type 0 where
-  pub is : pieces at.words ≡ ps
-  pub room : length ps ≤ n
-
-pub ahead_so : {n : ℕ} {at : WordsAhead} {ps qs : List Piece} → ps ≡ qs → Ahead n at ps → Ahead n at qs
-ahead_so {n = n} {at = at} e h = subst (λ (xs : List Piece). Ahead n at xs) e h
-
 abbrev pub begins_piece : TokenKind → List Piece → Bool
 begins_piece k [] = false
 begins_piece k (p ∷ ps) = is_kind (kind_of p) k
@@ -125,9 +78,6 @@ begins_piece k (p ∷ ps) = is_kind (kind_of p) k
 pub begins_pieces : (k : TokenKind) (ws : List Word) → begins_with k ws ≡ begins_piece k (pieces ws)
 begins_pieces k [] = refl
 begins_pieces k (w ∷ ws) = ap (λ (j : TokenKind). is_kind j k) (sym (kind_of_piece w.kind w.text))
-
-pub next_ahead : {n : ℕ} {at : WordsAhead} {ps : List Piece} (k : TokenKind) → Ahead n at ps → next_is k at ≡ begins_piece k ps
-next_ahead {at = at} k h = begins_pieces k at.words ∙ ap (begins_piece k) h.is
 
 -- the next word isn't of the kind
 abbrev pub Not : TokenKind → List Piece → Type 0
@@ -153,9 +103,6 @@ unfolding and_then
 found_bind (Ok x) f Q R h k = k x h.is
 found_bind (Err e) f Q R h k = record { is = tt }
 
-pub found_end : {A : Type 0} (y : A) (R : A → Type 0) → R y → Finds (Ok y) R
-found_end y R h = record { is = h }
-
 pub found_if : {A : Type 0} (t : Bool) (r s : Result A ReadRefusal) (R : A → Type 0) → Finds r R → Finds s R → Finds (if t then r else s) R
 found_if true r s R h k = h
 found_if false r s R h k = k
@@ -169,34 +116,6 @@ unfolding and_then
 gets_bind r f Q R h k =
     let n = k h.value h.is in
     record { value = n.value; ok = ap (λ s. and_then s f) h.ok ∙ n.ok; is = n.is }
-
-pub gets_end : {A : Type 0} (y : A) (R : A → Type 0) → R y → Gets (Ok y) R
-gets_end y R h = record { value = y; ok = refl; is = h }
-
-pub gets_true : {A : Type 0} (t : Bool) (r s : Result A ReadRefusal) (R : A → Type 0) → t ≡ true → Gets r R → Gets (if t then r else s) R
-gets_true t r s R e h = record { value = h.value; ok = cond-true _ _ _ e ∙ h.ok; is = h.is }
-
-pub gets_false : {A : Type 0} (t : Bool) (r s : Result A ReadRefusal) (R : A → Type 0) → t ≡ false → Gets s R → Gets (if t then r else s) R
-gets_false t r s R e h = record { value = h.value; ok = cond-false _ _ _ e ∙ h.ok; is = h.is }
-
-pub gets_more : {A : Type 0} (r : Result A ReadRefusal) (Q R : A → Type 0) → Gets r Q → ((x : A) → Q x → R x) → Gets r R
-gets_more r Q R h k = record { value = h.value; ok = h.ok; is = k h.value h.is }
-
--- both at once: what is got is also what is found
-pub gets_found : {A : Type 0} (r : Result A ReadRefusal) (Q R : A → Type 0) → Gets r Q → Finds r R → Gets r (λ y. Q y × R y)
-gets_found r Q R h k = record { value = h.value; ok = h.ok; is = (h.is, subst (λ s. IfOk s R) h.ok k.is) }
-
--- what was read is spelled by a text that fits, and is what the text says from the places of the words
-pub record Spelled {C A : Type 0} (spell : C → List Piece) (fits : C → Type 0) (says : C → List Place → A → Type 0) (at : WordsAhead) (y : A × WordsAhead) : Type 0 where
-  pub text : C
-  pub taken : Takes at.words (spell text) y.1.words
-  pub fit : fits text
-  pub is : says text (places at.words) y.0
-
--- A reading function reads the texts that fit, where what follows is so.
-pub record Exact {C A : Type 0} (n : ℕ) (read : ReadWords A) (spell : C → List Piece) (fits : C → Type 0) (says : C → List Place → A → Type 0) (follows : List Piece → Type 0) : Type 0 where
-  pub found : (at : WordsAhead) → Finds (read at) (Spelled spell fits says at)
-  pub again : (at : WordsAhead) (c : C) (rest : List Piece) → fits c → Ahead n at (spell c ++ rest) → follows rest → Gets (read at) (λ y. says c (places at.words) y.0 × Ahead n y.1 rest)
 
 -- ---- tests of the next word
 
@@ -227,3 +146,49 @@ either_test {goes = goes} {more = more} {begins = begins} {goes_on = goes_on} a 
   is = λ at. ap (λ (t : Bool). t || more at) (a.is at) ∙ ap (λ (t : Bool). begins (pieces at.words) || t) (b.is at);
   same = λ ps qs h. ap (λ (t : Bool). t || goes_on ps) (a.same ps qs h) ∙ ap (λ (t : Bool). begins qs || t) (b.same ps qs h);
 }
+
+-- a word that isn't a name or a number
+abbrev pub IsMark : TokenKind → Type 0
+IsMark k = (t : List ℕ) → piece_of_kind k t ≡ Mark k
+
+-- ---- reading functions that are made of others
+
+-- a value of what was read
+abbrev pub mapped : {A B : Type 0} → (A → B) → ReadWords A → ReadWords B
+mapped of read at = read at >>= λ x. Ok (of x.0, x.1)
+
+-- one and then another
+abbrev pub both : {A B X : Type 0} → (A → B → X) → ReadWords A → ReadWords B → ReadWords X
+both of one two at = one at >>= λ x. two x.1 >>= λ y. Ok (of x.0 y.0, y.1)
+
+-- three steps
+abbrev pub three : {A B C X : Type 0} → (A → B → C → X) → ReadWords A → ReadWords B → ReadWords C → ReadWords X
+three of a b c at = a at >>= λ x. b x.1 >>= λ y. c y.1 >>= λ z. Ok (of x.0 y.0 z.0, z.1)
+
+abbrev pub pair_up : {B C : Type 0} → B → C → B × C
+pair_up y z = (y, z)
+
+abbrev pub of_pair : {A B C X : Type 0} → (A → B → C → X) → A → B × C → X
+of_pair of x w = of x w.0 w.1
+
+pub bind_same : {A B : Type 0} (r : Result A ReadRefusal) (f g : A → Result B ReadRefusal) → ((x : A) → f x ≡ g x) → (r >>= f) ≡ (r >>= g)
+unfolding and_then
+bind_same (Ok x) f g h = h x
+bind_same (Err e) f g h = refl
+
+pub bind_bind : {A B C : Type 0} (r : Result A ReadRefusal) (f : A → Result B ReadRefusal) (g : B → Result C ReadRefusal) → ((r >>= f) >>= g) ≡ (r >>= λ x. f x >>= g)
+unfolding and_then
+bind_bind (Ok x) f g = refl
+bind_bind (Err e) f g = refl
+
+pub bind_end : {A B : Type 0} (x : A) (f : A → Result B ReadRefusal) → (Ok x >>= f) ≡ f x
+unfolding and_then
+bind_end x f = refl
+
+pub three_is : {A B C X : Type 0} (of : A → B → C → X) (a : ReadWords A) (b : ReadWords B) (c : ReadWords C) (at : WordsAhead) → both (of_pair of) a (both pair_up b c) at ≡ three of a b c at
+three_is of a b c at =
+    bind_same (a at) _ _ (λ x. bind_bind (b x.1) _ _ ∙ bind_same (b x.1) _ _ (λ y. bind_bind (c y.1) _ _ ∙ bind_same (c y.1) _ _ (λ z. bind_end ((y.0, z.0), z.1) _)))
+
+-- what is read, and a word after it
+abbrev pub closed : {A : Type 0} → TokenKind → ReadWords A → ReadWords A
+closed k read = both (λ x w. x) read (next_word k)

@@ -1,6 +1,10 @@
--- The laws of refusals of statements and blocks.
-use Rattle.std.proofs.Common.{ℕ, zero, suc, ◌≤◌, Bool, true, false, List, [], ◌∷◌, ◌++◌, Option, Some, None, refl, ap, arith}
-use Rattle.std.specs.Prelude.{not}
+-- The laws of statements and blocks.
+use Rattle.std.proofs.Common.{◌≡◌, ℕ, zero, suc, ◌+◌, ◌-◌, ◌≤◌, Bool, true, false, ◌⊎◌, inl, inr, List, [], ◌∷◌, ◌++◌, length, drop, Option, Some, None, refl, sym, ap, subst, ◌∙◌, arith, append_assoc, length-append}
+use Rattle.std.specs.Prelude.{◌↔◌, not}
+use Rattle.std.specs.List.{flat_map, AllByRecursion}
+use Rattle.std.proofs.lemmas.Bool.{true≢false}
+use Rattle.std.proofs.lemmas.List.{append-nil, drop-drop}
+use Rattle.ps_token.specs.declared.place.Place.{Place}
 use Rattle.ps_token.specs.declared.token_kind.TokenKind.{TokenKind}
 use Rattle.ps_token.specs.declared.token_kind.TokenKind.TheVariants as kind
 use Rattle.ps_tree.specs.declared.cond.Cond.{Cond}
@@ -9,130 +13,349 @@ use Rattle.ps_tree.specs.declared.stmt.Stmt.{Stmt}
 use Rattle.ps_tree.specs.declared.stmt.StmtKind.{StmtKind}
 use Rattle.ps_tree.specs.declared.stmt.StmtKind.TheVariants as stmt
 use Rattle.ps_parse.specs.declared.read_refusal.ReadRefusal.TheVariants.{Limit, LoopInAtomic}
-use Rattle.ps_grammar.specs.Grammar.{SumText, either, assign, havoc, assume, assert, skip, atomic, while_do, block_end}
-use Rattle.ps_grammar.specs.Words.{Word}
-use Rattle.ps_parse.specs.Inner.Reading.{ReadWords, next_is, place_at, after_word}
+use Rattle.ps_grammar.specs.Fits.{CondFits, TestFits, StmtFits, RestFits, IsKnownName}
+use Rattle.ps_grammar.specs.Grammar.{SumText, TestText, either, StmtText, assign, havoc, assume, assert, skip, atomic, if_then, if_else, while_do, BlockText, block_end, block_more}
 use Rattle.ps_grammar.specs.Names.{Names}
+use Rattle.ps_grammar.specs.Spelling.{Piece, Mark, pieces, cond_pieces, test_pieces, stmt_pieces, rest_pieces, block_pieces}
+use Rattle.ps_grammar.specs.Trees.{cond_tree, test_tree, place_of_first, stmt_tree, block_trees}
+use Rattle.ps_grammar.specs.Words.{Word}
+use Rattle.ps_parse.specs.Inner.Blocks.{assign_at, ended_at, havoc_at, cond_stmt_at, skip_at, atomic_at, else_at, if_at, while_stmt_at, kind_at, stmt_at, has_more, block_at}
 use Rattle.ps_parse.specs.Inner.Conds.{parens_at}
-use Rattle.ps_parse.specs.Inner.Blocks.{ended_at, assign_at, havoc_at, cond_stmt_at, skip_at, atomic_at, else_at, if_at, while_stmt_at, kind_at, stmt_at, has_more, block_at}
-use Rattle.ps_grammar.specs.Spelling.{Piece, Mark, cond_pieces, stmt_pieces, rest_pieces, block_pieces}
-use Rattle.ps_parse.proofs.Steps.{Not, Always, IsTest, next_test}
-use Rattle.ps_parse.proofs.Sequences.{IsMark, of_pair, pair_up, three_is}
-use Rattle.ps_parse.proofs.StmtLaws.{else_pieces, else_sort, if_pieces, if_of, if_spelled, if_is}
-use Rattle.ps_parse.proofs.BlockLaws.{order, Later, sort_assign, sort_havoc, sort_assume, sort_assert, sort_skip, sort_atomic, sort_if, while_pieces, stmts_go_on, block_of, stmts_of, block_back, block_spelled, goes_on}
-use Rattle.ps_parse.proofs.Guards.{Guards, GuardsWhere, guards_where, Example, example_of, resumed_mark}
-use Rattle.ps_parse.proofs.GuardSteps.{guards_same, guards_as, mapped_guards, placed_guards, refusing_guards, nothing_guards, both_guards, after_guards, word_refused_guards, word_alone, closed_guards, choice_guards, last_guards}
-use Rattle.ps_parse.proofs.GuardLoops.{while_guards}
-use Rattle.ps_parse.proofs.SumGuards.{all_always, variable_guards, sum_guards, sum_text}
-use Rattle.ps_parse.proofs.CondGuards.{cond_guards, cond_text, parens_guards, test_example}
+use Rattle.ps_parse.specs.Inner.Reading.{ReadWords, next_is, place_at, next_word, after_word}
+use Rattle.ps_parse.specs.Kinds.{is_kind, place_of_next}
+use Rattle.ps_parse.proofs.Steps.{places, begins_piece, Not, Always, IsTest, next_test, IsMark, of_pair, pair_up, three_is, bind_bind}
+use Rattle.ps_parse.proofs.Guards.{keeps_bind, keeps_end, pieces_both, Any, Then, Guards, GuardsWhere, guards_where, Example, example_of, resumed_mark}
+use Rattle.ps_parse.proofs.GuardSteps.{guards_same, guards_as, guards_so, mapped_guards, refusing_guards, nothing_guards, any_joins, both_guards, after_guards, alone_guards, word_refused_guards, closed_guards, OfSort, choice_guards, last_guards}
+use Rattle.ps_parse.proofs.GuardLoops.{GoesOn, Ends, list_trees, while_guards}
+use Rattle.ps_parse.proofs.SumGuards.{all_always, variable_guards, sum_guards, sum_text, no_sum}
+use Rattle.ps_parse.proofs.CondGuards.{sum_known, one_less, cond_text, cond_guards, parens_guards, test_example}
 
 -- ---- simple statements
 
-pub ended_guards : {C A : Type 0} {n : ℕ} {read : ReadWords A} {spell : C → List Piece} {okay : C → Type 0} {follows : List Piece → Type 0} → ((rest : List Piece) → follows (Mark kind.Semicolon ∷ rest)) → Guards n read spell okay follows
-    → Guards n (ended_at read) (λ c. spell c ++ Mark kind.Semicolon ∷ []) okay Always
+pub ended_guards : {C A : Type 0} {n : ℕ} {read : ReadWords A} {spell : C → List Piece} {okay fits : C → Type 0} {tree : C → List Place → A} {follows : C → List Piece → Type 0} → ((c : C) (rest : List Piece) → follows c (Mark kind.Semicolon ∷ rest)) → Guards n read spell okay fits tree follows
+    → Guards n (ended_at read) (λ c. spell c ++ Mark kind.Semicolon ∷ []) okay fits tree Any
 unfolding ended_at
 ended_guards ends g = closed_guards kind.Semicolon (λ u. refl) ends g
 
-assign_guards : (n : ℕ) (scope : Option Names) → Guards n (assign_at scope n) (λ (c : List ℕ × SumText). stmt_pieces (assign c.0 c.1)) Always Always
+assign_guards : (n : ℕ) (names : Names) → Guards n (assign_at (Some names) n) (λ (c : List ℕ × SumText). stmt_pieces (assign c.0 c.1)) Always (λ c. StmtFits names 0 false (assign c.0 c.1)) (λ c ps. stmt_tree names (assign c.0 c.1) ps) Any
 unfolding assign_at
-assign_guards n scope =
-    guards_as _ Always (λ c. c) (λ c. c) (λ c. refl) (λ c. refl) (λ c h. tt) (λ c h. (tt, tt))
-    (both_guards stmt.Assign (variable_guards n scope) (after_guards kind.Becomes (λ u. refl) (ended_guards (λ rest. (refl, refl)) (sum_guards n scope)) (example_of sum_text tt refl))
-    (example_of sum_text tt refl) (λ d rest h. tt))
+assign_guards n names =
+    guards_as (λ c. c) (λ c. c)
+    (record { back = λ c. refl; spelled = λ c. refl; fine = λ c h. tt; unfine = λ c h. (tt, tt); fit = λ c h. (h.0, (sum_known names c.1).0 h.1); unfit = λ c h. (h.0, (sum_known names c.1).1 h.1); said = λ c ps. refl; stops = λ c rest h. h })
+    (both_guards stmt.Assign any_joins (example_of sum_text tt refl) (variable_guards n (Some names)) (after_guards kind.Becomes (λ u. refl) (example_of sum_text tt refl) (ended_guards (λ s rest. no_sum s (Mark kind.Semicolon ∷ rest) (refl, refl)) (sum_guards n (Some names)))))
 
-havoc_guards : (n : ℕ) (scope : Option Names) → Guards n (havoc_at scope) (λ x. stmt_pieces (havoc x)) Always Always
+havoc_guards : (n : ℕ) (names : Names) → Guards n (havoc_at (Some names)) (λ x. stmt_pieces (havoc x)) Always (IsKnownName names) (λ x ps. stmt_tree names (havoc x) ps) Any
 unfolding havoc_at
-havoc_guards n scope = mapped_guards stmt.Havoc (after_guards kind.Havoc (λ u. refl) (ended_guards (λ rest. tt) (variable_guards n scope)) (example_of [] tt refl))
+havoc_guards n names = mapped_guards stmt.Havoc (after_guards kind.Havoc (λ u. refl) (example_of [] tt refl) (ended_guards (λ c rest. tt) (variable_guards n (Some names))))
 
-cond_stmt_guards : (n : ℕ) (scope : Option Names) (levels : ℕ) (word : TokenKind) (of : Cond → StmtKind) → IsMark word
-    → Guards n (cond_stmt_at word of scope n levels) (λ c. Mark word ∷ (cond_pieces c ++ Mark kind.Semicolon ∷ [])) Always Always
+cond_stmt_guards : (n : ℕ) (names : Names) (levels : ℕ) (word : TokenKind) (of : Cond → StmtKind) → IsMark word
+    → Guards n (cond_stmt_at word of (Some names) n levels) (λ c. Mark word ∷ (cond_pieces c ++ Mark kind.Semicolon ∷ [])) Always (CondFits names levels) (λ c ps. of (cond_tree names c)) Any
 unfolding cond_stmt_at
-cond_stmt_guards n scope levels word of marked = mapped_guards of (after_guards word marked (ended_guards (λ rest. (refl, (refl, (refl, refl)))) (cond_guards n scope levels)) (example_of cond_text tt refl))
+cond_stmt_guards n names levels word of marked = mapped_guards of (after_guards word marked (example_of cond_text tt refl) (ended_guards (λ c rest. (refl, (refl, (refl, refl)))) (cond_guards n names levels)))
 
-skip_guards : (n : ℕ) → Guards n skip_at (λ (u : Unit {0}). stmt_pieces skip) Always Always
-unfolding skip_at
-skip_guards n = mapped_guards (λ (w : Word). stmt.Skip) (after_guards kind.Skip (λ u. refl) (word_alone n kind.Semicolon (λ u. refl)) (example_of tt tt refl))
+skip_guards : (n : ℕ) → Guards n skip_at (λ (u : Unit {0}). stmt_pieces skip) Always Always (λ u ps. stmt.Skip) Any
+unfolding skip_at after_word
+skip_guards n = guards_same _ (λ at. sym (bind_bind (next_word kind.Skip at) _ _)) (after_guards kind.Skip (λ u. refl) (example_of tt tt refl) (alone_guards n kind.Semicolon (λ u. refl) stmt.Skip))
 
 -- ---- statements with blocks
 
-abbrev BlockGuards : ℕ → ReadWords (List Stmt) → Type 0
-BlockGuards n block = Guards n block block_pieces Always Always
+abbrev pub BlockFits : Names → ℕ → Bool → BlockText → Type 0
+BlockFits names levels inside b = (1 ≤ levels) × RestFits names (levels - 1) inside b
+
+abbrev BlockGuards : ℕ → Names → ℕ → Bool → ReadWords (List Stmt) → Type 0
+BlockGuards n names levels inside block = Guards n block block_pieces Always (BlockFits names levels inside) (λ b ps. block_trees names b (drop 1 ps)) Any
 
 pub block_example : Example block_pieces Always
 block_example = example_of block_end tt refl
 
-atomic_guards : (n : ℕ) (block : ReadWords (List Stmt)) → BlockGuards n block → Guards n (atomic_at block) (λ b. stmt_pieces (atomic b)) Always Always
+atomic_guards : (n : ℕ) (names : Names) (levels : ℕ) (block : ReadWords (List Stmt)) → BlockGuards n names levels true block → Guards n (atomic_at block) (λ b. stmt_pieces (atomic b)) Always (BlockFits names levels true) (λ b ps. stmt_tree names (atomic b) ps) Any
 unfolding atomic_at
-atomic_guards n block g = mapped_guards stmt.Atomic (after_guards kind.Atomic (λ u. refl) g block_example)
+atomic_guards n names levels block g =
+    guards_as (λ c. c) (λ c. c)
+    (record { back = λ c. refl; spelled = λ c. refl; fine = λ c h. h; unfine = λ c h. h; fit = λ c h. h; unfit = λ c h. h; said = λ b ps. ap (λ (qs : List Place). stmt.Atomic (block_trees names b qs)) (drop-drop 1 1 ps); stops = λ c rest h. h })
+    (mapped_guards stmt.Atomic (after_guards kind.Atomic (λ u. refl) block_example g))
+
+abbrev while_pieces : TestText × BlockText → List Piece
+while_pieces c = stmt_pieces (while_do c.0 c.1)
 
 while_example : Example while_pieces Always
 while_example = example_of (either, block_end) tt refl
 
-while_stmt_guards : (n : ℕ) (scope : Option Names) (levels : ℕ) (inside : Bool) (block : ReadWords (List Stmt)) → BlockGuards n block → GuardsWhere (next_is kind.While) n (while_stmt_at inside block scope n levels) while_pieces Always Always
+held_place : (k : ℕ) (ps : List Place) → drop 1 (drop (suc k) ps) ≡ drop (k + 2) ps
+held_place k ps =
+    let e : suc k + 1 ≡ k + 2 = omega arith in
+    drop-drop 1 (suc k) ps ∙ ap (λ (m : ℕ). drop m ps) e
+
+while_stmt_guards : (n : ℕ) (names : Names) (levels : ℕ) (inside : Bool) (block : ReadWords (List Stmt)) → BlockGuards n names levels inside block
+    → GuardsWhere (next_is kind.While) n (while_stmt_at inside block (Some names) n levels) while_pieces Always (λ c. StmtFits names levels inside (while_do c.0 c.1)) (λ c ps. stmt_tree names (while_do c.0 c.1) ps) Any
 unfolding while_stmt_at while_example
-while_stmt_guards n scope levels true block g =
-    refusing_guards (next_is kind.While) n (λ at. LoopInAtomic (place_at at)) while_pieces Always Always (λ at g. g) (λ at. refl)
-    (λ at e. resumed_mark kind.While (λ u. refl) at.words (LoopInAtomic (place_at at)) e while_example refl)
-while_stmt_guards n scope levels false block g =
+while_stmt_guards n names levels true block g =
+    refusing_guards (next_is kind.While) n (λ at. LoopInAtomic (place_at at)) while_pieces Always _ _ Any (λ at g. g) (λ at. refl)
+    (λ at e. resumed_mark kind.While (λ u. refl) at.words (LoopInAtomic (place_at at)) e while_example refl) (λ at e c tail fit h. true≢false fit.0)
+while_stmt_guards n names levels false block g =
     guards_where (next_is kind.While)
-    (guards_as while_pieces Always (λ c. c) (λ c. c) (λ c. refl) (λ c. refl) (λ c h. tt) (λ c h. (tt, tt))
-    (both_guards stmt.While (after_guards kind.While (λ u. refl) (parens_guards n scope levels) test_example) g block_example (λ d rest h. tt)))
+    (guards_as (λ c. c) (λ c. c)
+    (record {
+      back = λ c. refl;
+      spelled = λ c. refl;
+      fine = λ c h. tt;
+      unfine = λ c h. (tt, tt);
+      fit = λ c h. (refl, h.0, h.1.0, h.1.1);
+      unfit = λ c h. (h.1, (h.2, h.3));
+      said = λ c ps. ap (λ (qs : List Place). stmt.While (test_tree names c.0) (block_trees names c.1 qs)) (held_place (length (test_pieces c.0)) ps);
+      stops = λ c rest h. h;
+    })
+    (both_guards stmt.While any_joins block_example (after_guards kind.While (λ u. refl) test_example (parens_guards n names levels)) g))
 
-else_guards : (n : ℕ) (block : ReadWords (List Stmt)) → BlockGuards n block → Guards n (else_at block) else_pieces Always (Not kind.Else)
+-- `else` and a block, or nothing
+abbrev else_pieces : Option BlockText → List Piece
+else_pieces None = []
+else_pieces (Some b) = Mark kind.Else ∷ block_pieces b
+
+abbrev ElseFits : Names → ℕ → Bool → Option BlockText → Type 0
+ElseFits names levels inside None = Unit {0}
+ElseFits names levels inside (Some b) = BlockFits names levels inside b
+
+abbrev else_tree : Names → Option BlockText → List Place → List Stmt
+else_tree names None ps = []
+else_tree names (Some b) ps = block_trees names b (drop 1 (drop 1 ps))
+
+else_sort : (o : Option BlockText) → Always o → OfSort (begins_piece kind.Else) true else_pieces (Then (Not kind.Else)) (λ b. Some b) Always o ⊎ OfSort (begins_piece kind.Else) false else_pieces (Then (Not kind.Else)) (λ (u : Unit {0}). None) Always o
+else_sort None ok = inr (record { text = tt; same = refl; fine = tt; tells = λ rest h. h })
+else_sort (Some b) ok = inl (record { text = b; same = refl; fine = tt; tells = λ rest h. refl })
+
+else_guards : (n : ℕ) (names : Names) (levels : ℕ) (inside : Bool) (block : ReadWords (List Stmt)) → BlockGuards n names levels inside block → Guards n (else_at block) else_pieces Always (ElseFits names levels inside) (else_tree names) (Then (Not kind.Else))
 unfolding else_at
-else_guards n block g =
-    choice_guards else_pieces Always (Not kind.Else) (next_test kind.Else) (λ b. Some b) (λ b. refl) (λ b h. tt) (λ (u : Unit {0}). None) (λ u. refl) (λ u h. tt) (else_sort Always) (λ rest h. tt) (λ rest h. tt)
-    (after_guards kind.Else (λ u. refl) g block_example) (nothing_guards n [] Always)
+else_guards n names levels inside block g =
+    choice_guards else_pieces Always (ElseFits names levels inside) (else_tree names) (Then (Not kind.Else)) (next_test kind.Else) (λ b. Some b) (λ b h. tt) (λ (u : Unit {0}). None) (λ u h. tt) else_sort (λ b rest h. tt) (λ u rest h. tt)
+    (after_guards kind.Else (λ u. refl) block_example g) (nothing_guards n [] Any)
 
-if_guards : (n : ℕ) (scope : Option Names) (levels : ℕ) (block : ReadWords (List Stmt)) → BlockGuards n block → Guards n (if_at block scope n levels) if_pieces Always (Not kind.Else)
+abbrev IfText : Type 0
+IfText = TestText × (BlockText × Option BlockText)
+
+abbrev if_text : TestText → BlockText → Option BlockText → StmtText
+if_text t b None = if_then t b
+if_text t b (Some c) = if_else t b c
+
+abbrev if_of : IfText → StmtText
+if_of c = if_text c.0 c.1.0 c.1.1
+
+if_spelled : (t : TestText) (b : BlockText) (o : Option BlockText) → (Mark kind.If ∷ test_pieces t) ++ (block_pieces b ++ else_pieces o) ≡ stmt_pieces (if_text t b o)
+if_spelled t b None = ap (λ (ps : List Piece). (Mark kind.If ∷ test_pieces t) ++ ps) (append-nil (block_pieces b))
+if_spelled t b (Some c) = refl
+
+if_fits : (names : Names) (levels : ℕ) (inside : Bool) (t : TestText) (b : BlockText) (o : Option BlockText) → (TestFits names levels t × (BlockFits names levels inside b × ElseFits names levels inside o)) ↔ StmtFits names levels inside (if_text t b o)
+if_fits names levels inside t b None = (λ h. (h.0, h.1.0.0, h.1.0.1), λ h. (h.0, ((h.1, h.2), tt)))
+if_fits names levels inside t b (Some c) = (λ h. (h.0, h.1.0.0, h.1.0.1, h.1.1.1), λ h. (h.0, ((h.1, h.2), (h.1, h.3))))
+
+failed_place : (j k : ℕ) (ps : List Place) → drop 1 (drop 1 (drop (suc j) (drop (suc k) ps))) ≡ drop (j + (k + 4)) ps
+failed_place j k ps =
+    let e : suc k + suc j + 1 + 1 ≡ j + (k + 4) = omega arith in
+    ap (λ (qs : List Place). drop 1 (drop 1 qs)) (drop-drop (suc j) (suc k) ps) ∙ ap (λ (qs : List Place). drop 1 qs) (drop-drop 1 (suc k + suc j) ps) ∙ drop-drop 1 (suc k + suc j + 1) ps ∙ ap (λ (m : ℕ). drop m ps) e
+
+if_said : (names : Names) (t : TestText) (b : BlockText) (o : Option BlockText) (ps : List Place)
+    → stmt.If (test_tree names t) (block_trees names b (drop 1 (drop (suc (length (test_pieces t))) ps))) (else_tree names o (drop (length (block_pieces b)) (drop (suc (length (test_pieces t))) ps))) ≡ stmt_tree names (if_text t b o) ps
+if_said names t b None ps = ap (λ (qs : List Place). stmt.If (test_tree names t) (block_trees names b qs) []) (held_place (length (test_pieces t)) ps)
+if_said names t b (Some c) ps =
+    ap (λ (qs : List Place). stmt.If (test_tree names t) (block_trees names b qs) (block_trees names c (drop 1 (drop 1 (drop (length (block_pieces b)) (drop (suc (length (test_pieces t))) ps)))))) (held_place (length (test_pieces t)) ps)
+    ∙ ap (λ (qs : List Place). stmt.If (test_tree names t) (block_trees names b (drop (length (test_pieces t) + 2) ps)) (block_trees names c qs)) (failed_place (length (rest_pieces b)) (length (test_pieces t)) ps)
+
+if_guards : (n : ℕ) (names : Names) (levels : ℕ) (inside : Bool) (block : ReadWords (List Stmt)) → BlockGuards n names levels inside block
+    → Guards n (if_at block (Some names) n levels) (λ c. stmt_pieces (if_of c)) Always (λ c. StmtFits names levels inside (if_of c)) (λ c ps. stmt_tree names (if_of c) ps) (Then (Not kind.Else))
 unfolding if_at
-if_guards n scope levels block g =
-    guards_as if_pieces Always (λ c. record { test = c.0; held = c.1.0; failed = c.1.1 }) (λ c. (c.test, (c.held, c.failed))) (λ c. refl) (λ c. refl) (λ c h. tt) (λ c h. (tt, (tt, tt)))
-    (guards_same _ (three_is stmt.If (after_word kind.If (parens_at scope n levels)) block (else_at block))
-    (both_guards (of_pair stmt.If) (after_guards kind.If (λ u. refl) (parens_guards n scope levels) test_example)
-    (both_guards pair_up g (else_guards n block g) (example_of None tt refl) (λ d rest h. tt))
-    (example_of (block_end, None) (tt, tt) refl) (λ d rest h. tt)))
+if_guards n names levels inside block g =
+    guards_as (λ c. c) (λ c. c)
+    (record {
+      back = λ c. refl;
+      spelled = λ c. if_spelled c.0 c.1.0 c.1.1;
+      fine = λ c h. tt;
+      unfine = λ c h. (tt, (tt, tt));
+      fit = λ c h. (if_fits names levels inside c.0 c.1.0 c.1.1).0 h;
+      unfit = λ c h. (if_fits names levels inside c.0 c.1.0 c.1.1).1 h;
+      said = λ c ps. if_said names c.0 c.1.0 c.1.1 ps;
+      stops = λ c rest h. h;
+    })
+    (guards_same _ (three_is stmt.If (after_word kind.If (parens_at (Some names) n levels)) block (else_at block))
+    (both_guards (of_pair stmt.If) any_joins (example_of (block_end, None) (tt, tt) refl) (after_guards kind.If (λ u. refl) test_example (parens_guards n names levels))
+    (both_guards pair_up any_joins (example_of None tt refl) g (else_guards n names levels inside block g))))
 
 -- ---- which statement
 
-kind_guards : (n : ℕ) (scope : Option Names) (levels : ℕ) (block : Bool → ReadWords (List Stmt)) → ((inside : Bool) → BlockGuards n (block inside)) → (inside : Bool) → Guards n (kind_at block inside scope n levels) stmt_pieces Always (Not kind.Else)
-unfolding kind_at
-kind_guards n scope levels block g inside =
-    guards_as stmt_pieces Always (λ s. s) (λ s. s) (λ s. refl) (λ s. refl) (λ s h. tt) (λ s h. (tt, omega arith))
-    (choice_guards stmt_pieces (Later Always 0) (Not kind.Else) (next_test kind.Name)
-    (λ c. assign c.0 c.1) (λ c. refl) (λ c h. (tt, omega arith)) (λ s. s) (λ s. refl) (λ s h. (tt, omega arith)) (sort_assign Always) (λ rest h. tt) (λ rest h. h) (assign_guards n scope)
-    (choice_guards stmt_pieces (Later Always 1) (Not kind.Else) (next_test kind.Havoc)
-    havoc (λ c. refl) (λ c h. (tt, omega arith)) (λ s. s) (λ s. refl) (λ s h. (tt, omega (arith, h.1))) (sort_havoc Always) (λ rest h. tt) (λ rest h. h) (havoc_guards n scope)
-    (choice_guards stmt_pieces (Later Always 2) (Not kind.Else) (next_test kind.Assume)
-    assume (λ c. refl) (λ c h. (tt, omega arith)) (λ s. s) (λ s. refl) (λ s h. (tt, omega (arith, h.1))) (sort_assume Always) (λ rest h. tt) (λ rest h. h) (cond_stmt_guards n scope levels kind.Assume stmt.Assume (λ u. refl))
-    (choice_guards stmt_pieces (Later Always 3) (Not kind.Else) (next_test kind.Assert)
-    assert (λ c. refl) (λ c h. (tt, omega arith)) (λ s. s) (λ s. refl) (λ s h. (tt, omega (arith, h.1))) (sort_assert Always) (λ rest h. tt) (λ rest h. h) (cond_stmt_guards n scope levels kind.Assert stmt.Assert (λ u. refl))
-    (choice_guards stmt_pieces (Later Always 4) (Not kind.Else) (next_test kind.Skip)
-    (λ (u : Unit {0}). skip) (λ c. refl) (λ c h. (tt, omega arith)) (λ s. s) (λ s. refl) (λ s h. (tt, omega (arith, h.1))) (sort_skip Always) (λ rest h. tt) (λ rest h. h) (skip_guards n)
-    (choice_guards stmt_pieces (Later Always 5) (Not kind.Else) (next_test kind.Atomic)
-    atomic (λ c. refl) (λ c h. (tt, omega arith)) (λ s. s) (λ s. refl) (λ s h. (tt, omega (arith, h.1))) (sort_atomic Always) (λ rest h. tt) (λ rest h. h) (atomic_guards n (block true) (g true))
-    (choice_guards stmt_pieces (Later Always 6) (Not kind.Else) (next_test kind.If)
-    if_of if_spelled (λ c h. (tt, if_is (λ s. 6 ≤ order s) (λ u b. omega arith) (λ u b d. omega arith) c)) (λ c. while_do c.0 c.1) (λ c. refl) (λ c h. (tt, omega arith)) (sort_if Always) (λ rest h. h) (λ rest h. tt) (if_guards n scope levels (block inside) (g inside))
-    (last_guards kind.While (λ c rest h. refl) while_example (while_stmt_guards n scope levels inside (block inside) (g inside))))))))))
+stmt_begins : (k : TokenKind) → is_kind kind.Name k ≡ false → is_kind kind.Havoc k ≡ false → is_kind kind.Assume k ≡ false → is_kind kind.Assert k ≡ false → is_kind kind.Skip k ≡ false → is_kind kind.Atomic k ≡ false → is_kind kind.If k ≡ false → is_kind kind.While k ≡ false
+    → (s : StmtText) (rest : List Piece) → Not k (stmt_pieces s ++ rest)
+stmt_begins k a b c d e f g h (assign x s) rest = a
+stmt_begins k a b c d e f g h (havoc x) rest = b
+stmt_begins k a b c d e f g h (assume t) rest = c
+stmt_begins k a b c d e f g h (assert t) rest = d
+stmt_begins k a b c d e f g h skip rest = e
+stmt_begins k a b c d e f g h (atomic t) rest = f
+stmt_begins k a b c d e f g h (if_then t u) rest = g
+stmt_begins k a b c d e f g h (if_else t u v) rest = g
+stmt_begins k a b c d e f g h (while_do t u) rest = h
 
-stmt_guards : (n : ℕ) (scope : Option Names) (levels : ℕ) (block : Bool → ReadWords (List Stmt)) → ((inside : Bool) → BlockGuards n (block inside)) → (inside : Bool) → Guards n (stmt_at block inside scope n levels) stmt_pieces Always (Not kind.Else)
+stmt_some : (s : StmtText) → 1 ≤ length (stmt_pieces s)
+stmt_some skip = omega arith
+stmt_some s = omega arith
+
+-- the statements in the order of the tests
+abbrev order : StmtText → ℕ
+order (assign x s) = 0
+order (havoc x) = 1
+order (assume c) = 2
+order (assert c) = 3
+order skip = 4
+order (atomic b) = 5
+order (if_then t b) = 6
+order (if_else t b c) = 6
+order (while_do t b) = 7
+
+abbrev Later : ℕ → StmtText → Type 0
+Later k s = k ≤ order s
+
+abbrev SortOf : {C : Type 0} → TokenKind → ℕ → (C → StmtText) → StmtText → Type 0
+SortOf k next f s = OfSort (begins_piece k) true stmt_pieces (Then (Not kind.Else)) f Always s ⊎ OfSort (begins_piece k) false stmt_pieces (Then (Not kind.Else)) (λ (u : StmtText). u) (Later next) s
+
+sort_assign : (s : StmtText) → Later 0 s → SortOf kind.Name 1 (λ (c : List ℕ × SumText). assign c.0 c.1) s
+sort_assign (assign x u) ok = inl (record { text = (x, u); same = refl; fine = tt; tells = λ rest h. refl })
+sort_assign s ok = inr (record { text = s; same = refl; fine = omega (arith, ok); tells = λ rest h. refl })
+
+sort_havoc : (s : StmtText) → Later 1 s → SortOf kind.Havoc 2 havoc s
+sort_havoc (havoc x) ok = inl (record { text = x; same = refl; fine = tt; tells = λ rest h. refl })
+sort_havoc s ok = inr (record { text = s; same = refl; fine = omega (arith, ok); tells = λ rest h. refl })
+
+sort_assume : (s : StmtText) → Later 2 s → SortOf kind.Assume 3 assume s
+sort_assume (assume c) ok = inl (record { text = c; same = refl; fine = tt; tells = λ rest h. refl })
+sort_assume s ok = inr (record { text = s; same = refl; fine = omega (arith, ok); tells = λ rest h. refl })
+
+sort_assert : (s : StmtText) → Later 3 s → SortOf kind.Assert 4 assert s
+sort_assert (assert c) ok = inl (record { text = c; same = refl; fine = tt; tells = λ rest h. refl })
+sort_assert s ok = inr (record { text = s; same = refl; fine = omega (arith, ok); tells = λ rest h. refl })
+
+sort_skip : (s : StmtText) → Later 4 s → SortOf kind.Skip 5 (λ (u : Unit {0}). skip) s
+sort_skip skip ok = inl (record { text = tt; same = refl; fine = tt; tells = λ rest h. refl })
+sort_skip s ok = inr (record { text = s; same = refl; fine = omega (arith, ok); tells = λ rest h. refl })
+
+sort_atomic : (s : StmtText) → Later 5 s → SortOf kind.Atomic 6 atomic s
+sort_atomic (atomic b) ok = inl (record { text = b; same = refl; fine = tt; tells = λ rest h. refl })
+sort_atomic s ok = inr (record { text = s; same = refl; fine = omega (arith, ok); tells = λ rest h. refl })
+
+sort_if : (s : StmtText) → Later 6 s → OfSort (begins_piece kind.If) true stmt_pieces (Then (Not kind.Else)) if_of Always s ⊎ OfSort (begins_piece kind.If) false stmt_pieces (Then (Not kind.Else)) (λ (c : TestText × BlockText). while_do c.0 c.1) Always s
+sort_if (if_then t b) ok = inl (record { text = (t, (b, None)); same = refl; fine = tt; tells = λ rest h. refl })
+sort_if (if_else t b c) ok = inl (record { text = (t, (b, Some c)); same = refl; fine = tt; tells = λ rest h. refl })
+sort_if (while_do t b) ok = inr (record { text = (t, b); same = refl; fine = tt; tells = λ rest h. refl })
+sort_if s ok = absurd (omega (arith, ok))
+
+if_order : (t : TestText) (b : BlockText) (o : Option BlockText) → Later 6 (if_text t b o)
+if_order t b None = omega arith
+if_order t b (Some c) = omega arith
+
+kind_guards : (n : ℕ) (names : Names) (levels : ℕ) (block : Bool → ReadWords (List Stmt)) → ((inside : Bool) → BlockGuards n names levels inside (block inside)) → (inside : Bool) → Guards n (kind_at block inside (Some names) n levels) stmt_pieces Always (StmtFits names levels inside) (stmt_tree names) (Then (Not kind.Else))
+unfolding kind_at
+kind_guards n names levels block g inside =
+    guards_so Always Fits (Then (Not kind.Else)) (λ s h. tt) (λ s h. omega arith) (λ s h. h) (λ s h. h) (λ s rest h. h)
+    (choice_guards stmt_pieces (Later 0) Fits (stmt_tree names) (Then (Not kind.Else)) (next_test kind.Name) (λ c. assign c.0 c.1) (λ c h. omega arith) (λ s. s) (λ s h. omega arith) sort_assign (λ c rest h. tt) (λ s rest h. h) (assign_guards n names)
+    (choice_guards stmt_pieces (Later 1) Fits (stmt_tree names) (Then (Not kind.Else)) (next_test kind.Havoc) havoc (λ c h. omega arith) (λ s. s) (λ s h. omega (arith, h)) sort_havoc (λ c rest h. tt) (λ s rest h. h) (havoc_guards n names)
+    (choice_guards stmt_pieces (Later 2) Fits (stmt_tree names) (Then (Not kind.Else)) (next_test kind.Assume) assume (λ c h. omega arith) (λ s. s) (λ s h. omega (arith, h)) sort_assume (λ c rest h. tt) (λ s rest h. h) (cond_stmt_guards n names levels kind.Assume stmt.Assume (λ u. refl))
+    (choice_guards stmt_pieces (Later 3) Fits (stmt_tree names) (Then (Not kind.Else)) (next_test kind.Assert) assert (λ c h. omega arith) (λ s. s) (λ s h. omega (arith, h)) sort_assert (λ c rest h. tt) (λ s rest h. h) (cond_stmt_guards n names levels kind.Assert stmt.Assert (λ u. refl))
+    (choice_guards stmt_pieces (Later 4) Fits (stmt_tree names) (Then (Not kind.Else)) (next_test kind.Skip) (λ (u : Unit {0}). skip) (λ c h. omega arith) (λ s. s) (λ s h. omega (arith, h)) sort_skip (λ c rest h. tt) (λ s rest h. h) (skip_guards n)
+    (choice_guards stmt_pieces (Later 5) Fits (stmt_tree names) (Then (Not kind.Else)) (next_test kind.Atomic) atomic (λ c h. omega arith) (λ s. s) (λ s h. omega (arith, h)) sort_atomic (λ c rest h. tt) (λ s rest h. h) (atomic_guards n names levels (block true) (g true))
+    (choice_guards stmt_pieces (Later 6) Fits (stmt_tree names) (Then (Not kind.Else)) (next_test kind.If) if_of (λ c h. if_order c.0 c.1.0 c.1.1) (λ c. while_do c.0 c.1) (λ c h. omega arith) sort_if (λ c rest h. h) (λ c rest h. tt) (if_guards n names levels inside (block inside) (g inside))
+    (last_guards kind.While (λ c rest h. refl) while_example (while_stmt_guards n names levels inside (block inside) (g inside))))))))))
+  where
+    Fits : StmtText → Type 0
+    Fits = StmtFits names levels inside
+
+-- ---- with its place
+
+first_is : (ws : List Word) (end : Place) (ps : List Piece) → pieces ws ≡ ps → 1 ≤ length ps → place_of_next ws end ≡ place_of_first (places ws)
+first_is [] end ps e h = absurd (omega (arith, h, ap (λ (qs : List Piece). length qs) e))
+first_is (w ∷ ws) end ps e h = refl
+
+abbrev placed_tree : Names → StmtText → List Place → Stmt
+placed_tree names s ps = record { place = place_of_first ps; kind = stmt_tree names s ps }
+
+stmt_guards : (n : ℕ) (names : Names) (levels : ℕ) (block : Bool → ReadWords (List Stmt)) → ((inside : Bool) → BlockGuards n names levels inside (block inside)) → (inside : Bool) → Guards n (stmt_at block inside (Some names) n levels) stmt_pieces Always (StmtFits names levels inside) (placed_tree names) (Then (Not kind.Else))
 unfolding stmt_at
-stmt_guards n scope levels block g inside = placed_guards (λ at k. record { place = place_at at; kind = k }) (kind_guards n scope levels block g inside)
+stmt_guards n names levels block g inside = record {
+  stuck = λ at room.
+      keeps_bind _ _ _ _ _ _ ((kind_guards n names levels block g inside).stuck at room)
+      (λ k p.
+      let begins : pieces at.words ≡ stmt_pieces p.went.text ++ pieces k.1.words = ap pieces p.went.split ∙ pieces_both p.went.front k.1.words ∙ ap (λ (qs : List Piece). qs ++ pieces k.1.words) p.went.spelled in
+      let some : 1 ≤ length (stmt_pieces p.went.text ++ pieces k.1.words) = omega (arith, length-append (stmt_pieces p.went.text) (pieces k.1.words), stmt_some p.went.text) in
+      keeps_end _ _ _ (record {
+        went = p.went;
+        fit = p.fit;
+        is = ap (λ (q : Place). made q k.0) (first_is at.words at.end _ begins some) ∙ ap (made (place_of_first (places at.words))) p.is;
+      }))
+      (λ e q. q);
+}
+  where
+    made : Place → StmtKind → Stmt
+    made p j = record { place = p; kind = j }
 
 -- ---- blocks
+
+abbrev goes_on : List Piece → Bool
+goes_on ps = not (begins_piece kind.CloseBrace ps)
 
 more_test : IsTest has_more goes_on
 more_test = record { is = λ at. ap not ((next_test kind.CloseBrace).is at); same = λ ps qs h. ap not ((next_test kind.CloseBrace).same ps qs h) }
 
+stmts_go_on : GoesOn goes_on stmt_pieces (Then (Not kind.Else))
+stmts_go_on = record {
+  starts = λ s rest. ap not (stmt_begins kind.CloseBrace refl refl refl refl refl refl refl refl s rest);
+  joins = λ s t rest. stmt_begins kind.Else refl refl refl refl refl refl refl refl t rest;
+  some = stmt_some;
+}
+
+block_of : List StmtText → BlockText
+block_of [] = block_end
+block_of (s ∷ ss) = block_more s (block_of ss)
+
+stmts_of : BlockText → List StmtText
+stmts_of block_end = []
+stmts_of (block_more s b) = s ∷ stmts_of b
+
+block_back : (b : BlockText) → block_of (stmts_of b) ≡ b
+unfolding block_of stmts_of
+block_back block_end = refl
+block_back (block_more s b) = ap (block_more s) (block_back b)
+
+block_spelled : (ss : List StmtText) → flat_map stmt_pieces ss ++ Mark kind.CloseBrace ∷ [] ≡ rest_pieces (block_of ss)
+unfolding block_of
+block_spelled [] = refl
+block_spelled (s ∷ ss) = append_assoc (stmt_pieces s) (flat_map stmt_pieces ss) (Mark kind.CloseBrace ∷ []) ∙ ap (λ (ps : List Piece). stmt_pieces s ++ ps) (block_spelled ss)
+
+block_fit : (names : Names) (levels : ℕ) (inside : Bool) (ss : List StmtText) → AllByRecursion (StmtFits names levels inside) ss → RestFits names levels inside (block_of ss)
+unfolding block_of
+block_fit names levels inside [] h = tt
+block_fit names levels inside (s ∷ ss) h = (h.0, block_fit names levels inside ss h.1)
+
+block_unfit : (names : Names) (levels : ℕ) (inside : Bool) (b : BlockText) → RestFits names levels inside b → AllByRecursion (StmtFits names levels inside) (stmts_of b)
+unfolding stmts_of
+block_unfit names levels inside block_end h = tt
+block_unfit names levels inside (block_more s b) h = (h.0, block_unfit names levels inside b h.1)
+
+block_said : (names : Names) (ss : List StmtText) (ps : List Place) → list_trees stmt_pieces (placed_tree names) ss ps ≡ block_trees names (block_of ss) ps
+unfolding block_of
+block_said names [] ps = refl
+block_said names (s ∷ ss) ps = ap (λ (zs : List Stmt). placed_tree names s ps ∷ zs) (block_said names ss (drop (length (stmt_pieces s)) ps))
+
+brace_ends : (ss : List StmtText) (rest : List Piece) → Ends goes_on (Then (Not kind.Else)) ss (Mark kind.CloseBrace ∷ rest)
+brace_ends [] rest = refl
+brace_ends (s ∷ ss) rest = (refl, refl)
+
 rest_example : Example rest_pieces Always
 rest_example = example_of block_end tt refl
 
-pub block_guards : (n : ℕ) (scope : Option Names) (levels : ℕ) (inside : Bool) → BlockGuards n (block_at scope n levels inside)
+pub block_guards : (n : ℕ) (names : Names) (levels : ℕ) (inside : Bool) → BlockGuards n names levels inside (block_at (Some names) n levels inside)
 unfolding block_at after_word
-block_guards n scope zero inside = word_refused_guards n kind.OpenBrace (λ w. Limit w.place limit.Depth) rest_pieces Always Always (λ u. refl) (λ w g. g) (λ w. refl) rest_example
-block_guards n scope (suc levels) inside =
-    after_guards kind.OpenBrace (λ u. refl)
-    (guards_as rest_pieces Always block_of stmts_of block_back block_spelled (λ ss h. tt) (λ b h. all_always (stmts_of b))
-    (closed_guards kind.CloseBrace (λ u. refl) (λ rest. (refl, refl))
-    (while_guards more_test stmts_go_on (stmt_guards n scope levels (block_at scope n levels) (λ u. block_guards n scope levels u) inside))))
-    rest_example
+block_guards n names zero inside = word_refused_guards n kind.OpenBrace (λ w. Limit w.place limit.Depth) rest_pieces Always _ _ Any (λ u. refl) (λ w g. g) (λ w. refl) rest_example (λ b fit. omega (arith, fit.0))
+block_guards n names (suc levels) inside =
+    guards_so Always (BlockFits names (suc levels) inside) Any (λ b h. h) (λ b h. h)
+    (λ b h. (omega arith, subst (λ (l : ℕ). RestFits names l inside b) (sym (one_less levels)) h)) (λ b h. subst (λ (l : ℕ). RestFits names l inside b) (one_less levels) h.1) (λ b rest h. h)
+    (after_guards {tree = block_trees names} kind.OpenBrace (λ u. refl) rest_example
+    (guards_as block_of stmts_of
+    (record { back = block_back; spelled = block_spelled; fine = λ ss h. tt; unfine = λ b h. all_always (stmts_of b); fit = block_fit names levels inside; unfit = block_unfit names levels inside; said = block_said names; stops = λ b rest h. h })
+    (closed_guards kind.CloseBrace (λ u. refl) brace_ends
+    (while_guards more_test stmts_go_on (stmt_guards n names levels (block_at (Some names) n levels) (λ u. block_guards n names levels u) inside)))))

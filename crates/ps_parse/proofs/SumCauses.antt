@@ -20,7 +20,7 @@ use Rattle.ps_parse.specs.Inner.Reading.{WordsAhead, ReadWords, next_is, next_wo
 use Rattle.ps_parse.specs.Kinds.{is_kind, begins_with, place_of_next}
 use Rattle.ps_parse.proofs.Steps.{one_kind, same_kind}
 use Rattle.ps_parse.proofs.Guards.{Keeps, keeps_end, keeps_more}
-use Rattle.ps_parse.proofs.RelationLaws.{AreSigns}
+use Rattle.ps_parse.proofs.SumGuards.{AreSigns}
 use Rattle.ps_parse.proofs.CauseSteps.{Whole, In, Blamed, has_causes, plain, naming, stepped, Fresh, joins, fresh_word, fresh_star, level_word, fresh_linear, grammar_blamed, unknown_blamed, linear_blamed, then_keeps, if_keeps, after_keeps, found_word, word_keeps}
 
 -- ---- what was passed
@@ -158,19 +158,11 @@ sum_keeps {t = t} {names = names} {ls = ls} n h f o =
 
 sign_plain : (s : Sign) → (has_causes (sign_kind s) ≡ false) × (joins (sign_kind s) ≡ false) × (is_kind (sign_kind s) kind.Atomic ≡ false)
 sign_plain sign.Less = (refl, refl, refl)
-sign_plain sign.LessEq = (refl, refl, refl)
-sign_plain sign.Greater = (refl, refl, refl)
-sign_plain sign.GreaterEq = (refl, refl, refl)
-sign_plain sign.Equal = (refl, refl, refl)
-sign_plain sign.NotEqual = (refl, refl, refl)
+sign_plain s = (refl, refl, refl)
 
 sign_levels : (s : Sign) (after : Bool) (ls : List Level) → levels_with after (sign_kind s) ls ≡ ls
 sign_levels sign.Less after ls = refl
-sign_levels sign.LessEq after ls = refl
-sign_levels sign.Greater after ls = refl
-sign_levels sign.GreaterEq after ls = refl
-sign_levels sign.Equal after ls = refl
-sign_levels sign.NotEqual after ls = refl
+sign_levels s after ls = refl
 
 sign_keeps : {t : Whole} {names : Names} {back : List Word} {at : WordsAhead} {ls : List Level} (of : TokenKind → Option Sign) → AreSigns of → In t names back at → Fresh false back → levels back ≡ ls → Keeps (sign_ahead of at) (Past t names (LevelsAre ls)) (Blamed t)
 unfolding sign_ahead

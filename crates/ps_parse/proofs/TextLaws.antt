@@ -15,9 +15,8 @@ use Rattle.ps_grammar.specs.Words.{Word, words_of}
 use Rattle.ps_parse.specs.Inner.Items.{program_in}
 use Rattle.ps_grammar.specs.Programs.{IsProgram}
 use Rattle.ps_parse.specs.Texts.{TokenIsBad, GrammarIsFault, IsInText, RefusalIsInText, IsFirstRefusal, RefusalIsFirst, end_of, uncut}
-use Rattle.ps_parse.proofs.ProgramGuards.{program_of_grammar, program_of_refused}
+use Rattle.ps_parse.proofs.ProgramGuards.{program_of_found, program_of_again, program_of_grammar, program_of_refused}
 use Rattle.ps_parse.proofs.ProgramCauses.{program_of_first}
-use Rattle.ps_parse.proofs.ProgramLaws.{program_of_found, program_of_again}
 
 -- the answer is this one, unless memory runs out
 abbrev Answers : Result Program ReadRefusal → Result Program ReadRefusal → Type 0
@@ -67,13 +66,7 @@ no_token words end place tells = let f : IsFirstCause words end (refusal.Token p
 pub cut_token : (bytes : List ℕ) (ts : List Token) (result : Result Program ReadRefusal) → ReadsWhole (λ (p : Program). p) result (program_in (words_of bytes ts) (end_of bytes)) → IfErr result (TokenIsBad bytes)
 cut_token bytes ts (Ok p) tells = tt
 cut_token bytes ts (Err (refusal.Token place)) tells = absurd (no_token (words_of bytes ts) (end_of bytes) place tells)
-cut_token bytes ts (Err (refusal.Grammar place)) tells = tt
-cut_token bytes ts (Err (refusal.UnknownName place)) tells = tt
-cut_token bytes ts (Err (refusal.Twice place)) tells = tt
-cut_token bytes ts (Err (refusal.NotLinear place)) tells = tt
-cut_token bytes ts (Err (refusal.LoopInAtomic place)) tells = tt
-cut_token bytes ts (Err (refusal.Limit place l)) tells = tt
-cut_token bytes ts (Err (refusal.Memory e)) tells = tt
+cut_token bytes ts (Err e) tells = tt
 
 -- ---- where a fault of the grammar stands
 
@@ -83,14 +76,8 @@ uncut_grammar bytes (token.Memory e) = tt
 
 pub cut_grammar : (bytes : List ℕ) (ts : List Token) (result : Result Program ReadRefusal) → AreTokens bytes ts → ReadsWhole (λ (p : Program). p) result (program_in (words_of bytes ts) (end_of bytes)) → IfErr result (GrammarIsFault bytes)
 cut_grammar bytes ts (Ok p) cut tells = tt
-cut_grammar bytes ts (Err (refusal.Token place)) cut tells = tt
 cut_grammar bytes ts (Err (refusal.Grammar place)) cut tells = record { tokens = ts; cut = cut; is = program_of_grammar (words_of bytes ts) (end_of bytes) place tells }
-cut_grammar bytes ts (Err (refusal.UnknownName place)) cut tells = tt
-cut_grammar bytes ts (Err (refusal.Twice place)) cut tells = tt
-cut_grammar bytes ts (Err (refusal.NotLinear place)) cut tells = tt
-cut_grammar bytes ts (Err (refusal.LoopInAtomic place)) cut tells = tt
-cut_grammar bytes ts (Err (refusal.Limit place l)) cut tells = tt
-cut_grammar bytes ts (Err (refusal.Memory e)) cut tells = tt
+cut_grammar bytes ts (Err e) cut tells = tt
 
 -- ---- where any refusal of the words stands
 
@@ -104,13 +91,8 @@ in_text bytes ts e cut tells = record { tokens = ts; cut = cut; is = program_of_
 pub cut_in_text : (bytes : List ℕ) (ts : List Token) (result : Result Program ReadRefusal) → AreTokens bytes ts → ReadsWhole (λ (p : Program). p) result (program_in (words_of bytes ts) (end_of bytes)) → IfErr result (RefusalIsInText bytes)
 cut_in_text bytes ts (Ok p) cut tells = tt
 cut_in_text bytes ts (Err (refusal.Token place)) cut tells = tt
-cut_in_text bytes ts (Err (refusal.Grammar place)) cut tells = in_text bytes ts (refusal.Grammar place) cut tells
-cut_in_text bytes ts (Err (refusal.UnknownName place)) cut tells = in_text bytes ts (refusal.UnknownName place) cut tells
-cut_in_text bytes ts (Err (refusal.Twice place)) cut tells = in_text bytes ts (refusal.Twice place) cut tells
-cut_in_text bytes ts (Err (refusal.NotLinear place)) cut tells = in_text bytes ts (refusal.NotLinear place) cut tells
-cut_in_text bytes ts (Err (refusal.LoopInAtomic place)) cut tells = in_text bytes ts (refusal.LoopInAtomic place) cut tells
-cut_in_text bytes ts (Err (refusal.Limit place l)) cut tells = in_text bytes ts (refusal.Limit place l) cut tells
 cut_in_text bytes ts (Err (refusal.Memory e)) cut tells = tt
+cut_in_text bytes ts (Err e) cut tells = in_text bytes ts e cut tells
 
 -- ---- the first word that has a cause of a refusal
 
@@ -124,10 +106,5 @@ first_in bytes ts e cut tells = record { tokens = ts; cut = cut; is = program_of
 pub cut_first : (bytes : List ℕ) (ts : List Token) (result : Result Program ReadRefusal) → AreTokens bytes ts → ReadsWhole (λ (p : Program). p) result (program_in (words_of bytes ts) (end_of bytes)) → IfErr result (RefusalIsFirst bytes)
 cut_first bytes ts (Ok p) cut tells = tt
 cut_first bytes ts (Err (refusal.Token place)) cut tells = tt
-cut_first bytes ts (Err (refusal.Grammar place)) cut tells = first_in bytes ts (refusal.Grammar place) cut tells
-cut_first bytes ts (Err (refusal.UnknownName place)) cut tells = first_in bytes ts (refusal.UnknownName place) cut tells
-cut_first bytes ts (Err (refusal.Twice place)) cut tells = first_in bytes ts (refusal.Twice place) cut tells
-cut_first bytes ts (Err (refusal.NotLinear place)) cut tells = first_in bytes ts (refusal.NotLinear place) cut tells
-cut_first bytes ts (Err (refusal.LoopInAtomic place)) cut tells = first_in bytes ts (refusal.LoopInAtomic place) cut tells
-cut_first bytes ts (Err (refusal.Limit place l)) cut tells = first_in bytes ts (refusal.Limit place l) cut tells
 cut_first bytes ts (Err (refusal.Memory e)) cut tells = tt
+cut_first bytes ts (Err e) cut tells = first_in bytes ts e cut tells

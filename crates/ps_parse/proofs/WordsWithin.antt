@@ -1,5 +1,5 @@
 -- The tokens of a text as its words.
-use Rattle.std.proofs.Common.{◌≡◌, ℕ, ◌+◌, ◌≤◌, List, [], ◌∷◌, suc, length, arith, true}
+use Rattle.std.proofs.Common.{◌≡◌, ℕ, ◌+◌, ◌≤◌, List, [], ◌∷◌, suc, length, subst, arith, true}
 use Rattle.std.specs.Prelude.{All}
 use Rattle.ps_token.specs.declared.token.Token.{Token}
 use Rattle.ps_token.specs.declared.token_kind.TokenKind.{TokenKind}
@@ -7,41 +7,10 @@ use Rattle.ps_token.specs.declared.token_kind.TokenKind.TheVariants as kind
 use Rattle.ps_token.specs.Lexing.{AreTokens, AreUpTo, IsInside, IsNumber, IsSpelled}
 use Rattle.ps_parse.specs.Inner.Within.{AreWithin}
 use Rattle.ps_parse.specs.Kinds.{is_kind}
+use Rattle.ps_parse.proofs.Steps.{one_kind}
 
 is_number : (k : TokenKind) (text : List ℕ) → IsSpelled k text → is_kind k kind.Number ≡ true → IsNumber text
-is_number kind.Number text h e = h
-is_number kind.Name text h e = absurd cc
-is_number kind.Global text h e = absurd cc
-is_number kind.Local text h e = absurd cc
-is_number kind.Init text h e = absurd cc
-is_number kind.Thread text h e = absurd cc
-is_number kind.Havoc text h e = absurd cc
-is_number kind.Assume text h e = absurd cc
-is_number kind.Assert text h e = absurd cc
-is_number kind.Skip text h e = absurd cc
-is_number kind.Atomic text h e = absurd cc
-is_number kind.If text h e = absurd cc
-is_number kind.Else text h e = absurd cc
-is_number kind.While text h e = absurd cc
-is_number kind.Becomes text h e = absurd cc
-is_number kind.LessEq text h e = absurd cc
-is_number kind.GreaterEq text h e = absurd cc
-is_number kind.EqualEqual text h e = absurd cc
-is_number kind.NotEqual text h e = absurd cc
-is_number kind.And text h e = absurd cc
-is_number kind.Or text h e = absurd cc
-is_number kind.Less text h e = absurd cc
-is_number kind.Greater text h e = absurd cc
-is_number kind.Not text h e = absurd cc
-is_number kind.Equal text h e = absurd cc
-is_number kind.Plus text h e = absurd cc
-is_number kind.Minus text h e = absurd cc
-is_number kind.Star text h e = absurd cc
-is_number kind.OpenParen text h e = absurd cc
-is_number kind.CloseParen text h e = absurd cc
-is_number kind.OpenBrace text h e = absurd cc
-is_number kind.CloseBrace text h e = absurd cc
-is_number kind.Semicolon text h e = absurd cc
+is_number k text h e = subst (λ (j : TokenKind). IsSpelled j text) (one_kind k kind.Number e) h
 
 first_inside : (len : ℕ) (t : Token) (ts : List Token) → All (IsInside len) (t ∷ ts) → IsInside len t
 first_inside len t ts all = all 0 t (omega arith)

@@ -23,7 +23,7 @@ use ps_tree::Sign;
 use std::marker::Model;
 
 /// A place in the words of a program text. A call takes no memory.
-#[derive(Debug, Drop)]
+#[derive(Drop)]
 pub(crate) struct Cursor<'a> {
     bytes: &'a [u8],
     tokens: &'a [Token],

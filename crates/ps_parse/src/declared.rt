@@ -13,7 +13,7 @@ use std::alloc::{AllocError, Global};
 use std::marker::Model;
 
 /// What is declared so far, and how many rows hold at the start.
-#[derive(Debug, Drop)]
+#[derive(Drop)]
 pub(crate) struct Declared {
     globals: Vec<GlobalDecl>,
     locals: Vec<Name>,

@@ -5,7 +5,7 @@ use std::alloc::Global;
 
 /// Reads parts of a program from the words of its text. Nothing is repeated more than `most` times, which is the number of
 /// words of the whole text.
-#[derive(Debug, Drop)]
+#[derive(Drop)]
 pub(crate) struct Parser<'a> {
     pub(crate) alloc: Global,
     pub(crate) scope: Scope<'a>,

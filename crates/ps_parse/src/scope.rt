@@ -8,7 +8,7 @@ use crate::declared::Declared;
 use ps_term::Var;
 
 /// Whose names pass.
-#[derive(Debug, Drop)]
+#[derive(Drop)]
 pub(crate) enum Scope<'a> {
     /// Any name.
     Any,

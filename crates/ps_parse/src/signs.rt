@@ -8,7 +8,7 @@ use ps_token::TokenKind;
 use ps_tree::Sign;
 
 /// Which signs a relation may have.
-#[derive(Clone, Copy, Debug, PartialEq, Eq)]
+#[derive(Clone, Copy)]
 pub(crate) enum Signs {
     /// Each of the six.
     All,

@@ -2,7 +2,7 @@
 use ps_token::{Place, TokenKind};
 
 /// A token with its bytes.
-#[derive(Clone, Copy, Debug)]
+#[derive(Clone, Copy)]
 pub(crate) struct Word<'a> {
     pub(crate) kind: TokenKind,
     pub(crate) text: &'a [u8],
