@@ -12,6 +12,6 @@ atom_row-requires-clause-once c = (choice_ready c.args.setting.now c.args.predic
 
 pub returns-clause-made : goal.returns-clause-made
 returns-clause-made c =
-    let ready = choice_ready c.args.setting.now c.args.predicates.now c.args.number c.args.post.now c.args.threads _ c.args.of_atom.now c.requires.there c.requires.threads c.requires.arranged c.in_ok-from_slice.ensures in
+    let ready = choice_ready c.args.setting.now c.args.predicates.now c.args.number c.args.post.now c.args.threads _ c.args.of_atom.now c.requires.there c.requires.threads c.requires.arranged c.in_ok-from_slice.ensures.copy in
     λ h. subst (λ cs. All (IsChoice c.args.setting.now c.args.predicates.now c.args.post.now) cs) (sym c.in_ok-push.ensures.items)
     (All-push (IsChoice c.args.setting.now c.args.predicates.now c.args.post.now) c.args.list.now.items _ h (record { named = ready.0; once = ready.1; tied = ready.2; row_is = c.in_ok-row.ensures }))
