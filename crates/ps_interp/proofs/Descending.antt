@@ -9,6 +9,7 @@ use Rattle.std.proofs.lemmas.List.Elements.{All-nil, All-push, All-weaker, filte
 use Rattle.std.proofs.lemmas.Option.{same_Some}
 use Rattle.std.proofs.lemmas.Slice.Zip.{all_zipped_more}
 use Rattle.ps_atom.specs.declared.predicate.Predicate.{Predicate}
+use Rattle.ps_atom.specs.declared.predicates.TheConstants.Predicates.{MOST}
 use Rattle.ps_command.specs.declared.setting.Setting.{Setting}
 use Rattle.ps_interp.specs.Cuts.{IsFalseSum, cuts_down, sum_at}
 use Rattle.ps_interp.specs.Entries.{triple_of}
@@ -39,7 +40,7 @@ use Rattle.ps_interp.proofs.Totals.{there_is}
 no_cuts : (n : ℕ) → cuts_down n n ≡ []
 no_cuts n = ap (λ (k : ℕ). reverse (range_with_len n k)) (let e : n - n ≡ 0 = omega arith in e)
 
-one_cut : (cut high : ℕ) → cut < high → cuts_down cut high ≡ cuts_down (cut + 1) high ++ cut ∷ []
+pub one_cut : (cut high : ℕ) → cut < high → cuts_down cut high ≡ cuts_down (cut + 1) high ++ cut ∷ []
 one_cut cut high h =
     ap (λ (k : ℕ). reverse (range_with_len cut k)) (let e : high - cut ≡ suc (high - (cut + 1)) = omega (arith, h) in e)
     ∙ reverse-cons cut (range_with_len (cut + 1) (high - (cut + 1)))
@@ -86,8 +87,9 @@ triple_at letters joined list cut q after entry within stands next is = at (ther
 -- ---- one cut after another
 module _ (setting : Setting) (letters : List Weighed) (joined : (i : ℕ) (w : Weighed) → slice_get letters i ≡ Some w → Joins letters i w)
     (known : List Predicate) (before : List Entry) (high : ℕ) where
-  pub met_none : (found : Found) → found.table ≡ known → found.entries.items ≡ before → IsFalseSum (sum_at letters high) → AreMet setting letters known before high high found (Some false_interpolant)
-  met_none found e f h = record {
+  pub met_none : (found : Found) → found.table ≡ known → found.entries.items ≡ before → length known ≤ MOST → IsFalseSum (sum_at letters high) →
+      AreMet setting letters known before high high found (Some false_interpolant)
+  met_none found e f room h = record {
     new = [];
     table = e ∙ sym (append-nil known);
     triples = [];
@@ -98,6 +100,7 @@ module _ (setting : Setting) (letters : List Weighed) (joined : (i : ℕ) (w : W
       first = refl;
       triples_are = subst (λ (is : List ℕ). AllZip (IsTripleAt letters (known ++ [])) is []) (sym (no_cuts high)) tt;
       triples_fit = All-nil (EntryFits setting (known ++ []));
+      room = subst (λ (ps : List Predicate). length ps ≤ MOST) (sym (append-nil known)) room;
     };
     hold = All-nil (EntryHolds setting (known ++ []));
     more = [];
@@ -153,6 +156,7 @@ module _ (setting : Setting) (letters : List Weighed) (joined : (i : ℕ) (w : W
             (zip_weaker (IsTripleAt letters (known ++ m.new)) (IsTripleAt letters all) (λ i e h. longer (λ (ps : List Predicate). IsTripleAt letters ps i e) (triple_longer (known ++ m.new) s.taken.more letters i e h)) (cuts_down (cut + 1) high) m.triples m.made.triples_are)
             this_triple);
         triples_fit = All-weaker (EntryHolds setting all) (EntryFits setting all) (λ e h. h.fits) (m.triples ++ s.entry ∷ []) hold_all;
+        room = subst (λ (ps : List Predicate). length ps ≤ MOST) table_is s.room;
       };
       hold = hold_all;
       more = m.more ++ s.listed.more;
@@ -207,13 +211,14 @@ module _ (cuts : Cuts) (a : AreCuts cuts) where
 
   -- one cut is met
   pub meet_from : (cut : ℕ) (sum : Term) (d : WeighedLetter) (after : Interpolant) (old mid new : Found) (q : Option Interpolant) (entry : Entry) → cut < length cuts.letters.items →
-      sum ≡ sum_at (letters_in cuts) cut → InterpolantFits sum → IsTaken old.table sum mid.table → StandsAt mid.table sum q →
+      sum ≡ sum_at (letters_in cuts) cut → InterpolantFits sum → IsTaken old.table sum mid.table → length mid.table ≤ MOST → StandsAt mid.table sum q →
       ((w : Weighed) → part_in w ≡ part_of (get_or cuts.letters.items cut d) → entry ≡ triple_of w q after) →
       EntryHolds cuts.setting.now mid.table entry → mid.entries.items ≡ old.entries.items → new.table ≡ mid.table → IsListed mid.entries.items entry new.entries.items →
       IsMet cuts.setting.now (letters_in cuts) cut after old new q
-  meet_from cut sum d after old mid new q entry below is fits taken stands triple holds kept same listed = record {
+  meet_from cut sum d after old mid new q entry below is fits taken room stands triple holds kept same listed = record {
     fits = subst InterpolantFits is fits;
     taken = subst (λ (t : Term). IsTaken old.table t new.table) is (subst (λ (ps : List Predicate). IsTaken old.table sum ps) (sym same) taken);
+    room = subst (λ (ps : List Predicate). length ps ≤ MOST) (sym same) room;
     stands = subst (λ (t : Term). StandsAt new.table t q) is (subst (λ (ps : List Predicate). StandsAt ps sum q) (sym same) stands);
     entry = entry;
     triple = λ w got. triple w (part_at cuts.setting.now cuts.letters.items cut w d got);
@@ -223,13 +228,14 @@ module _ (cuts : Cuts) (a : AreCuts cuts) where
 
   -- its triple doesn't hold
   pub unheld_from : (cut : ℕ) (sum : Term) (d : WeighedLetter) (after : Interpolant) (old mid : List Predicate) (q : Option Interpolant) (entry : Entry) →
-      sum ≡ sum_at (letters_in cuts) cut → InterpolantFits sum → IsTaken old sum mid → StandsAt mid sum q →
+      sum ≡ sum_at (letters_in cuts) cut → InterpolantFits sum → IsTaken old sum mid → length mid ≤ MOST → StandsAt mid sum q →
       ((w : Weighed) → part_in w ≡ part_of (get_or cuts.letters.items cut d) → entry ≡ triple_of w q after) → ¬ EntryHolds cuts.setting.now mid entry →
       EndsMeeting cuts.setting.now (letters_in cuts) cut after old Past128
-  unheld_from cut sum d after old mid q entry is fits taken stands triple fails = inr (record {
+  unheld_from cut sum d after old mid q entry is fits taken room stands triple fails = inr (record {
     fits = subst InterpolantFits is fits;
     new = mid;
     taken = subst (λ (t : Term). IsTaken old t mid) is taken;
+    room = room;
     q = q;
     stands = subst (λ (t : Term). StandsAt mid t q) is stands;
     entry = entry;
@@ -249,10 +255,10 @@ module _ (cuts : Cuts) (a : AreCuts cuts) where
     abbrev Reached : ℕ → Found → Option Interpolant → Type 0
     Reached cut found q = AreMet cuts.setting.now (letters_in cuts) known before cuts.high cut found q
 
-    pub first_met : (found : Found) (after : Interpolant) → found.table ≡ known → found.entries.items ≡ before → after ≡ false_interpolant →
+    pub first_met : (found : Found) (after : Interpolant) → found.table ≡ known → found.entries.items ≡ before → length known ≤ MOST → after ≡ false_interpolant →
         AreMet cuts.setting.now (letters_in cuts) known before cuts.high cuts.high found (Some after)
-    first_met found after e f g = subst (λ (q : Interpolant). Reached cuts.high found (Some q)) (sym g)
-        (met_none cuts.setting.now (letters_in cuts) joined_in known before cuts.high found e f a.bounds.ends)
+    first_met found after e f room g = subst (λ (q : Interpolant). Reached cuts.high found (Some q)) (sym g)
+        (met_none cuts.setting.now (letters_in cuts) joined_in known before cuts.high found e f room a.bounds.ends)
 
     module _ (cut : ℕ) (above : cuts.low < cut) (within : cut ≤ cuts.high) where
       back_one : cut - 1 + 1 ≡ cut

@@ -6,6 +6,7 @@ use mathlib.Core.List.{reverse-cons}
 use Rattle.std.proofs.lemmas.List.{append-nil}
 use Rattle.ps_atom.specs.Numbers.{false_predicate}
 use Rattle.ps_atom.specs.declared.predicate.Predicate.{Predicate}
+use Rattle.ps_atom.specs.declared.predicates.TheConstants.Predicates.{MOST}
 use Rattle.ps_command.specs.declared.setting.Setting.{Setting}
 use Rattle.ps_farkas.specs.Refutes.{Refutes}
 use Rattle.ps_graph.specs.declared.graph.Graph.{Graph}
@@ -71,6 +72,7 @@ module _ (graph : Graph) (letters : List (ℕ × ℕ)) (lambda : List ℕ)
             ⊎ ((predicate : Option Predicate) × (more : List Predicate) × (entry : Entry)
             × IsPredicateAt (sum_at cut_letters e.cut) predicate
             × AreFirst (known ++ e.new) (filter_map (λ p. p) (predicate ∷ [])) more
+            × (length (known ++ (e.new ++ more)) ≤ MOST)
             × IsTripleAt cut_letters (known ++ (e.new ++ more)) e.cut entry
             × (¬ EntryFits graph.setting (known ++ (e.new ++ more)) entry))
         at (inl past) = inl past
@@ -80,6 +82,7 @@ module _ (graph : Graph) (letters : List (ℕ × ℕ)) (lambda : List ℕ)
           u.entry,
           u.taken.is,
           u.taken.first,
+          subst (λ (ps : List Predicate). length ps ≤ MOST) list_is u.room,
           this_triple,
           λ fits. u.fails (subst (λ (ps : List Predicate). EntryHolds graph.setting ps u.entry) (sym list_is)
               (triple_at_holds graph letters lambda edges refutes list (kept_first known (e.new ++ u.taken.more) false_predicate first) e.cut u.entry this_triple (bounds.least e.cut e.below) fits)),

@@ -1,5 +1,5 @@
 -- Members of lists without those that stand already.
-use Rattle.std.proofs.Common.{◌∙◌, ap, append_assoc, sym, subst, List, [], ◌∷◌, ◌++◌, inl, inr, ◌⊎◌, Contains}
+use Rattle.std.proofs.Common.{◌≡◌, refl, ◌∙◌, ap, append_assoc, sym, subst, List, [], ◌∷◌, ◌++◌, inl, inr, ◌⊎◌, Contains}
 use Rattle.std.proofs.lemmas.List.{append-nil}
 use Rattle.std.proofs.lemmas.List.Elements.{Contains-push_cases}
 use Rattle.ps_list.proofs.Members.{nothing, cons_cases, here, there}
@@ -51,3 +51,41 @@ first_append {X} seen (x ∷ xs) first ys more (inr new) k = inr (
         (subst (λ (zs : List X). AreFirst zs ys more) (ap (λ (zs : List X). seen ++ zs) new.1.1 ∙ sym (append_assoc seen (x ∷ []) new.1.0)) k),
   ),
 )
+
+-- they are determined
+pub same_first : {X : Type 0} (seen xs first other : List X) → AreFirst seen xs first → AreFirst seen xs other → first ≡ other
+same_first seen [] first other h k = h ∙ sym k
+same_first seen (x ∷ xs) first other (inl h) (inl k) = same_first seen xs first other h.1 k.1
+same_first seen (x ∷ xs) first other (inl h) (inr k) = absurd (k.0 h.0)
+same_first seen (x ∷ xs) first other (inr h) (inl k) = absurd (h.0 k.0)
+same_first {X} seen (x ∷ xs) first other (inr h) (inr k) =
+    h.1.1 ∙ (ap (λ (zs : List X). x ∷ zs) (same_first (seen ++ x ∷ []) xs h.1.0 k.1.0 h.1.2 k.1.2) ∙ sym k.1.1)
+
+-- those of two lists, one after the other, are those of the first and then those that the second adds
+pub record FirstParts {X : Type 0} (seen xs ys first : List X) : Type 0 where
+  pub old : List X
+  pub more : List X
+  pub before : AreFirst seen xs old
+  pub after : AreFirst (seen ++ old) ys more
+  pub all : first ≡ old ++ more
+
+pub first_parts : {X : Type 0} (seen xs ys first : List X) → AreFirst seen (xs ++ ys) first → FirstParts seen xs ys first
+first_parts {X} seen [] ys first h = record {
+  old = [];
+  more = first;
+  before = refl;
+  after = subst (λ (zs : List X). AreFirst zs ys first) (sym (append-nil seen)) h;
+  all = refl;
+}
+first_parts {X} seen (x ∷ xs) ys first (inl h) =
+    let p : FirstParts seen xs ys first = first_parts seen xs ys first h.1 in
+    record { old = p.old; more = p.more; before = inl (h.0, p.before); after = p.after; all = p.all }
+first_parts {X} seen (x ∷ xs) ys first (inr h) =
+    let p : FirstParts (seen ++ x ∷ []) xs ys h.1.0 = first_parts (seen ++ x ∷ []) xs ys h.1.0 h.1.2 in
+    record {
+      old = x ∷ p.old;
+      more = p.more;
+      before = inr (h.0, (p.old, refl, p.before));
+      after = subst (λ (zs : List X). AreFirst zs ys p.more) (append_assoc seen (x ∷ []) p.old) p.after;
+      all = h.1.1 ∙ ap (λ (zs : List X). x ∷ zs) p.all;
+    }

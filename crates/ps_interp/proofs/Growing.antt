@@ -10,6 +10,7 @@ use Rattle.ps_atom.specs.declared.atom.Atom.{Atom}
 use Rattle.ps_atom.specs.declared.predicate.Predicate.{Predicate}
 use Rattle.ps_command.specs.declared.setting.Setting.{Setting}
 use Rattle.ps_farkas.specs.Refutes.{AllSumsFit, Refutes}
+use Rattle.ps_interp.specs.Entries.{triple_of}
 use Rattle.ps_interp.specs.Interpolants.{Interpolant, StandsAt}
 use Rattle.ps_interp.specs.Made.{IsTripleAt}
 use Rattle.ps_interp.specs.Sums.{Weighed}
@@ -18,7 +19,7 @@ use Rattle.ps_term.specs.Substitution.{SubstitutionFits}
 use Rattle.ps_term.specs.declared.row.Row.{Row}
 use Rattle.ps_term.specs.declared.term.Term.{Term}
 use Rattle.ps_triple.specs.Faults.{EntryHolds}
-use Rattle.ps_triple.specs.Fits.{MakingFits, entry_rows, lambda_of}
+use Rattle.ps_triple.specs.Fits.{EntryFits, MakingFits, entry_rows, lambda_of}
 use Rattle.ps_triple.specs.Rows.{atom_row, form_in, initial_rows, negated, predicate_of, row_after}
 use Rattle.ps_triple.specs.Tests.{IsAtomOf, IsThere, NamesThings}
 use Rattle.ps_triple.specs.declared.entry.Entry.{Entry}
@@ -60,6 +61,25 @@ module _ (list more : List Predicate) where
     is = t.is;
   }
 
+  -- each predicate that the entry names is in the list
+  abbrev pub IsNamedIn : Entry → Type 0
+  IsNamedIn (OfTriple t) = AllByRecursion (λ (q : Atom). q.predicate < length list) t.pre × (t.post.predicate < length list)
+  IsNamedIn (OfInitial i) = i.predicate < length list
+
+  stands_within : 0 < length list → (sum : Term) (q : Interpolant) → StandsAt list sum (Some q) → q.atom.predicate < length list
+  stands_within some sum q (inl h) = subst (λ (r : Interpolant). r.atom.predicate < length list) (sym h.1) some
+  stands_within some sum q (inr h) = slice_get_within list q.atom.predicate h.0.0 h.0.2.stands
+
+  pub triple_named : 0 < length list → (letters : List Weighed) (cut : ℕ) (entry : Entry) → IsTripleAt letters list cut entry → IsNamedIn entry
+  triple_named some letters cut entry t = subst IsNamedIn (sym t.is) (at t.before t.stands_before)
+    where
+      after : t.after.atom.predicate < length list
+      after = stands_within some t.letter.after t.after t.stands_after
+
+      at : (q : Option Interpolant) → StandsAt list t.letter.before q → IsNamedIn (triple_of t.letter q t.after)
+      at None h = (tt, after)
+      at (Some q) h = ((stands_within some t.letter.before q h, tt), after)
+
   module _ (setting : Setting) where
     there_longer : (n : ℕ) → IsThere setting list n → IsThere setting (list ++ more) n
     there_longer n h = (
@@ -82,30 +102,47 @@ module _ (list more : List Predicate) where
     )
     names_longer (OfInitial i) h = there_longer i.predicate h
 
-    row_longer : (q : Atom) → IsAtomOf setting list q → atom_row (list ++ more) q ≡ atom_row list q
-    row_longer q h = ap (λ (p : Predicate). Rattle.ps_triple.specs.Places.row_by (Rattle.ps_atom.specs.Atoms.at_threads q.threads) p.row) (predicate_longer q.predicate h.0.0)
+    named_from : (e : Entry) → NamesThings setting list e → IsNamedIn e
+    named_from (OfTriple t) h = (all t.pre (recursion_from_All (IsAtomOf setting list) t.pre h.1), h.2.0.0)
+      where
+        all : (qs : List Atom) → AllByRecursion (IsAtomOf setting list) qs → AllByRecursion (λ (q : Atom). q.predicate < length list) qs
+        all [] h = tt
+        all (q ∷ qs) h = (h.0.0.0, all qs h.1)
+    named_from (OfInitial i) h = h.0
 
-    all_rows_longer : (qs : List Atom) → AllByRecursion (IsAtomOf setting list) qs → map (atom_row (list ++ more)) qs ≡ map (atom_row list) qs
+    row_longer : (q : Atom) → q.predicate < length list → atom_row (list ++ more) q ≡ atom_row list q
+    row_longer q h = ap (λ (p : Predicate). Rattle.ps_triple.specs.Places.row_by (Rattle.ps_atom.specs.Atoms.at_threads q.threads) p.row) (predicate_longer q.predicate h)
+
+    all_rows_longer : (qs : List Atom) → AllByRecursion (λ (q : Atom). q.predicate < length list) qs → map (atom_row (list ++ more)) qs ≡ map (atom_row list) qs
     all_rows_longer [] h = refl
     all_rows_longer (q ∷ qs) h = ap₂ (λ (r : Row) (rs : List Row). r ∷ rs) (row_longer q h.0) (all_rows_longer qs h.1)
 
-    rows_longer : (e : Entry) → NamesThings setting list e → entry_rows setting (list ++ more) e ≡ entry_rows setting list e
+    rows_longer : (e : Entry) → IsNamedIn e → entry_rows setting (list ++ more) e ≡ entry_rows setting list e
     rows_longer (OfTriple t) h =
         ap₂ (λ (rs : List Row) (r : Row). rs ++ ((form_in setting t.command).rows ++ row_after (form_in setting t.command) (negated r) ∷ []))
-        (all_rows_longer t.pre (recursion_from_All (IsAtomOf setting list) t.pre h.1)) (row_longer t.post h.2)
+        (all_rows_longer t.pre h.0) (row_longer t.post h.1)
     rows_longer (OfInitial i) h =
-        ap (λ (p : Predicate). setting.init_once ++ (Rattle.ps_triple.specs.Rows.rows_of_threads setting.init_each (p.arity + 1) ++ negated p.row ∷ [])) (predicate_longer i.predicate h.0)
+        ap (λ (p : Predicate). setting.init_once ++ (Rattle.ps_triple.specs.Rows.rows_of_threads setting.init_each (p.arity + 1) ++ negated p.row ∷ [])) (predicate_longer i.predicate h)
 
-    making_longer : (e : Entry) → NamesThings setting list e → MakingFits setting list e → MakingFits setting (list ++ more) e
+    making_longer : (e : Entry) → IsNamedIn e → MakingFits setting list e → MakingFits setting (list ++ more) e
     making_longer (OfTriple t) h m =
-        subst (λ (r : Row). NegationFits r × SubstitutionFits (form_in setting t.command).after (negated r).term) (sym (row_longer t.post h.2)) m
-    making_longer (OfInitial i) h m = subst (λ (p : Predicate). NegationFits p.row) (sym (predicate_longer i.predicate h.0)) m
+        subst (λ (r : Row). NegationFits r × SubstitutionFits (form_in setting t.command).after (negated r).term) (sym (row_longer t.post h.1)) m
+    making_longer (OfInitial i) h m = subst (λ (p : Predicate). NegationFits p.row) (sym (predicate_longer i.predicate h)) m
+
+    making_shorter : (e : Entry) → IsNamedIn e → MakingFits setting (list ++ more) e → MakingFits setting list e
+    making_shorter (OfTriple t) h m =
+        subst (λ (r : Row). NegationFits r × SubstitutionFits (form_in setting t.command).after (negated r).term) (row_longer t.post h.1) m
+    making_shorter (OfInitial i) h m = subst (λ (p : Predicate). NegationFits p.row) (predicate_longer i.predicate h) m
+
+    -- an entry that fits over the longer list, and names only what is in the shorter one, fits over this
+    pub fits_shorter : (e : Entry) → IsNamedIn e → EntryFits setting (list ++ more) e → EntryFits setting list e
+    fits_shorter e h f = (making_shorter e h f.0, subst (λ (rs : List Row). AllSumsFit rs (lambda_of e)) (rows_longer e h) f.1)
 
     pub holds_longer : (e : Entry) → EntryHolds setting list e → EntryHolds setting (list ++ more) e
     holds_longer e h = record {
       names = names_longer e h.names;
       distinct = h.distinct;
       tied = h.tied;
-      fits = (making_longer e h.names h.fits.0, subst (λ (rs : List Row). AllSumsFit rs (lambda_of e)) (sym (rows_longer e h.names)) h.fits.1);
-      refutes = subst (λ (rs : List Row). Refutes rs (lambda_of e)) (sym (rows_longer e h.names)) h.refutes;
+      fits = (making_longer e (named_from e h.names) h.fits.0, subst (λ (rs : List Row). AllSumsFit rs (lambda_of e)) (sym (rows_longer e (named_from e h.names))) h.fits.1);
+      refutes = subst (λ (rs : List Row). Refutes rs (lambda_of e)) (sym (rows_longer e (named_from e h.names))) h.refutes;
     }

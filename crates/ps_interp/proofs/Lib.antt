@@ -5,6 +5,7 @@ pub mod Concluding
 pub mod Descending
 pub mod Ending
 pub mod Entire
+pub mod Excluded
 pub mod Extra
 pub mod Falling
 pub mod Falses
@@ -16,6 +17,7 @@ pub mod Numbered
 pub mod Opening
 pub mod Parting
 pub mod Proving
+pub mod Single
 pub mod Slots
 pub mod Taking
 pub mod Threefold
@@ -23,3 +25,4 @@ pub mod Totals
 pub mod Triples
 pub mod Vars
 pub mod Worth
+pub mod Zipped

@@ -1,9 +1,10 @@
 -- Why a refuted trace gives no entries.
-use Rattle.std.specs.Prelude.{ℕ, ◌+◌, ◌<◌, ◌≤◌, ◌⊎◌, List, [], ◌∷◌, ◌++◌, All, Option, Some}
+use Rattle.std.specs.Prelude.{ℕ, ◌+◌, ◌<◌, ◌≤◌, ◌⊎◌, List, [], ◌∷◌, ◌++◌, length, All, Option, Some}
 use Rattle.std.specs.List.{filter_map}
 use Rattle.ps_atom.specs.Places.{IsArityOf, IsEndOf}
 use Rattle.ps_atom.specs.declared.place.PlaceEnd.TheVariants.{Full}
 use Rattle.ps_atom.specs.declared.predicate.Predicate.{Predicate}
+use Rattle.ps_atom.specs.declared.predicates.TheConstants.Predicates.{MOST}
 use Rattle.ps_command.specs.declared.setting.Setting.{Setting}
 use Rattle.ps_interp.specs.Cuts.{AreBounds, sum_at}
 use Rattle.ps_interp.specs.Entries.{initial_of}
@@ -51,6 +52,7 @@ pub record IsPastAtCut (setting : Setting) (known : List Predicate) (trace : Lis
       ⊎ ((predicate : Option Predicate) × (more : List Predicate) × (entry : Entry)
       × IsPredicateAt (sum_at (letters_of setting trace lambda) cut) predicate
       × AreFirst (known ++ new) (filter_map (λ p. p) (predicate ∷ [])) more
+      × (length (known ++ (new ++ more)) ≤ MOST)
       × IsTripleAt (letters_of setting trace lambda) (known ++ (new ++ more)) cut entry
       × (¬ EntryFits setting (known ++ (new ++ more)) entry))
 
@@ -75,3 +77,10 @@ EndsInterpolation setting known trace lambda Past128 =
     (¬ All (SumFits setting) (letters_of setting trace lambda))
     ⊎ (IsPastAtCut setting known trace lambda ⊎ IsPastAtStart setting known trace lambda)
 EndsInterpolation setting known trace lambda (Memory _) = Unit {0}
+
+-- the end is want of memory
+abbrev pub IsMemory : InterpEnd → Type 0
+IsMemory (Arity cut count) = ⊥
+IsMemory (Predicates cut) = ⊥
+IsMemory Past128 = ⊥
+IsMemory (Memory _) = Unit {0}

@@ -1,7 +1,8 @@
 -- The predicates and entries of a refuted trace.
-use Rattle.std.specs.Prelude.{◌≡◌, ℕ, ◌<◌, ◌≤◌, ◌⊎◌, List, [], ◌∷◌, ◌++◌, map, drop, reverse, All, Option, Some, slice_get}
+use Rattle.std.specs.Prelude.{◌≡◌, ℕ, ◌<◌, ◌≤◌, ◌⊎◌, List, [], ◌∷◌, ◌++◌, map, drop, length, reverse, All, Option, Some, slice_get}
 use Rattle.std.specs.List.{AllZip, filter_map}
 use Rattle.ps_atom.specs.declared.predicate.Predicate.{Predicate}
+use Rattle.ps_atom.specs.declared.predicates.TheConstants.Predicates.{MOST}
 use Rattle.ps_command.specs.declared.setting.Setting.{Setting}
 use Rattle.ps_interp.specs.Cuts.{AreBounds, IsTrivialSum, cuts_down, sum_at}
 use Rattle.ps_interp.specs.Entries.{false_triple, initial_of, triple_of}
@@ -32,8 +33,8 @@ pub record IsTripleAt (letters : List Weighed) (list : List Predicate) (cut : �
   pub stands_after : StandsAt list letter.after (Some after)
   pub is : entry ≡ triple_of letter before after
 
--- The cuts below one are met in descending order down to another: these are their new predicates, in this order, and these the
--- triples of the letters after them.
+-- The cuts below one are met in descending order down to another: these are their new predicates, in this order, for which a
+-- table has room, and these the triples of the letters after them.
 pub record AreMade (setting : Setting) (letters : List Weighed) (known : List Predicate) (high cut : ℕ) (new : List Predicate) (triples : List Entry) : Type 0 where
   pub fit : (i : ℕ) → cut ≤ i → i < high → InterpolantFits (sum_at letters i)
   pub predicates : List (Option Predicate)
@@ -41,6 +42,7 @@ pub record AreMade (setting : Setting) (letters : List Weighed) (known : List Pr
   pub first : AreFirst known (filter_map (λ p. p) predicates) new
   pub triples_are : AllZip (IsTripleAt letters (known ++ new)) (cuts_down cut high) triples
   pub triples_fit : All (EntryFits setting (known ++ new)) triples
+  pub room : length (known ++ new) ≤ MOST
 
 -- the initial entry that there is where the lowest of these cuts has this sum: none where it is trivial
 abbrev pub IsInitialOf : Setting → List (ℕ × ℕ) → List ℕ → List Predicate → Term → List Entry → Type 0

@@ -1,5 +1,5 @@
 //! What interpolations are worth: each function does no work, and its clause is the fact.
-ghost use Rattle.std.specs.Prelude.{◌≡◌, ◌≢◌, ◌<◌, ◌++◌, [], ℕ, pos, All, Contains, List, Some, length, slice_get};
+ghost use Rattle.std.specs.Prelude.{◌≡◌, ◌≢◌, ◌<◌, ◌⊎◌, ◌++◌, [], ℕ, pos, All, Contains, List, Some, length, slice_get};
 ghost use Rattle.ps_atom.specs.Numbers.{false_predicate};
 ghost use Rattle.ps_atom.specs.declared.predicate.Predicate.{Predicate};
 ghost use Rattle.ps_basis.specs.Space.{IsProved};
@@ -8,7 +8,9 @@ ghost use Rattle.ps_farkas.specs.Refutes.{Refutes};
 ghost use Rattle.ps_graph.specs.declared.graph.Graph.{Graph};
 ghost use Rattle.ps_soundness.specs.Traces.{trace_of};
 ghost use Rattle.ps_interp.specs.Cuts.{sum_at};
+ghost use Rattle.ps_interp.specs.Ends.{EndsInterpolation, IsMemory};
 ghost use Rattle.ps_interp.specs.Made.{IsInterpolation, letters_of};
+ghost use Rattle.ps_interp.specs.declared.interp_end.InterpEnd.{InterpEnd};
 ghost use Rattle.ps_term.specs.Pairs.{coefficient};
 ghost use Rattle.ps_term.specs.declared.var.Var.TheVariants.{Havoc};
 ghost use Rattle.ps_trace.specs.Rows.{rows_of};
@@ -41,4 +43,30 @@ pub fn interpolations_hold()
         → IsInterpolation graph.setting known (trace_of graph.edges letters) lambda new entries
         → (entry : Entry) → Contains entries entry
         → EntryHolds graph.setting (known ++ new) entry }
+{}
+
+/// A trace has one interpolation at most.
+pub fn interpolations_are_one()
+    ensures { (setting : Setting) (known : List Predicate) (trace : List (ℕ × ℕ))
+        (lambda : List ℕ) (new others : List Predicate) (entries more : List Entry)
+        → IsInterpolation setting known trace lambda new entries
+        → IsInterpolation setting known trace lambda others more
+        → (new ≡ others) × (entries ≡ more) }
+{}
+
+/// Where it has one, want of memory alone can end the call.
+pub fn interpolations_do_not_end()
+    ensures { (setting : Setting) (known new : List Predicate) (trace : List (ℕ × ℕ))
+        (lambda : List ℕ) (entries : List Entry) (end : InterpEnd) → 0 < length known
+        → IsInterpolation setting known trace lambda new entries
+        → EndsInterpolation setting known trace lambda end → IsMemory end }
+{}
+
+/// One reason at most, beside want of memory, ends the call.
+pub fn ends_are_one()
+    ensures { (setting : Setting) (known : List Predicate) (trace : List (ℕ × ℕ))
+        (lambda : List ℕ) (one other : InterpEnd) → 0 < length known
+        → EndsInterpolation setting known trace lambda one
+        → EndsInterpolation setting known trace lambda other
+        → IsMemory one ⊎ (IsMemory other ⊎ (one ≡ other)) }
 {}

@@ -33,6 +33,7 @@ pub(crate) fn meet_cuts(
     ensures ends { IfErr result (EndsMeetings cuts.now.setting.now (letters_in cuts.now)
         found.old.table cuts.now.low cuts.now.high) }
 {
+    let _known = found.table.list();
     let mut after = Standing {
         atom: false_atom(alloc),
         divisor: 0,
@@ -70,6 +71,7 @@ fn meet(
         Ok(before) => before,
         Err(end) => return Err(end),
     };
+    let _table = found.table.list();
     let entry = match triple_of(alloc, &cuts.letters[cut], &before, after) {
         Ok(entry) => entry,
         Err(end) => return Err(InterpEnd::Memory(end)),

@@ -4,6 +4,7 @@ use Rattle.std.specs.List.{filter_map}
 use Rattle.ps_atom.specs.Places.{IsArityOf, IsEndOf}
 use Rattle.ps_atom.specs.declared.place.PlaceEnd.TheVariants.{Full}
 use Rattle.ps_atom.specs.declared.predicate.Predicate.{Predicate}
+use Rattle.ps_atom.specs.declared.predicates.TheConstants.Predicates.{MOST}
 use Rattle.ps_command.specs.declared.setting.Setting.{Setting}
 use Rattle.ps_interp.specs.Cuts.{AreBounds, sum_at}
 use Rattle.ps_interp.specs.Entries.{false_triple, triple_of}
@@ -65,6 +66,7 @@ EndsTaking list sum cut (Memory _) = Unit {0}
 pub record IsMet (setting : Setting) (letters : List Weighed) (cut : ℕ) (after : Interpolant) (old new : Found) (q : Option Interpolant) : Type 0 where
   pub fits : InterpolantFits (sum_at letters cut)
   pub taken : IsTaken old.table (sum_at letters cut) new.table
+  pub room : length new.table ≤ MOST
   pub stands : StandsAt new.table (sum_at letters cut) q
   pub entry : Entry
   pub triple : (w : Weighed) → slice_get letters cut ≡ Some w → entry ≡ triple_of w q after
@@ -76,6 +78,7 @@ pub record IsUnheld (setting : Setting) (letters : List Weighed) (cut : ℕ) (af
   pub fits : InterpolantFits (sum_at letters cut)
   pub new : List Predicate
   pub taken : IsTaken old (sum_at letters cut) new
+  pub room : length new ≤ MOST
   pub q : Option Interpolant
   pub stands : StandsAt new (sum_at letters cut) q
   pub entry : Entry

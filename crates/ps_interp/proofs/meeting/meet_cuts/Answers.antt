@@ -1,5 +1,7 @@
-use Rattle.std.proofs.Common.{◌-◌, ap, refl, subst, arith}
+use Rattle.std.proofs.Common.{◌-◌, ◌≤◌, List, length, ap, refl, subst, arith}
 use Rattle.ps_atom.specs.declared.atom.Atom.{Atom}
+use Rattle.ps_atom.specs.declared.predicate.Predicate.{Predicate}
+use Rattle.ps_atom.specs.declared.predicates.TheConstants.Predicates.{MOST}
 use Rattle.ps_interp.specs.Interpolants.{Interpolant}
 use Rattle.std.specs.Prelude.{Option, Some, None}
 use Rattle.ps_interp.specs.declared.standing.Standing.{Standing}
@@ -12,6 +14,7 @@ loop-cut-init c = record {
   above = c.requires.bounds.within;
   below = omega arith;
   met = first_met c.args.cuts.now c.requires c.args.found.now.table c.args.found.now.entries.items c.args.found.now (record { atom = c.false_atom.result; divisor = 0 }) refl refl
+      (subst (λ (ps : List Predicate). length ps ≤ MOST) c.list-known.ensures.list c.list-known.ensures.table.within)
       (ap (λ (q : Atom). let i : Interpolant = record { atom = q; divisor = 0 } in i) c.false_atom.ensures);
 }
 
