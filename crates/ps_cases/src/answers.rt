@@ -7,6 +7,7 @@ use crate::programs::{printed, printed_again, read};
 use crate::runs::{in_mode, over_sink, over_source, with_words};
 use crate::sets::{below, leans, minimal};
 use crate::solving::{eliminated, refuted, solved, walked};
+use crate::sweeps::{over_failing_takes, over_prefixes};
 use crate::trees::tree;
 use std::alloc::{AllocError, Global};
 use std::sync::Wait;
@@ -24,6 +25,8 @@ pub fn answer<R: Threads + Wait + Sync>(
         "words" => with_words(rt, alloc, input),
         "source" => over_source(rt, alloc, input),
         "sink" => over_sink(rt, alloc, input),
+        "prefixes" => over_prefixes(rt, alloc, input),
+        "takes" => over_failing_takes(rt, alloc, input),
         _ => answer_alone(alloc, kind, input),
     }
 }

@@ -1,5 +1,5 @@
 //! Decimals: each kind reads a field, and answers the number anew, or `none`.
-use crate::words::word;
+use ps_case::word;
 use ps_text::{put_digits, put_signed_digits, read_i128, read_u32, read_u128};
 use std::alloc::{AllocError, Global};
 

@@ -1,6 +1,6 @@
 //! Texts of fields and of tokens: where they are cut, and the forms that are read from them.
 use crate::rows::reader_of;
-use crate::words::put_number;
+use ps_case::put_number;
 use ps_rows::{print_rows, read_rows};
 use ps_term_text::{put_term, take_term};
 use ps_text::{

@@ -5,37 +5,48 @@
 #![tactic(auto)]
 
 mod answers;
-mod case;
 mod decimals;
-mod escapes;
 mod forms;
 mod graphs;
 mod pipes;
 mod programs;
+mod repeats;
 mod rows;
 mod runs;
 mod sets;
 mod solving;
-mod tally;
+mod sweeps;
 mod trees;
-mod words;
 
-use case::fault;
+use answers::answer;
+use ps_case::{Case, Cases};
+use std::alloc::{AllocError, Global};
 use std::io;
-use tally::{Tally, is_case};
+use std::sync::Wait;
+use std::thread::Threads;
+
+// What comes of the case's input, by its kind.
+fn came<R: Threads + Wait + Sync>(
+    rt: &R,
+    alloc: Global,
+    cases: &Cases,
+    case: &Case<'_>,
+) -> Result<Vec<u8>, AllocError> {
+    let input = cases.input(alloc, case)?;
+    answer(rt, alloc, case.kind, input.as_slice())
+}
 
 fn main(rt: HostRuntime) -> io::Result<()> {
     let alloc = rt.alloc();
-    let mut tally = Tally::new(alloc);
+    let mut cases = Cases::new(alloc);
     for line in rt.lines(alloc) {
         let line = line?;
-        if !is_case(line.as_str()) {
-            continue;
-        }
-        tally.note(alloc, line.as_str())?;
-        if let Some(fault) = fault(&rt, alloc, line.as_str())? {
-            println!(rt; "{fault}")?;
+        if let Some(case) = cases.take(alloc, line.as_str())? {
+            let came = came(&rt, alloc, &cases, &case);
+            if let Some(fault) = cases.fault(alloc, &case, came)? {
+                println!(rt; "{fault}")?;
+            }
         }
     }
-    println!(rt; "{}", tally.text(alloc)?)
+    println!(rt; "{}", cases.tally(alloc)?)
 }

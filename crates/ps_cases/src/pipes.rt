@@ -1,5 +1,5 @@
 //! Sources that are read to their end and sinks that are written to, in pieces and with a call that fails.
-use crate::words::{number_and_rest, word};
+use ps_case::{number_and_rest, word};
 use ps_io::{MemorySink, MemorySource, ReadEnd, read_all, write_all};
 use ps_text::put_word;
 use std::alloc::{AllocError, Global};

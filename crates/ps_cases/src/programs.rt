@@ -2,7 +2,7 @@
 ghost use Rattle.std.specs.Prelude.{IfOk};
 ghost use Rattle.ps_grammar.specs.Programs.{IsProgram};
 
-use crate::words::word;
+use ps_case::word;
 use ps_syntax::{Program, print_program, read_program, refusal_line};
 use std::alloc::{AllocError, Global};
 

@@ -1,5 +1,5 @@
 //! Whole runs of the program, over sources and sinks in memory. Their answers are the status, `:`, and what was written.
-use crate::words::number_and_rest;
+use ps_case::number_and_rest;
 use ps_io::{MemorySink, MemorySource, OpenGate};
 use ps_modes::run;
 use ps_text::{put_digits, put_word};
@@ -75,6 +75,14 @@ fn run_on<R: Threads + Wait + Sync>(
     Ok(out)
 }
 
+// The words of the program's name and a mode.
+fn words_of_mode(alloc: Global, mode: &str) -> Result<Vec<u8>, AllocError> {
+    let mut words = Vec::new(alloc);
+    put_word(&mut words, b"proofspace ")?;
+    put_word(&mut words, mode.as_bytes())?;
+    Ok(words)
+}
+
 /// The run of the program's name and a mode on the input.
 pub fn in_mode<R: Threads + Wait + Sync>(
     rt: &R,
@@ -82,10 +90,26 @@ pub fn in_mode<R: Threads + Wait + Sync>(
     mode: &str,
     input: &[u8],
 ) -> Result<Vec<u8>, AllocError> {
-    let mut words = Vec::new(alloc);
-    put_word(&mut words, b"proofspace ")?;
-    put_word(&mut words, mode.as_bytes())?;
+    let words = words_of_mode(alloc, mode)?;
     run_on(rt, alloc, words.as_slice(), CALM, input)
+}
+
+/// The same over a source that gives so many bytes in a take, of which this one fails (0 for none).
+pub fn over_takes<R: Threads + Wait + Sync>(
+    rt: &R,
+    alloc: Global,
+    mode: &str,
+    take: u32,
+    failing_take: u32,
+    input: &[u8],
+) -> Result<Vec<u8>, AllocError> {
+    let words = words_of_mode(alloc, mode)?;
+    let outside = Outside {
+        take,
+        failing_take,
+        ..CALM
+    };
+    run_on(rt, alloc, words.as_slice(), outside, input)
 }
 
 /// The run of these words on rows that the program answers with yes.
@@ -105,12 +129,7 @@ pub fn over_source<R: Threads + Wait + Sync>(
 ) -> Result<Vec<u8>, AllocError> {
     let (take, rest) = number_and_rest(input)?;
     let (failing_take, input) = number_and_rest(rest)?;
-    let outside = Outside {
-        take,
-        failing_take,
-        ..CALM
-    };
-    run_on(rt, alloc, b"proofspace refute", outside, input)
+    over_takes(rt, alloc, "refute", take, failing_take, input)
 }
 
 /// The run of `refute` into a sink: its room, the bytes that it takes in a call, the call that fails, and the input.

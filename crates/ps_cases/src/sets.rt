@@ -1,5 +1,5 @@
 //! Minimal hitting sets, and what falls when nodes are withdrawn.
-use crate::words::{number_and_rest, word};
+use ps_case::{number_and_rest, word};
 use ps_drop::{Pair, descendants, leaning};
 use ps_hit::{Hits, minimal_hits};
 use ps_list::Sequence;

@@ -1,6 +1,6 @@
 //! Rows that are refuted, eliminated and walked back.
 use crate::rows::{reader_of, take_rows};
-use crate::words::word;
+use ps_case::word;
 use ps_elim::{Elim, Stage, eliminate, has_few_variables};
 use ps_farkas::refutes;
 use ps_list::Sequence;

@@ -1,5 +1,5 @@
 -- An input that isn't too long owes `check` one answer.
-use Rattle.std.proofs.Common.{◌≡◌, ℕ, ◌<◌, List, [], ◌∷◌, ◌⊎◌, Contains, Result, inl, inr, Ok, Err, Option, Some, None, IfSome, refl, sym, ap, ◌∙◌, subst, arith, lit<}
+use Rattle.std.proofs.Common.{◌≡◌, ℕ, ◌<◌, List, [], ◌∷◌, Contains, Option, Some, None, IfSome, refl, sym, ap, ◌∙◌, subst, arith, lit<}
 use Rattle.ps_check.proofs.Single.{one_first}
 use Rattle.ps_check.specs.declared.fault.CheckFault.{CheckFault}
 use Rattle.ps_compile.proofs.Meets.{graph_of}
@@ -7,17 +7,16 @@ use Rattle.ps_compile.proofs.Readable.{readable}
 use Rattle.ps_compile.specs.Compiled.{IsCompiled}
 use Rattle.ps_file.proofs.Laws.{proof_is_format}
 use Rattle.ps_file.specs.Reading.{proof_at}
-use Rattle.ps_file.specs.Spelling.{proof_lines}
 use Rattle.ps_file.specs.declared.proof.Proof.{Proof}
 use Rattle.ps_graph.specs.declared.graph.Graph.{Graph}
-use Rattle.ps_lines.proofs.Bytes.{text_read}
 use Rattle.ps_lines.specs.Reading.{text_start}
-use Rattle.ps_lines.specs.Tokens.{line_parts}
 use Rattle.ps_lines.specs.declared.form_fault.FormFault.{FormFault}
 use Rattle.ps_parts.specs.declared.parts.TheConstants.{MOST_PROOF}
 use Rattle.ps_soundness.proofs.Safe.{accepted_text as never_fails}
 use Rattle.ps_tree.specs.declared.program.Program.{Program}
+use Rattle.ps_modes.proofs.Meaning.{IsOwedWhere, line_written}
 use Rattle.ps_modes.proofs.OneGraph.{one_graph}
+use Rattle.ps_modes.proofs.Spelled.{no_fault_where_spelled, one_fault, one_spelled}
 use Rattle.ps_modes.proofs.Two as two
 use Rattle.ps_modes.specs.Check.{Accepted, FirstFault, NotOfForm, Owed, OwedOf, OwedToProof, Proves, Refused, SaysAccepted, SaysFault, SaysSafe, SpellsProof}
 use Rattle.ps_modes.specs.CheckTexts.{not_accepted_line}
@@ -26,34 +25,16 @@ use Rattle.ps_modes.specs.Parts.{LongPart, NoMark, NoProgram, Parts, Programs}
 use Rattle.ps_modes.specs.Status.{Exactly, code}
 use Rattle.ps_modes.specs.Texts.{fault_line}
 use Rattle.ps_modes.specs.declared.status.Status.{Status}
-use Rattle.ps_modes.specs.declared.status.Status.TheVariants.{Holds, Fails, Unknown, BadInput, BadWords, ReadFault, WriteFault, NoMemory}
+use Rattle.ps_modes.specs.declared.status.Status.TheVariants.{Holds, Fails, BadInput, BadWords}
 use Rattle.ps_modes.specs.declared.texts.TheConstants.{ACCEPTED}
 
 -- ---- proofs as texts
 
-abbrev spelled : Proof → Result Proof FormFault
-spelled p = Ok p
-
-proof_reads : (text : List ℕ) (line : ℕ) (p : Proof) → SpellsProof text p → proof_at (text_start line text) ≡ spelled p
-proof_reads text line p says =
-    let g = proof_is_format.again (text_start line text) p says.fits
-    (ap line_parts says.spelled ∙ text_read (proof_lines p) (proof_is_format.clean p says.fits)) in
-    g.ok ∙ ap (λ (q : Proof). Ok q) g.is
-
-ok_is : (p q : Proof) → spelled p ≡ spelled q → p ≡ q
-ok_is p q e = cc
-
 pub one_proof : (text : List ℕ) (p q : Proof) → SpellsProof text p → SpellsProof text q → p ≡ q
-one_proof text p q a b = ok_is p q (sym (proof_reads text 1 p a) ∙ proof_reads text 1 q b)
+one_proof text p q a b = one_spelled proof_is_format text p q a.fits a.spelled b.fits b.spelled
 
 pub no_fault : (text : List ℕ) (line : ℕ) (p : Proof) (fault : FormFault) → SpellsProof text p → FirstFault text line fault → ⊥
-no_fault text line p fault says first = let read = proof_reads text line p says in absurd (cc)
-
-abbrev pub faulty : FormFault → Result Proof FormFault
-faulty fault = Err fault
-
-pub err_is : (v w : FormFault) → faulty v ≡ faulty w → v ≡ w
-err_is v w e = cc
+no_fault text line p fault says first = no_fault_where_spelled proof_is_format text line p fault says.fits says.spelled first
 
 -- ---- one answer
 
@@ -69,7 +50,7 @@ one_of g p s t x y (Refused a _ first e f) (Refused b _ other d c) = (
 pub one_to_proof : (p : Program) (g h : Graph) (bytes : List ℕ) (line : ℕ) → IsCompiled p g → IsCompiled p h → (s t : Status) (x y : List ℕ)
     → OwedToProof p g bytes line s x → OwedToProof p h bytes line t y → (s ≡ t) × (x ≡ y)
 one_to_proof p g h bytes line a b s t x y (NotOfForm fault first e f) (NotOfForm other again d c) =
-    (e ∙ sym d, f ∙ ap fault_line (err_is fault other (sym first ∙ again)) ∙ sym c)
+    (e ∙ sym d, f ∙ ap fault_line (one_fault (proof_at (text_start line bytes)) fault other first again) ∙ sym c)
 one_to_proof p g h bytes line a b s t x y (NotOfForm fault first _ _) (Proves q says _) = absurd (no_fault bytes line q fault says first)
 one_to_proof p g h bytes line a b s t x y (Proves q says _) (NotOfForm fault first _ _) = absurd (no_fault bytes line q fault says first)
 one_to_proof p g h bytes line a b s t x y (Proves q says owed) (Proves r too other) =
@@ -86,7 +67,7 @@ one_owed = two.one_owed MOST_PROOF OwedToProof one_to_proof
 
 -- ---- what the statuses of `check` mean
 
-pub accepted_said : (input text : List ℕ) → Owes Owed input Holds text → (IsShort input × SaysAccepted input) × (text ≡ ACCEPTED.now)
+accepted_said : (input text : List ℕ) → Owes Owed input Holds text → (IsShort input × SaysAccepted input) × (text ≡ ACCEPTED.now)
 accepted_said input text (TooLong _ is _) = absurd (cc)
 accepted_said input text (Within short (NoMark _ is _)) = absurd (cc)
 accepted_said input text (Within short (LongPart _ is _)) = absurd (cc)
@@ -131,27 +112,18 @@ fault_said input text (Within short (Parts p w line texts (Programs q g says (Pr
   ),
 )
 
-status_of : (input : List ℕ) (status : Status) (text : List ℕ) → Owed input status text → (status ≡ Holds) ⊎ ((status ≡ Fails) ⊎ (status ≡ BadInput))
-status_of input status text (NoMark _ is _) = inr (inr is)
-status_of input status text (LongPart _ is _) = inr (inr is)
-status_of input status text (Parts p w line texts (NoProgram _ is)) = inr (inr is)
-status_of input status text (Parts p w line texts (Programs q g says (NotOfForm _ _ is _))) = inr (inr is)
-status_of input status text (Parts p w line texts (Programs q g says (Proves v spells (Accepted _ is _)))) = inl is
-status_of input status text (Parts p w line texts (Programs q g says (Proves v spells (Refused _ _ _ is _)))) = inr (inl is)
-
+-- `check` owes no other status
 pub statuses_owed : (input : List ℕ) (status : Status) (text : List ℕ) → Owes Owed input status text
     → Contains (Holds ∷ Fails ∷ BadInput ∷ []) status
 statuses_owed input status text (TooLong _ is _) = rw is (2, lit< tt, refl)
-statuses_owed input status text (Within short owed) =
-    elim (status_of input status text owed) [
-      | inl e ↦ rw e (0, lit< tt, refl)
-      | inr other ↦ elim other [
-        | inl e ↦ rw e (1, lit< tt, refl)
-        | inr e ↦ rw e (2, lit< tt, refl)
-      ]
-    ]
+statuses_owed input status text (Within short (NoMark _ is _)) = rw is (2, lit< tt, refl)
+statuses_owed input status text (Within short (LongPart _ is _)) = rw is (2, lit< tt, refl)
+statuses_owed input status text (Within short (Parts _ _ _ _ (NoProgram _ is))) = rw is (2, lit< tt, refl)
+statuses_owed input status text (Within short (Parts _ _ _ _ (Programs _ _ _ (NotOfForm _ _ is _)))) = rw is (2, lit< tt, refl)
+statuses_owed input status text (Within short (Parts _ _ _ _ (Programs _ _ _ (Proves _ _ (Accepted _ is _))))) = rw is (0, lit< tt, refl)
+statuses_owed input status text (Within short (Parts _ _ _ _ (Programs _ _ _ (Proves _ _ (Refused _ _ _ is _))))) = rw is (1, lit< tt, refl)
 
-pub accepted_owed : (input text : List ℕ) → (IsShort input × SaysAccepted input) × (text ≡ ACCEPTED.now) → Owes Owed input Holds text
+accepted_owed : (input text : List ℕ) → (IsShort input × SaysAccepted input) × (text ≡ ACCEPTED.now) → Owes Owed input Holds text
 accepted_owed input text is =
     let accepted = is.0.1 in let says = accepted.says in
     Within is.0.0 (Parts says.program_text says.proof_text says.line says.texts
@@ -163,15 +135,8 @@ fault_owed input fault short refusal =
     Within short (Parts says.program_text says.proof_text says.line says.texts
     (Programs refusal.program refusal.graph says.reads (Proves refusal.proof says.spells (Refused fault refusal.refused refusal.first refl refl))))
 
-pub exactly_accepted : (left : Option (List ℕ)) (n : ℕ)
-    → IfSome left (λ input. (status : Status) → IsVerdict status → Exactly n status (OwesStatus Owed input status))
-    → IfSome left (λ input. Exactly n Holds (IsShort input × SaysAccepted input))
-exactly_accepted None n each = tt
-exactly_accepted (Some input) n each =
-    let at = each Holds (omega arith) in record {
-      only = λ zero. let owes = at.only zero in (accepted_said input owes.0 owes.1).0;
-      comes = λ says. at.comes (ACCEPTED.now, accepted_owed input ACCEPTED.now (says, refl));
-    }
+pub yes_owed : IsOwedWhere Owed Holds (λ input. IsShort input × SaysAccepted input) ACCEPTED.now
+yes_owed = record { verdict = omega arith; said = accepted_said; owed = accepted_owed }
 
 pub exactly_fault : (left : Option (List ℕ)) (n : ℕ)
     → IfSome left (λ input. (status : Status) → IsVerdict status → Exactly n status (OwesStatus Owed input status))
@@ -196,50 +161,12 @@ accepted_safe input accepted =
           (graph_of accepted.program accepted.graph (readable says.program_text accepted.program says.reads.read).signs says.reads.compiled) accepted.accepted;
     }
 
-pub safe_where_accepted : (left : Option (List ℕ)) (n : ℕ)
-    → IfSome left (λ input. (status : Status) → IsVerdict status → Exactly n status (OwesStatus Owed input status)) → n ≡ code Holds
-    → IfSome left SaysSafe
-safe_where_accepted None n each zero = tt
-safe_where_accepted (Some input) n each zero =
-    let owes = (each Holds (omega arith)).only zero in accepted_safe input (accepted_said input owes.0 owes.1).0.1
-
-pub fails : (s : Status) → code s ≡ 1 → s ≡ Fails
-fails Holds e = absurd (omega (arith, e))
-fails Fails e = refl
-fails Unknown e = absurd (omega (arith, e))
-fails BadInput e = absurd (omega (arith, e))
-fails BadWords e = absurd (omega (arith, e))
-fails ReadFault e = absurd (omega (arith, e))
-fails WriteFault e = absurd (omega (arith, e))
-fails NoMemory e = absurd (omega (arith, e))
-
-pub holds : (s : Status) → code s ≡ 0 → s ≡ Holds
-holds Holds e = refl
-holds Fails e = absurd (omega (arith, e))
-holds Unknown e = absurd (omega (arith, e))
-holds BadInput e = absurd (omega (arith, e))
-holds BadWords e = absurd (omega (arith, e))
-holds ReadFault e = absurd (omega (arith, e))
-holds WriteFault e = absurd (omega (arith, e))
-holds NoMemory e = absurd (omega (arith, e))
-
 -- the line of the first fault was written
 pub fault_written : (left : Option (List ℕ)) (n : ℕ) (Wrote : List ℕ → Type 0)
     → (n < code BadWords → SomeAnswer Owed left (λ status text. (n ≡ code status) × Wrote text)) → n ≡ 1
     → IfSome left (λ input. (fault : CheckFault) × SaysFault input fault × Wrote (not_accepted_line fault))
 fault_written None n Wrote answer e = tt
 fault_written (Some input) n Wrote answer e =
-    let some = answer (omega (arith, e)) in
-    let status : some.status ≡ Fails = fails some.status (sym some.holding.0 ∙ e) in
-    let owes : Owes Owed input Fails some.text = subst (λ (i : List ℕ). Owes Owed i Fails some.text) (sym some.is)
-    (subst (λ (s : Status). Owes Owed some.input s some.text) status some.owed) in
-    let said = (fault_said input some.text owes).1 in
-    (said.0, said.1, subst Wrote said.2 some.holding.1)
-
--- `accepted` was written
-pub accepted_written : (left : Option (List ℕ)) (n : ℕ) (Wrote : List ℕ → Type 0)
-    → (n < code BadWords → SomeAnswer Owed left (λ status text. (n ≡ code status) × Wrote text)) → n ≡ 0 → Wrote ACCEPTED.now
-accepted_written left n Wrote answer e =
-    let some = answer (omega (arith, e)) in
-    let status : some.status ≡ Holds = holds some.status (sym some.holding.0 ∙ e) in
-    subst Wrote (accepted_said some.input some.text (subst (λ (s : Status). Owes Owed some.input s some.text) status some.owed)).1 some.holding.1
+    let line = line_written Owed Fails (omega arith) (Some input) n Wrote answer e in
+    let said = (fault_said input line.0 line.1).1 in
+    (said.0, said.1, subst Wrote said.2 line.2)

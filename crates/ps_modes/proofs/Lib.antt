@@ -2,11 +2,13 @@ pub mod Alike
 pub mod Answering
 pub mod Checking
 pub mod FewEdges
+pub mod Meaning
 pub mod OneGraph
 pub mod Owing
 pub mod Programs
 pub mod Proving
 pub mod Refusing
 pub mod Replaying
+pub mod Spelled
 pub mod Three
 pub mod Two

@@ -1,13 +1,12 @@
 -- An input that isn't too long owes `member` one answer.
-use Rattle.std.proofs.Common.{◌≡◌, ℕ, ◌<◌, ◌↔◌, Bool, IsTrue, List, [], ◌∷◌, length, All, Contains, Result, Ok, Err, Option, Some, None, IfSome, refl, sym, ap, ◌∙◌, subst, arith, lit<}
+use Rattle.std.proofs.Common.{◌≡◌, ℕ, ◌<◌, ◌↔◌, Bool, IsTrue, List, [], ◌∷◌, length, All, Contains, refl, sym, ap, ◌∙◌, subst, arith, lit<}
 use Rattle.ps_basis.specs.Space.{IsProved}
 use Rattle.ps_check.specs.Faults.{DoEntriesHold}
 use Rattle.ps_demand.specs.Demands.{AreTied}
+use Rattle.ps_file.specs.Reading.{proof_at}
 use Rattle.ps_file.specs.declared.proof.Proof.{Proof}
 use Rattle.ps_graph.specs.declared.graph.Graph.{Graph}
-use Rattle.ps_lines.proofs.Bytes.{text_read}
 use Rattle.ps_lines.specs.Reading.{text_start}
-use Rattle.ps_lines.specs.Tokens.{line_parts}
 use Rattle.ps_lines.specs.declared.form_fault.FormFault.{FormFault}
 use Rattle.ps_parts.specs.declared.parts.TheConstants.{MOST_PROOF, MOST_WITNESS}
 use Rattle.ps_soundness.proofs.Safe.{proved_error_is_infeasible}
@@ -17,48 +16,31 @@ use Rattle.ps_trace.specs.declared.trace.IndexedTrace.{IndexedTrace}
 use Rattle.ps_trace.specs.declared.trace.Letter.{Letter}
 use Rattle.ps_trace_text.proofs.TraceLaws.{trace_is_format}
 use Rattle.ps_trace_text.specs.TraceReading.{trace_at}
-use Rattle.ps_trace_text.specs.TraceSpelling.{trace_lines}
 use Rattle.ps_tree.specs.declared.program.Program.{Program}
 use Rattle.ps_triple.specs.declared.entry.Entry.{Entry}
-use Rattle.ps_modes.proofs.Checking.{fails, holds, one_proof}
+use Rattle.ps_modes.proofs.Checking.{one_proof}
 use Rattle.ps_modes.proofs.Checking as check
+use Rattle.ps_modes.proofs.Meaning.{IsOwedWhere}
 use Rattle.ps_modes.proofs.OneGraph.{one_graph}
+use Rattle.ps_modes.proofs.Spelled.{no_fault_where_spelled, one_fault, one_spelled}
 use Rattle.ps_modes.proofs.Three as three
 use Rattle.ps_modes.specs.Member.{FirstFault, NotAProof, NotATrace, Owed, OwedOf, OwedToTraceOf, OwedToTwo, Proofs, Proved, Proves, SaysInfeasible, SaysProved, SaysUnproved, SpellsTrace, Traces, Unproved}
-use Rattle.ps_modes.specs.Owes.{IsShort, IsVerdict, Owes, OwesStatus, SomeAnswer, TooLong, Within}
+use Rattle.ps_modes.specs.Owes.{IsShort, IsVerdict, Owes, TooLong, Within}
 use Rattle.ps_modes.specs.Parts.{NoProgram, Programs}
-use Rattle.ps_modes.specs.Status.{Exactly, code}
+use Rattle.ps_modes.specs.Status.{code}
 use Rattle.ps_modes.specs.Texts.{fault_line}
 use Rattle.ps_modes.specs.ThreeParts.{LongPart, NoMark, Parts}
 use Rattle.ps_modes.specs.declared.status.Status.{Status}
-use Rattle.ps_modes.specs.declared.status.Status.TheVariants.{Holds, Fails, BadInput, BadWords}
+use Rattle.ps_modes.specs.declared.status.Status.TheVariants.{Holds, Fails, BadInput}
 use Rattle.ps_modes.specs.declared.texts.TheConstants.{NO, YES}
 
 -- ---- traces as texts
 
-abbrev spelled : IndexedTrace → Result IndexedTrace FormFault
-spelled trace = Ok trace
-
-trace_reads : (text : List ℕ) (line : ℕ) (trace : IndexedTrace) → SpellsTrace text trace → trace_at (text_start line text) ≡ spelled trace
-trace_reads text line trace says =
-    let g = trace_is_format.again (text_start line text) trace says.fits
-    (ap line_parts says.spelled ∙ text_read (trace_lines trace) (trace_is_format.clean trace says.fits)) in
-    g.ok ∙ ap (λ (t : IndexedTrace). Ok t) g.is
-
-ok_is : (a b : IndexedTrace) → spelled a ≡ spelled b → a ≡ b
-ok_is a b e = cc
-
 one_trace : (text : List ℕ) (a b : IndexedTrace) → SpellsTrace text a → SpellsTrace text b → a ≡ b
-one_trace text a b x y = ok_is a b (sym (trace_reads text 1 a x) ∙ trace_reads text 1 b y)
+one_trace text a b x y = one_spelled trace_is_format text a b x.fits x.spelled y.fits y.spelled
 
 no_fault : (text : List ℕ) (line : ℕ) (trace : IndexedTrace) (fault : FormFault) → SpellsTrace text trace → FirstFault text line fault → ⊥
-no_fault text line trace fault says first = let read = trace_reads text line trace says in absurd (cc)
-
-abbrev faulty : FormFault → Result IndexedTrace FormFault
-faulty fault = Err fault
-
-err_is : (v w : FormFault) → faulty v ≡ faulty w → v ≡ w
-err_is v w e = cc
+no_fault text line trace fault says first = no_fault_where_spelled trace_is_format text line trace fault says.fits says.spelled first
 
 -- ---- one answer, layer by layer
 
@@ -71,7 +53,7 @@ one_of g p trace s t x y (Unproved _ e f) (Unproved _ d c) = (e ∙ sym d, f ∙
 one_to_trace : (g : Graph) (p : Proof) (bytes : List ℕ) (line : ℕ) (s t : Status) (x y : List ℕ)
     → OwedToTraceOf g p bytes line s x → OwedToTraceOf g p bytes line t y → (s ≡ t) × (x ≡ y)
 one_to_trace g p bytes line s t x y (NotATrace fault first e f) (NotATrace other again d c) =
-    (e ∙ sym d, f ∙ ap fault_line (err_is fault other (sym first ∙ again)) ∙ sym c)
+    (e ∙ sym d, f ∙ ap fault_line (one_fault (trace_at (text_start line bytes)) fault other first again) ∙ sym c)
 one_to_trace g p bytes line s t x y (NotATrace fault first _ _) (Traces a says _) = absurd (no_fault bytes line a fault says first)
 one_to_trace g p bytes line s t x y (Traces a says _) (NotATrace fault first _ _) = absurd (no_fault bytes line a fault says first)
 one_to_trace g p bytes line s t x y (Traces a says owed) (Traces b too other) =
@@ -79,7 +61,7 @@ one_to_trace g p bytes line s t x y (Traces a says owed) (Traces b too other) =
 
 pub one_to_two : three.OweOnce OwedToTwo
 one_to_two middle i p g h bytes line a b s t x y (NotAProof fault first e f) (NotAProof other again d c) =
-    (e ∙ sym d, f ∙ ap fault_line (check.err_is fault other (sym first ∙ again)) ∙ sym c)
+    (e ∙ sym d, f ∙ ap fault_line (one_fault (proof_at (text_start i middle)) fault other first again) ∙ sym c)
 one_to_two middle i p g h bytes line a b s t x y (NotAProof fault first _ _) (Proofs q says _) = absurd (check.no_fault middle i q fault says first)
 one_to_two middle i p g h bytes line a b s t x y (Proofs q says _) (NotAProof fault first _ _) = absurd (check.no_fault middle i q fault says first)
 one_to_two middle i p g h bytes line a b s t x y (Proofs q says owed) (Proofs r too other) =
@@ -119,7 +101,7 @@ proves_exactly g p trace entries answer same hold exist is = (
 
 -- ---- what the statuses of `member` mean
 
-pub proved_said : (input text : List ℕ) → Owes Owed input Holds text → (IsShort input × SaysProved input) × (text ≡ YES.now)
+proved_said : (input text : List ℕ) → Owes Owed input Holds text → (IsShort input × SaysProved input) × (text ≡ YES.now)
 proved_said input text (TooLong _ is _) = absurd (cc)
 proved_said input text (Within short (NoMark _ is _)) = absurd (cc)
 proved_said input text (Within short (LongPart _ is _)) = absurd (cc)
@@ -152,7 +134,7 @@ proved_said input text (Within short (Parts p u w i line texts (Programs q g say
 )
 proved_said input text (Within short (Parts p u w i line texts (Programs q g says (Proofs v spells (Traces a too (Unproved _ is _)))))) = absurd (cc)
 
-pub unproved_said : (input text : List ℕ) → Owes Owed input Fails text → (IsShort input × SaysUnproved input) × (text ≡ NO.now)
+unproved_said : (input text : List ℕ) → Owes Owed input Fails text → (IsShort input × SaysUnproved input) × (text ≡ NO.now)
 unproved_said input text (TooLong _ is _) = absurd (cc)
 unproved_said input text (Within short (NoMark _ is _)) = absurd (cc)
 unproved_said input text (Within short (LongPart _ is _)) = absurd (cc)
@@ -185,13 +167,13 @@ unproved_said input text (Within short (Parts p u w i line texts (Programs q g s
   f,
 )
 
-pub proved_owed : (input text : List ℕ) → (IsShort input × SaysProved input) × (text ≡ YES.now) → Owes Owed input Holds text
+proved_owed : (input text : List ℕ) → (IsShort input × SaysProved input) × (text ≡ YES.now) → Owes Owed input Holds text
 proved_owed input text is =
     let yes = is.0.1 in let says = yes.says in
     Within is.0.0 (Parts says.program_text says.proof_text says.trace_text says.proof_line says.trace_line says.texts
     (Programs yes.program yes.graph says.reads (Proofs yes.proof says.spells_proof (Traces yes.trace says.spells_trace (Proved yes.proves refl is.1)))))
 
-pub unproved_owed : (input text : List ℕ) → (IsShort input × SaysUnproved input) × (text ≡ NO.now) → Owes Owed input Fails text
+unproved_owed : (input text : List ℕ) → (IsShort input × SaysUnproved input) × (text ≡ NO.now) → Owes Owed input Fails text
 unproved_owed input text is =
     let no = is.0.1 in let says = no.says in
     Within is.0.0 (Parts says.program_text says.proof_text says.trace_text says.proof_line says.trace_line says.texts
@@ -209,40 +191,11 @@ statuses_owed input status text (Within short (Parts p u w i line texts (Program
 statuses_owed input status text (Within short (Parts p u w i line texts (Programs q g says (Proofs v spells (Traces a too (Proved _ is _)))))) = rw is (0, lit< tt, refl)
 statuses_owed input status text (Within short (Parts p u w i line texts (Programs q g says (Proofs v spells (Traces a too (Unproved _ is _)))))) = rw is (1, lit< tt, refl)
 
-pub exactly_proved : (left : Option (List ℕ)) (n : ℕ)
-    → IfSome left (λ input. (status : Status) → IsVerdict status → Exactly n status (OwesStatus Owed input status))
-    → IfSome left (λ input. Exactly n Holds (IsShort input × SaysProved input))
-exactly_proved None n each = tt
-exactly_proved (Some input) n each =
-    let at = each Holds (omega arith) in record {
-      only = λ zero. let owes = at.only zero in (proved_said input owes.0 owes.1).0;
-      comes = λ says. at.comes (YES.now, proved_owed input YES.now (says, refl));
-    }
+pub yes_owed : IsOwedWhere Owed Holds (λ input. IsShort input × SaysProved input) YES.now
+yes_owed = record { verdict = omega arith; said = proved_said; owed = proved_owed }
 
-pub exactly_unproved : (left : Option (List ℕ)) (n : ℕ)
-    → IfSome left (λ input. (status : Status) → IsVerdict status → Exactly n status (OwesStatus Owed input status))
-    → IfSome left (λ input. Exactly n Fails (IsShort input × SaysUnproved input))
-exactly_unproved None n each = tt
-exactly_unproved (Some input) n each =
-    let at = each Fails (omega arith) in record {
-      only = λ one. let owes = at.only one in (unproved_said input owes.0 owes.1).0;
-      comes = λ says. at.comes (NO.now, unproved_owed input NO.now (says, refl));
-    }
-
--- the answer that was written
-pub yes_written : (left : Option (List ℕ)) (n : ℕ) (Wrote : List ℕ → Type 0)
-    → (n < code BadWords → SomeAnswer Owed left (λ status text. (n ≡ code status) × Wrote text)) → n ≡ 0 → Wrote YES.now
-yes_written left n Wrote answer e =
-    let some = answer (omega (arith, e)) in
-    let status : some.status ≡ Holds = holds some.status (sym some.holding.0 ∙ e) in
-    subst Wrote (proved_said some.input some.text (subst (λ (s : Status). Owes Owed some.input s some.text) status some.owed)).1 some.holding.1
-
-pub no_written : (left : Option (List ℕ)) (n : ℕ) (Wrote : List ℕ → Type 0)
-    → (n < code BadWords → SomeAnswer Owed left (λ status text. (n ≡ code status) × Wrote text)) → n ≡ 1 → Wrote NO.now
-no_written left n Wrote answer e =
-    let some = answer (omega (arith, e)) in
-    let status : some.status ≡ Fails = fails some.status (sym some.holding.0 ∙ e) in
-    subst Wrote (unproved_said some.input some.text (subst (λ (s : Status). Owes Owed some.input s some.text) status some.owed)).1 some.holding.1
+pub no_owed : IsOwedWhere Owed Fails (λ input. IsShort input × SaysUnproved input) NO.now
+no_owed = record { verdict = omega arith; said = unproved_said; owed = unproved_owed }
 
 -- ---- what a proved trace is worth
 
@@ -256,10 +209,3 @@ proved_infeasible input said = record {
   says = said.says;
   infeasible = λ is runs. proved_error_is_infeasible said.graph said.proof.predicates said.proof.entries said.proves.hold (pairs_of said.trace) is said.proves.proved runs;
 }
-
-pub infeasible_where_yes : (left : Option (List ℕ)) (n : ℕ)
-    → IfSome left (λ input. (status : Status) → IsVerdict status → Exactly n status (OwesStatus Owed input status)) → n ≡ code Holds
-    → IfSome left SaysInfeasible
-infeasible_where_yes None n each zero = tt
-infeasible_where_yes (Some input) n each zero =
-    let owes = (each Holds (omega arith)).only zero in proved_infeasible input (proved_said input owes.0 owes.1).0.1

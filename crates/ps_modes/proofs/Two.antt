@@ -1,5 +1,5 @@
 -- An input of two parts owes one answer, where the program and the last part do.
-use Rattle.std.proofs.Common.{◌≡◌, ℕ, ◌+◌, ◌<◌, ◌≤◌, ◌^◌, ◌⊎◌, inl, inr, List, ◌++◌, length, Option, Some, None, IfSome, refl, sym, ap, ◌∙◌, subst, arith, length-append}
+use Rattle.std.proofs.Common.{◌≡◌, ℕ, ◌+◌, ◌<◌, ◌≤◌, ◌^◌, ◌⊎◌, inl, inr, List, ◌++◌, length, sym, ap, ◌∙◌, subst, arith, length-append}
 use Rattle.std.specs.Prelude.{count_by, ◌==◌}
 use Rattle.std.proofs.lemmas.List.{append_cancel_right}
 use Rattle.std.proofs.lemmas.List.Sums.{count_by-le-length}
@@ -10,11 +10,11 @@ use Rattle.ps_parts.specs.Cuts.{AreTwoParts, HasNoMark, IsNumbered, program_befo
 use Rattle.ps_parts.specs.declared.parts.TheConstants.{MOST_PROGRAM}
 use Rattle.ps_tree.specs.declared.program.Program.{Program}
 use Rattle.ps_modes.proofs.Programs.{not_refused, one_line, one_read}
-use Rattle.ps_modes.specs.Owes.{IsOwedAnswer, IsShort, IsVerdict, Owes, SomeAnswer}
+use Rattle.ps_modes.specs.Owes.{IsOwedAnswer, IsShort, IsVerdict}
 use Rattle.ps_modes.specs.Parts.{HasLongPart, HasTexts, LongPart, NoMark, NoProgram, OwedToParts, OwedToTexts, Parts, Programs}
 use Rattle.ps_modes.specs.Status.{code}
 use Rattle.ps_modes.specs.declared.status.Status.{Status}
-use Rattle.ps_modes.specs.declared.status.Status.TheVariants.{Holds, Fails, Unknown, BadInput, BadWords, ReadFault, WriteFault, NoMemory}
+use Rattle.ps_modes.specs.declared.status.Status.TheVariants.{BadInput}
 use Rattle.ps_modes.specs.declared.texts.TheConstants.{LIMIT_PART}
 
 -- a program and the text of the last part owe one answer, on each of its graphs
@@ -122,28 +122,3 @@ verdict_of most OwedTo each input s x (NoMark _ is _) = omega (arith, ap code is
 verdict_of most OwedTo each input s x (LongPart _ is _) = omega (arith, ap code is)
 verdict_of most OwedTo each input s x (Parts _ last line _ (NoProgram _ is)) = omega (arith, ap code is)
 verdict_of most OwedTo each input s x (Parts _ last line _ (Programs q g _ owed)) = each q g last line s x owed
-
--- the status of this number
-bad_input : (s : Status) → code s ≡ 3 → s ≡ BadInput
-bad_input Holds e = absurd (omega (arith, e))
-bad_input Fails e = absurd (omega (arith, e))
-bad_input Unknown e = absurd (omega (arith, e))
-bad_input BadInput e = refl
-bad_input BadWords e = absurd (omega (arith, e))
-bad_input ReadFault e = absurd (omega (arith, e))
-bad_input WriteFault e = absurd (omega (arith, e))
-bad_input NoMemory e = absurd (omega (arith, e))
-
--- a line that refuses the input was written
-pub refused_line : (Owed : List ℕ → Status → List ℕ → Type 0) (left : Option (List ℕ)) (n : ℕ) (Wrote : List ℕ → Type 0)
-    → (n < code BadWords → SomeAnswer Owed left (λ status text. (n ≡ code status) × Wrote text)) → n ≡ 3
-    → IfSome left (λ input. (text : List ℕ) × Owes Owed input BadInput text × Wrote text)
-refused_line Owed None n Wrote answer e = tt
-refused_line Owed (Some input) n Wrote answer e =
-    let some = answer (omega (arith, e)) in
-    let status : some.status ≡ BadInput = bad_input some.status (sym some.holding.0 ∙ e) in (
-      some.text,
-      subst (λ (i : List ℕ). Owes Owed i BadInput some.text) (sym some.is)
-          (subst (λ (s : Status). Owes Owed some.input s some.text) status some.owed),
-      some.holding.1,
-    )

@@ -12,13 +12,13 @@ ghost use Rattle.ps_modes.specs.Status.{code, Exactly, IsOneOf};
 ghost use Rattle.ps_modes.specs.declared.status.Status.TheVariants.{Holds, Fails, BadInput, ReadFault, WriteFault, NoMemory};
 ghost use Rattle.ps_tree.specs.declared.program.Program.{Program};
 
-use crate::answer::{Answer, answer_line};
+use crate::answer::{Answer, answer_line, fault_answer};
 use crate::check_texts::not_accepted_line;
 use crate::frame::answer_input;
 use crate::graphs::{graph_said, refusal_answer};
 use crate::judge::Judge;
 use crate::status::Status;
-use crate::texts::{ACCEPTED, LIMIT_PART, NO_MARK, fault_line};
+use crate::texts::{ACCEPTED, LIMIT_PART, NO_MARK};
 use ps_check::{Judgement, check};
 use ps_file::{Proof, read_proof};
 use ps_graph::Graph;
@@ -112,10 +112,7 @@ fn judge_proof(alloc: Global, graph: &Graph, text: &[u8], line: u32) -> Result<A
 {
     match read_proof(alloc, text, line) {
         Ok(proof) => judge_check(alloc, graph, &proof),
-        Err(FormEnd::Fault(fault)) => Ok(Answer {
-            status: Status::BadInput,
-            text: fault_line(alloc, &fault)?,
-        }),
+        Err(FormEnd::Fault(fault)) => fault_answer(alloc, &fault),
         Err(FormEnd::Memory(end)) => Err(end),
     }
 }

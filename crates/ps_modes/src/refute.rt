@@ -8,11 +8,11 @@ ghost use Rattle.ps_modes.specs.Refute.{IsRefusedInput, Owed, Refusal, SaysYes, 
 ghost use Rattle.ps_modes.specs.Status.{code, Exactly, IsOneOf};
 ghost use Rattle.ps_modes.specs.declared.status.Status.TheVariants.{Holds, Fails, BadInput, ReadFault, WriteFault, NoMemory};
 
-use crate::answer::{Answer, answer_line};
+use crate::answer::{Answer, answer_line, fault_answer};
 use crate::frame::answer_input;
 use crate::judge::Judge;
 use crate::status::Status;
-use crate::texts::{NO, PAST, YES, fault_line};
+use crate::texts::{NO, PAST, YES};
 use ps_farkas::refutes;
 use ps_io::{Sink, Source};
 use ps_rows::{Claim, read_rows};
@@ -70,10 +70,7 @@ impl Judge for Refute {
     fn judge(&self, alloc: Global, input: &[u8]) -> Result<Answer, AllocError> {
         match read_rows(alloc, input, 1) {
             Ok(claim) => judge_claim(alloc, &claim),
-            Err(FormEnd::Fault(fault)) => Ok(Answer {
-                status: Status::BadInput,
-                text: fault_line(alloc, &fault)?,
-            }),
+            Err(FormEnd::Fault(fault)) => fault_answer(alloc, &fault),
             Err(FormEnd::Memory(end)) => Err(end),
         }
     }

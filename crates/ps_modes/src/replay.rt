@@ -10,12 +10,12 @@ ghost use Rattle.ps_modes.specs.Status.{code, Exactly, IsOneOf};
 ghost use Rattle.ps_modes.specs.declared.status.Status.TheVariants.{Holds, Fails, BadInput, ReadFault, WriteFault, NoMemory};
 ghost use Rattle.ps_tree.specs.declared.program.Program.{Program};
 
-use crate::answer::{Answer, answer_line};
+use crate::answer::{Answer, answer_line, fault_answer};
 use crate::frame::answer_input;
 use crate::graphs::{graph_said, refusal_answer};
 use crate::judge::Judge;
 use crate::status::Status;
-use crate::texts::{LIMIT_PART, NO, NO_MARK, PAST, YES, fault_line};
+use crate::texts::{LIMIT_PART, NO, NO_MARK, PAST, YES};
 use ps_command::RunEnd;
 use ps_graph::Graph;
 use ps_io::{Sink, Source};
@@ -111,10 +111,7 @@ fn judge_witness(alloc: Global, graph: &Graph, text: &[u8], line: u32) -> Result
 {
     match read_witness(alloc, text, line) {
         Ok(witness) => judge_replay(alloc, graph, &witness),
-        Err(FormEnd::Fault(fault)) => Ok(Answer {
-            status: Status::BadInput,
-            text: fault_line(alloc, &fault)?,
-        }),
+        Err(FormEnd::Fault(fault)) => fault_answer(alloc, &fault),
         Err(FormEnd::Memory(end)) => Err(end),
     }
 }
