@@ -1,8 +1,8 @@
 //! Which predicates and entries a refuted trace gives.
-ghost use Rattle.std.specs.Prelude.{◌≡◌, ◌≢◌, ◌<◌, ◌^◌, [], All, IfOk, IsTrue, length};
+ghost use Rattle.std.specs.Prelude.{◌<◌, All, IfOk, IsTrue, length};
 ghost use Rattle.ps_farkas.specs.Refutes.{Refutes};
-ghost use Rattle.ps_trace.specs.Rows.{havocs_of_letters, form_at, rows_of};
-ghost use Rattle.ps_trace.specs.Traces.{pairs_in, pairs_of};
+ghost use Rattle.ps_trace.specs.Rows.{rows_of};
+ghost use Rattle.ps_trace.specs.Traces.{pairs_of};
 
 use crate::memberships::{exist, read_letters};
 use crate::spaces::{Space, space_and_rest};
@@ -12,7 +12,7 @@ use ps_farkas::refutes;
 use ps_graph::Graph;
 use ps_interp::{InterpEnd, Refutation, interpolate};
 use ps_lines::read_u128;
-use ps_trace::{IndexedTrace, Letter, trace_rows};
+use ps_trace::{IndexedTrace, has_few_havocs, trace_rows};
 use std::alloc::{AllocError, Global};
 
 /// The lines of the new predicates and of the entries, or why there are none: `PROGRAM|PROOF|LETTERS|MULTIPLIERS`. The proof's
@@ -59,7 +59,7 @@ fn is_refuted(
     ensures { IfOk result (λ yes. IsTrue yes
         → Refutes (rows_of graph.now (pairs_of trace.now)) lambda.now) }
 {
-    if !has_few_havocs(graph, trace.letters.as_slice()) {
+    if !has_few_havocs(graph, trace) {
         return Err(AllocError);
     }
     let Ok(rows) = trace_rows(alloc, graph, trace) else {
@@ -69,32 +69,6 @@ fn is_refuted(
         Ok(yes) => Ok(yes),
         Err(_) => Err(AllocError),
     }
-}
-
-// Whether 32 bits can count the havocs of the letters.
-fn has_few_havocs(graph: &Graph, letters: &[Letter]) -> bool
-    requires { All (λ l. l.edge < length graph.now.edges) letters.now }
-    ensures { IsTrue result → havocs_of_letters graph.now (pairs_in letters.now) < 2 ^ 32 }
-{
-    let mut left: u32 = u32::MAX;
-    for letter in letters {
-        let havocs = havocs_of(graph, letter.edge);
-        if havocs > left {
-            return false;
-        }
-        left -= havocs;
-    }
-    true
-}
-
-// How many havocs the command of the edge has.
-fn havocs_of(graph: &Graph, edge: u32) -> u32
-    requires { edge < length graph.now.edges }
-    ensures { result ≡ (form_at graph.now edge).havocs }
-{
-    let taken = &graph.edges.as_slice()[edge as usize];
-    let form = &graph.setting.symbols.as_slice()[taken.command as usize];
-    form.havocs
 }
 
 fn read_multipliers(alloc: Global, text: &str) -> Result<Vec<u128>, AllocError> {
