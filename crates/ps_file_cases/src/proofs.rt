@@ -1,8 +1,8 @@
 //! Proofs as texts: read, copied and printed.
 ghost use Rattle.std.specs.Prelude.{◌≤◌};
 
+use ps_case::form_refusal;
 use ps_file::{print_proof, read_proof};
-use ps_text::{FormEnd, FormFault, FormName};
 use std::alloc::{AllocError, Global};
 
 // Longer texts are no cases.
@@ -25,25 +25,6 @@ pub fn reprinted(alloc: Global, text: &[u8], first: u32) -> Result<Vec<u8>, Allo
             }
             Ok(printed)
         }
-        Err(FormEnd::Fault(fault)) => text_of(alloc, fault),
-        Err(FormEnd::Memory(end)) => Err(end),
-    }
-}
-
-fn text_of(alloc: Global, fault: FormFault) -> Result<Vec<u8>, AllocError> {
-    let FormFault { line, field, what } = fault;
-    let text = format!(in alloc; "line {line} field {field}: {}", name_of(what))?;
-    text.as_bytes().to_vec(alloc)
-}
-
-fn name_of(what: FormName) -> &'static str {
-    match what {
-        FormName::Cut => "cut",
-        FormName::Word => "word",
-        FormName::Field => "field",
-        FormName::Number => "number",
-        FormName::Order => "order",
-        FormName::Count => "count",
-        FormName::Limit => "limit",
+        Err(end) => form_refusal(alloc, end),
     }
 }
