@@ -24,11 +24,7 @@ pub fn replayed(alloc: Global, input: &str) -> Result<Vec<u8>, AllocError> {
     word(alloc, said)
 }
 
-fn replay_says(
-    alloc: Global,
-    graph: &Graph,
-    witness: &Witness,
-) -> Result<&'static str, AllocError>
+fn replay_says(alloc: Global, graph: &Graph, witness: &Witness) -> Result<&'static str, AllocError>
     requires { length graph.now.edges < 2 ^ 32 }
 {
     match replay(alloc, graph, witness) {

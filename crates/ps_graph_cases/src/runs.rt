@@ -18,7 +18,13 @@ pub fn ran(alloc: Global, input: &str) -> Result<Vec<u8>, AllocError> {
     let command = read_command(alloc, ops)?;
     let before = read_state(alloc, state)?;
     let values = read_values(alloc, values)?;
-    match run_of(alloc, &command, &before, read_number(thread)?, values.as_slice()) {
+    match run_of(
+        alloc,
+        &command,
+        &before,
+        read_number(thread)?,
+        values.as_slice(),
+    ) {
         Ok(Some(after)) => shown(alloc, &after),
         Ok(None) => word(alloc, "failed"),
         Err(RunEnd::Past128) => word(alloc, "past"),

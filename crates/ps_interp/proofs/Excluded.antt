@@ -62,7 +62,7 @@ not_wide sum None count h a = at a.2.0 a.2.2 (let e : length a.2.0 ≡ a.0 = a.2
         none (n, k) = k refl
 not_wide sum (Some p) count h a =
     let fewer : length a.2.0 ≤ length h.0 = no_longer a.2.0 h.0 (once_rising a.2.0 (rising_from_increasing a.2.0 a.2.1))
-        (λ t c. (h.1.2.in_slots.in_order.occurring t).1 ((occurs_tight (interpolant_row sum) h.1.2.tight t h.1.2.tightened).0 ((a.2.2 t).0 c))) in
+    (λ t c. (h.1.2.in_slots.in_order.occurring t).1 ((occurs_tight (interpolant_row sum) h.1.2.tight t h.1.2.tightened).0 ((a.2.2 t).0 c))) in
     let few : length h.0 ≤ 4 = h.1.1 in
     let e : length a.2.0 ≡ a.0 = a.2.3 in
     let w : 4 < a.0 = a.1 in
