@@ -53,7 +53,8 @@ pub fn read_words(alloc: Global, words: &[String]) -> Result<Words, WordsEnd>
 
 /// Why there are no matches.
 fn end_of(error: &Error) -> WordsEnd
-    ensures { result ≡ Refused → kind_of error.now ≢ OutOfMemory }
+    ensures refused { result ≡ Refused → kind_of error.now ≢ OutOfMemory }
+    ensures memory { kind_of error.now ≢ OutOfMemory → result ≡ Refused }
 {
     match error.kind() {
         ErrorKind::OutOfMemory => WordsEnd::Memory(AllocError),

@@ -40,4 +40,4 @@ pub returns-in-Err-try_get_matches_from-clause-refused : goal.returns-in-Err-try
 returns-in-Err-try_get_matches_from-clause-refused c = λ refused.
     let same : c.end_of.result ≡ Refused = cc in
     not_taken (map string_bytes c.args.words.now) c.in-Ok.command c.in-Err-try_get_matches_from.error c.in-Ok.ensures
-    (c.in-Err-try_get_matches_from.ensures.kinds (is_read c.in-Ok.command c.in-Ok.ensures)) (c.end_of.ensures same)
+    (c.in-Err-try_get_matches_from.ensures.kinds (is_read c.in-Ok.command c.in-Ok.ensures)) (c.end_of.ensures.refused same)
