@@ -82,7 +82,7 @@ pub(crate) fn entry_fault(
 }
 
 /// The fault of an entry, if it doesn't hold.
-pub(crate) fn fault_of(
+fn fault_of(
     alloc: Global,
     setting: &Setting,
     table: &Predicates,

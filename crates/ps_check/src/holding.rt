@@ -4,13 +4,12 @@ ghost use Rattle.ps_check.specs.Faults.{DoEntriesHold, table_of};
 ghost use Rattle.ps_triple.specs.Faults.{EntryHolds};
 ghost use Rattle.ps_triple.specs.declared.entry.Entry.{Entry as AnEntry};
 
-use crate::counted::is_entry_short;
-use crate::entries::{fault_of, table_of};
+use crate::entries::table_of;
 use ps_atom::Predicates;
 use ps_command::Setting;
 use ps_file::Proof;
 use ps_graph::Graph;
-use ps_triple::Entry;
+use ps_triple::{Entry, entry_holds};
 use std::alloc::{AllocError, Global};
 
 /// Whether each entry of the proof holds, whatever its configurations are. A predicate that no entry names may be out
@@ -37,28 +36,10 @@ fn do_all_hold(
         → EntryHolds setting.now table.now entry)) }
 {
     for entry in entries {
-        let held = holds(alloc, setting, table, entry)?;
+        let held = entry_holds(alloc, setting, table, entry)?;
         if !held {
             return Ok(false);
         }
     }
     Ok(true)
-}
-
-/// Whether the entry holds.
-fn holds(
-    alloc: Global,
-    setting: &Setting,
-    table: &Predicates,
-    entry: &Entry,
-) -> Result<bool, AllocError>
-    ensures { IfOk result (λ yes. IsTrue yes ↔ EntryHolds setting.now table.now entry.now) }
-{
-    if !is_entry_short(setting, entry) {
-        return Err(AllocError);
-    }
-    match fault_of(alloc, setting, table, entry)? {
-        None => Ok(true),
-        Some(_) => Ok(false),
-    }
 }
