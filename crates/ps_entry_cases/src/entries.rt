@@ -1,12 +1,7 @@
 //! What the check of an entry answers.
-ghost use Rattle.std.specs.Prelude.{◌≡◌, IsTrue, length};
-ghost use Rattle.ps_triple.specs.Fits.{lambda_of};
-ghost use Rattle.ps_triple.specs.Short.{AreShort};
-
 use ps_case::word;
 use ps_case_space::{Space, space_and_rest};
-use ps_command::Setting;
-use ps_triple::{Entry, EntryEnd, EntryFault, check_entry};
+use ps_triple::{Entry, EntryEnd, EntryFault, check_entry, is_short};
 use std::alloc::{AllocError, Global};
 
 /// Whether the proof's only entry holds, `PROGRAM|PROOF|`, or its first fault.
@@ -40,23 +35,5 @@ fn shown(alloc: Global, fault: EntryFault) -> Result<Vec<u8>, AllocError> {
         }
         EntryFault::Past128 => word(alloc, "past"),
         EntryFault::Sum => word(alloc, "sum"),
-    }
-}
-
-// Whether the entry is short enough to be checked.
-fn is_short(setting: &Setting, entry: &Entry) -> bool
-    ensures { IsTrue result → AreShort setting.now entry.now }
-{
-    multipliers(entry) < 1000
-        && setting.init_once.as_slice().len() < 1000
-        && setting.init_each.as_slice().len() < 1000
-}
-
-fn multipliers(entry: &Entry) -> usize
-    ensures { result ≡ length (lambda_of entry.now) }
-{
-    match entry {
-        Entry::Triple(triple) => triple.lambda.as_slice().len(),
-        Entry::Initial(initial) => initial.lambda.as_slice().len(),
     }
 }

@@ -5,9 +5,9 @@ ghost use Rattle.ps_trace.specs.Rows.{rows_of};
 ghost use Rattle.ps_trace.specs.Traces.{pairs_of};
 
 use crate::memberships::{exist, read_letters};
-use crate::spaces::{Space, space_and_rest};
 use ps_atom_text::{put_entry, put_predicate};
 use ps_case::{put_number, two_parts, word};
+use ps_case_space::{Space, space_and_rest};
 use ps_farkas::refutes;
 use ps_graph::Graph;
 use ps_interp::{InterpEnd, Refutation, interpolate};

@@ -8,7 +8,6 @@
 mod interpolations;
 mod memberships;
 mod questions;
-mod spaces;
 
 use interpolations::interpolation;
 use memberships::membership;

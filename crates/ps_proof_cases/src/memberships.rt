@@ -1,17 +1,13 @@
 //! Which traces a proof's entries prove.
 ghost use Rattle.std.specs.Prelude.{◌<◌, All, IsTrue, length};
-ghost use Rattle.ps_demand.specs.Demands.{AreTied};
-ghost use Rattle.ps_triple.specs.Tests.{HasNoFreeThread, IsTiedTo};
 
-use crate::spaces::{Space, space_and_rest};
-use ps_atom::Atom;
-use ps_basis::{Front, MOST_ENTRIES};
+use ps_basis::Front;
 use ps_case::{read_number, word};
+use ps_case_space::{Space, are_tied, front_of, space_and_rest};
 use ps_graph::Graph;
 use ps_list::Sequence;
 use ps_member::member;
 use ps_trace::{IndexedTrace, Letter};
-use ps_triple::Entry;
 use std::alloc::{AllocError, Global};
 
 /// Whether the entries prove the trace of the letters: `PROGRAM|PROOF|THREAD EDGE THREAD EDGE ..`. All edges must exist, and
@@ -58,13 +54,6 @@ pub(crate) fn read_letters(alloc: Global, text: &str) -> Result<IndexedTrace, Al
     })
 }
 
-fn front_of(alloc: Global, entries: Vec<Entry>) -> Result<Front, AllocError> {
-    if entries.len() > MOST_ENTRIES {
-        return Err(AllocError);
-    }
-    Front::indexed(alloc, entries)
-}
-
 // Whether each edge of a letter exists.
 pub(crate) fn exist(graph: &Graph, trace: &IndexedTrace) -> bool
     ensures { IsTrue result → All (λ l. l.edge < length graph.now.edges) trace.now.letters }
@@ -75,36 +64,4 @@ pub(crate) fn exist(graph: &Graph, trace: &IndexedTrace) -> bool
         .as_slice()
         .iter()
         .all(|letter| (letter.edge as usize) < edges)
-}
-
-fn is_tied_to(after: &[u32], atom: &Atom) -> bool
-    ensures { IsTrue result → IsTiedTo after.now atom.now }
-{
-    atom.threads
-        .as_slice()
-        .iter()
-        .all(|thread| *thread == 0 || after.contains(thread))
-}
-
-fn is_tied(entry: &Entry) -> bool
-    ensures { IsTrue result → HasNoFreeThread entry.now }
-{
-    match entry {
-        Entry::Triple(triple) => {
-            let after = triple.post.threads.as_slice();
-            triple
-                .pre
-                .as_slice()
-                .iter()
-                .all(|atom| is_tied_to(after, atom))
-        }
-        Entry::Initial(_) => true,
-    }
-}
-
-// Whether no triple has a free thread.
-fn are_tied(entries: &[Entry]) -> bool
-    ensures { IsTrue result → AreTied entries.now }
-{
-    entries.iter().all(is_tied)
 }

@@ -3,10 +3,10 @@ ghost use Rattle.std.specs.Prelude.{IsTrue};
 ghost use Rattle.ps_saturate.specs.Asked.{IsQuestion};
 ghost use Rattle.ps_saturate.specs.Patterns.{FitsSlots, IsSubject};
 
-use crate::spaces::{Space, space_and_rest};
 use ps_atom::Predicate;
 use ps_atom_text::put_entry;
 use ps_case::{read_number, two_parts, word};
+use ps_case_space::{Space, space_and_rest};
 use ps_command::Setting;
 use ps_saturate::{Pattern, Question, answer_question};
 use ps_triple::Entry;
