@@ -1,6 +1,6 @@
 -- Letters with which threads begin, and the body that at most one thread runs.
-use Rattle.std.proofs.Common.{◌≡◌, ◌≢◌, Bool, true, false, ◌&&◌, ◌==◌, refl, sym, ◌∙◌, ap, ap₂, subst, ℕ, zero, suc, ◌<◌, ◌≤◌, ◌+◌, List, [], ◌∷◌, ◌++◌, length, take, get_or, if◌then◌else◌, eq-eqb, arith, nat_lt, ltb-true}
-use Rattle.std.specs.Prelude.{slice_get, slice_index_or, Option, Some, None, is_none, IsTrue, IsFalse, MatchOption}
+use Rattle.std.proofs.Common.{◌≡◌, ◌≢◌, Bool, true, false, ◌&&◌, ◌==◌, refl, sym, ◌∙◌, ap, ap₂, subst, ℕ, zero, suc, ◌<◌, ◌≤◌, ◌+◌, List, [], ◌∷◌, ◌++◌, length, take, get_or, eq-eqb, arith, nat_lt, ltb-true}
+use Rattle.std.specs.Prelude.{slice_get, slice_index_or, Option, Some, None, is_none, MatchOption}
 use Rattle.std.proofs.lemmas.Bool.{eqb-true, eqb-false}
 use Rattle.std.proofs.lemmas.Bool.Decides.{nat_tests}
 use Rattle.std.proofs.lemmas.List.{get_or-map, take-map}

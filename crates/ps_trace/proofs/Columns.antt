@@ -1,6 +1,6 @@
 -- Steps in columns: how many they are, the step of a number, one step more, and the steps from a number on.
 use Rattle.std.proofs.Common.{◌≡◌, refl, sym, ap, ap₂, ◌∙◌, subst, ℕ, zero, suc, ◌<◌, ◌≤◌, ◌+◌, ◌-◌, ℤ, List, [], ◌∷◌, ◌++◌, length, get_or, take, drop, add-one, arith}
-use Rattle.std.specs.Prelude.{Option, Some, None, option_map, slice_get, slice_index, slice_range}
+use Rattle.std.specs.Prelude.{Some, option_map, slice_get, slice_index, slice_range}
 use Rattle.std.proofs.lemmas.List.{drop_at, drop-append-le, get_or_read, length-append, length-drop, length_push, take_all, take-append-le}
 use Rattle.ps_trace.specs.declared.step.Step.{Step}
 use Rattle.ps_trace.specs.inner.Columns.{AreColumns, AreEnds, steps_from}

@@ -1,5 +1,5 @@
 -- Havocs of the letters of a trace, letter by letter: what is left of the most is counted down.
-use Rattle.std.proofs.Common.{◌≡◌, ap, ℕ, ◌+◌, ◌-◌, ◌<◌, ◌≤◌, List, ◌∷◌, length, drop, get_or, arith}
+use Rattle.std.proofs.Common.{◌≡◌, ap, ℕ, ◌+◌, ◌-◌, ◌<◌, ◌≤◌, List, length, drop, get_or, arith}
 use Rattle.std.proofs.lemmas.List.{drop_all, drop_more}
 use Rattle.ps_graph.specs.declared.graph.Graph.{Graph}
 use Rattle.ps_trace.specs.Rows.{form_at, havocs_of_letters}

@@ -1,11 +1,10 @@
 -- Letters whose edges go on with the paths of their threads.
 use Rattle.std.proofs.Common.{◌≡◌, ◌≢◌, Bool, true, false, not, ◌&&◌, ◌||◌, ◌==◌, refl, sym, ◌∙◌, ap, ap₂, subst, ℕ, zero, suc, ◌<◌, ◌+◌, ◌-◌, List, [], ◌∷◌, ◌++◌, length, map, append_assoc, if◌then◌else◌, eq-eqb, ne_eqb, get_or, take, drop, arith}
-use Rattle.std.specs.Prelude.{filter, slice_get, slice_index_or, Option, Some, None, option_map, unwrap_or, IsTrue}
+use Rattle.std.specs.Prelude.{filter, slice_get, slice_index_or, Option, Some, None, option_map, unwrap_or}
 use Rattle.std.specs.List.{list_any}
 use Rattle.std.proofs.lemmas.Bool.{eqb-true}
 use Rattle.std.proofs.lemmas.Bool.Decides.{nat_tests}
 use Rattle.std.proofs.lemmas.List.{drop_more, length-drop, take-append-drop, take_more, map_push, map-append}
-use Rattle.std.proofs.lemmas.Option.{same_Some}
 use Rattle.ps_graph.proofs.Errors.{and_parts}
 use Rattle.ps_graph.specs.ErrorTrace.{RunsBody, edges_of, enters_error, error_at_last, is_path}
 use Rattle.ps_graph.specs.declared.edge.Edge.{Edge}

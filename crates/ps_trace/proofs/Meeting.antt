@@ -1,6 +1,6 @@
 -- Values meet the rows of a trace exactly where they run it.
-use Rattle.std.proofs.Common.{◌≡◌, ◌≢◌, ◌↔◌, Bool, true, false, not, ◌&&◌, ◌||◌, ◌==◌, refl, sym, ◌∙◌, ap, ap₂, subst, ℕ, zero, suc, ◌<◌, ◌+◌, ℤ, pos, ◌*ℤ◌, ◌+ℤ◌, List, [], ◌∷◌, ◌++◌, length, if◌then◌else◌, int_le, nat_lt, eq-eqb, arith}
-use Rattle.std.specs.Prelude.{map, slice_index_or, Option, Some, None, option_map, drop, All, IsTrue, IsFalse, IsSome, is_some, MatchOption}
+use Rattle.std.proofs.Common.{◌≡◌, ◌≢◌, Bool, true, false, not, ◌&&◌, ◌==◌, refl, sym, ◌∙◌, ap, ap₂, subst, ℕ, ◌<◌, ◌+◌, ℤ, pos, ◌*ℤ◌, ◌+ℤ◌, List, [], ◌∷◌, ◌++◌, length, if◌then◌else◌, int_le, eq-eqb, arith}
+use Rattle.std.specs.Prelude.{map, slice_index_or, Option, Some, None, option_map, drop, IsFalse, is_some, MatchOption}
 use Rattle.std.specs.List.{list_all, AllByRecursion}
 use Rattle.std.specs.Option.{option_and_then}
 use Rattle.std.proofs.lemmas.Bool.{eqb-true, eqb-false}
@@ -14,12 +14,11 @@ use Rattle.ps_term.proofs.Variables.{var_eq_sym}
 use Rattle.ps_command.proofs.Sizes.{step_sizes}
 use Rattle.ps_command.specs.Agreement.{AreSeenBy, RanAs}
 use Rattle.ps_command.specs.Fitting.{CanRun, IsSized}
-use Rattle.ps_command.specs.Form.{form_of, with_term}
+use Rattle.ps_command.specs.Form.{with_term}
 use Rattle.ps_command.specs.Named.{is_declared_op}
 use Rattle.ps_command.specs.Run.{havocs_in, holds, run, run_by}
 use Rattle.ps_command.specs.Symbolic.{with_havocs}
 use Rattle.ps_command.specs.Values.{Values, value_at, value_in, values_of, with_value, with_values}
-use Rattle.ps_command.specs.declared.command.Command.{Command}
 use Rattle.ps_command.specs.declared.op.Op.{Op}
 use Rattle.ps_command.specs.declared.op.Op.TheVariants.{Assume, Assign, Havoc as HavocOp}
 use Rattle.ps_command.specs.declared.setting.Setting.{Setting}

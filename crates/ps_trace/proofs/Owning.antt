@@ -1,6 +1,6 @@
 -- The forms of a graph's commands name globals, locals of thread 0 and their own havocs alone.
-use Rattle.std.proofs.Common.{◌≡◌, Bool, true, false, ◌&&◌, ◌||◌, ◌==◌, refl, sym, ◌∙◌, ap, ap₂, subst, ℕ, zero, suc, ◌<◌, ◌+◌, ℤ, pos, ◌*ℤ◌, ◌+ℤ◌, List, [], ◌∷◌, ◌++◌, length, get_or, if◌then◌else◌, nat_lt, ltb-true, arith}
-use Rattle.std.specs.Prelude.{All, map, slice_get, Option, Some, None, option_map, unwrap_or, IsTrue}
+use Rattle.std.proofs.Common.{◌≡◌, Bool, true, false, ◌&&◌, ◌==◌, refl, sym, ◌∙◌, ap, ap₂, subst, ℕ, zero, suc, ◌<◌, ℤ, pos, ◌*ℤ◌, ◌+ℤ◌, List, [], ◌∷◌, length, get_or, if◌then◌else◌, nat_lt, ltb-true, arith}
+use Rattle.std.specs.Prelude.{All, slice_get, Option, Some, None, option_map, unwrap_or}
 use Rattle.std.specs.List.{list_all}
 use Rattle.std.specs.Ordering.{int_eq}
 use Rattle.std.proofs.lemmas.Bool.Decides.{nat_tests}
@@ -12,7 +12,6 @@ use Rattle.ps_command.specs.Named.{is_declared, is_declared_term, is_declared_ro
 use Rattle.ps_command.specs.declared.command.Command.{Command}
 use Rattle.ps_command.specs.declared.op.Op.{Op}
 use Rattle.ps_command.specs.declared.op.Op.TheVariants.{Assume, Assign, Havoc as HavocOp}
-use Rattle.ps_command.specs.declared.setting.Setting.{Setting}
 use Rattle.ps_command.specs.declared.symbolic_form.SymbolicForm.{SymbolicForm}
 use Rattle.ps_graph.proofs.Errors.{and_parts}
 use Rattle.ps_graph.proofs.Strides.{edge_ops_are}
@@ -20,7 +19,7 @@ use Rattle.ps_graph.specs.ErrorTrace.{edge_ops}
 use Rattle.ps_graph.specs.Facts.{is_below, names_exist}
 use Rattle.ps_graph.specs.declared.edge.Edge.{Edge}
 use Rattle.ps_graph.specs.declared.graph.Graph.{Graph}
-use Rattle.ps_term.specs.Exact.{kept_before, number_term, plus_replaced, plus_scaled, substituted, with_pair, with_pairs}
+use Rattle.ps_term.specs.Exact.{kept_before, number_term, plus_replaced, substituted, with_pair, with_pairs}
 use Rattle.ps_term.specs.Pairs.{IsBelow, IsCanonical}
 use Rattle.ps_term.specs.Substitution.{replacement}
 use Rattle.ps_term.specs.Term.{variable_term}

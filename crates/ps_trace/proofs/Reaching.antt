@@ -1,7 +1,6 @@
 -- A witness reaches a failure of the text exactly where it replays on the graph.
 use Rattle.std.proofs.Common.{◌≡◌, ◌↔◌, Bool, true, false, not, ◌&&◌, refl, sym, ap, ap₂, ◌∙◌, subst, ℕ, zero, suc, ℤ, List, [], ◌∷◌, ◌⊎◌, inl, inr, length, map}
 use Rattle.std.specs.Prelude.{Contains, Option, Some, None, option_map, unwrap_or, slice_index_or, replicate}
-use Rattle.std.proofs.lemmas.Option.{same_Some}
 use Rattle.ps_command.specs.Values.{Values}
 use Rattle.ps_command.specs.declared.command.Command.{Command}
 use Rattle.ps_command.specs.declared.state.State.{State}
@@ -11,17 +10,17 @@ use Rattle.ps_graph.proofs.ManyThreads.{SeatsAreAt, WorldIsAt}
 use Rattle.ps_graph.proofs.Members.{IsIn, contains_of_in, in_of_contains}
 use Rattle.ps_graph.proofs.OneThread.{steps_are_edges}
 use Rattle.ps_graph.specs.Errors.{IsGraphOf}
-use Rattle.ps_graph.specs.Execution.{at_error as text_error, bodies_of, fails_at_last as text_fails, reaches, started, threads_with}
-use Rattle.ps_graph.specs.Follows.{RestBeginsAt, StepsAreEdges, ThreadIsAt, along, leaving}
+use Rattle.ps_graph.specs.Execution.{bodies_of, fails_at_last as text_fails, reaches, started, threads_with}
+use Rattle.ps_graph.specs.Follows.{RestBeginsAt, StepsAreEdges, ThreadIsAt, along}
 use Rattle.ps_graph.specs.Initial.{is_initial}
 use Rattle.ps_graph.specs.Step.{Thread, step}
-use Rattle.ps_graph.specs.Threads.{Seat, World, moved, step_at}
+use Rattle.ps_graph.specs.Threads.{Seat, World, step_at}
 use Rattle.ps_graph.specs.declared.edge.Edge.{Edge}
 use Rattle.ps_graph.specs.declared.graph.Graph.{Graph}
 use Rattle.ps_tree.specs.declared.program.Program.{Program}
 use Rattle.ps_tree.specs.declared.stmt.Stmt.{Stmt}
 use Rattle.ps_trace.specs.Reaches.{Reaches, witness_state, steps_of}
-use Rattle.ps_trace.specs.Replay.{along_first, at_error, entered, fails_at_last, moved_on, or_else, Replays, world_of}
+use Rattle.ps_trace.specs.Replay.{along_first, fails_at_last, or_else, Replays, world_of}
 use Rattle.ps_trace.specs.declared.witness.Witness.{Witness}
 
 some_none : {X : Type 0} (x : X) → None ≡ Some x → ⊥

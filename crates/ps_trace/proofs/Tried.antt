@@ -1,6 +1,6 @@
 -- Edges that are tried one after another.
-use Rattle.std.proofs.Common.{◌≡◌, Bool, true, false, ◌==◌, refl, sym, ap, ap₂, ◌∙◌, subst, ℕ, zero, suc, ◌<◌, ◌+◌, ℤ, List, [], ◌∷◌, length, map, drop, get_or, if◌then◌else◌, eqb-true, eq-eqb, arith}
-use Rattle.std.specs.Prelude.{Contains, Option, Some, None, option_map, slice_get, slice_index_or, unwrap_or, IsFalse}
+use Rattle.std.proofs.Common.{◌≡◌, Bool, true, false, ◌==◌, refl, sym, ap, ap₂, ◌∙◌, subst, ℕ, zero, suc, ◌<◌, ◌+◌, ℤ, List, [], ◌∷◌, length, drop, get_or, if◌then◌else◌, eqb-true, eq-eqb, arith}
+use Rattle.std.specs.Prelude.{Contains, Option, Some, None, option_map, slice_get, unwrap_or, IsFalse}
 use Rattle.std.specs.List.{AllByRecursion, list_all}
 use Rattle.std.specs.Option.{option_and_then}
 use Rattle.std.proofs.lemmas.List.{drop_more}
@@ -18,7 +18,7 @@ use Rattle.ps_graph.proofs.Letters.{havocs_count}
 use Rattle.ps_graph.proofs.Members.{in_of_contains}
 use Rattle.ps_graph.proofs.Strides.{picks_count}
 use Rattle.ps_graph.specs.Facts.{after_edge}
-use Rattle.ps_graph.specs.Follows.{along, leaving}
+use Rattle.ps_graph.specs.Follows.{leaving}
 use Rattle.ps_graph.specs.Picks.{havocs_of}
 use Rattle.ps_graph.specs.declared.edge.Edge.{Edge}
 use Rattle.ps_graph.specs.declared.graph.Graph.{Graph}

@@ -1,13 +1,12 @@
 -- Worlds of a replay, step after step.
 use Rattle.std.proofs.Common.{◌≡◌, Bool, true, false, not, ◌&&◌, ◌||◌, ◌==◌, refl, sym, ap, ap₂, ◌∙◌, subst, ℕ, zero, suc, ◌<◌, ◌≤◌, ◌+◌, ℤ, List, [], ◌∷◌, length, map, drop, get_or, arith}
-use Rattle.std.specs.Prelude.{All, Option, Some, None, option_map, slice_get, slice_index_or, slice_set, unwrap_or, IsFalse, IsTrue, IfSome, MatchOption}
+use Rattle.std.specs.Prelude.{Option, Some, None, option_map, slice_get, slice_index_or, slice_set, unwrap_or, IfSome}
 use Rattle.std.specs.List.{AllByRecursion, list_any}
 use Rattle.std.proofs.lemmas.List.{drop_more, map-set}
 use Rattle.std.proofs.lemmas.List.Elements.{recursion_from_All}
 use Rattle.std.proofs.lemmas.Option.{slice_get-get_or, slice_get-map}
 use Rattle.ps_command.specs.Initial.{IsInitial}
 use Rattle.ps_command.specs.RunFits.{StartFits}
-use Rattle.ps_command.specs.Values.{Values}
 use Rattle.ps_command.specs.declared.setting.Setting.{Setting}
 use Rattle.ps_command.specs.declared.state.State.{State}
 use Rattle.ps_graph.proofs.Strides.{seated, step_at_is, step_at_none}

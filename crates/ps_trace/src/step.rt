@@ -1,7 +1,7 @@
 //! Steps of a witness.
 ghost use Rattle.std.specs.Prelude.{◌≡◌, IfOk};
 
-use ps_list::{Duplicate, Sequence};
+use ps_list::Sequence;
 use std::alloc::{AllocError, Global};
 
 /// A thread makes a step with these choices, in the order met: 1 or 0 for each `*`, and the value for
@@ -21,11 +21,5 @@ impl Step {
             thread: self.thread,
             choices: Sequence::from_slice(alloc, self.choices.as_slice())?,
         })
-    }
-}
-
-impl Duplicate for Step {
-    fn duplicate(&self, alloc: Global) -> Result<Step, AllocError> {
-        self.copy(alloc)
     }
 }

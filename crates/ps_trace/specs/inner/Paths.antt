@@ -1,5 +1,5 @@
 -- What a test of letters, one after another, asks of them.
-use Rattle.std.specs.Prelude.{◌≡◌, ℕ, ◌<◌, ◌≤◌, Bool, true, false, ◌&&◌, List, [], ◌∷◌, ◌++◌, length, take, slice_get, slice_index_or, Option, Some, None, option_map, unwrap_or, IsTrue, IsFalse}
+use Rattle.std.specs.Prelude.{◌≡◌, ℕ, ◌<◌, ◌≤◌, Bool, true, false, ◌&&◌, List, [], ◌∷◌, ◌++◌, length, take, slice_get, slice_index_or, Option, option_map, unwrap_or, IsTrue, IsFalse}
 use Rattle.std.specs.Option.{option_and_then}
 use Rattle.ps_graph.specs.ErrorTrace.{BeginsOnce, RunsBody, edges_of, is_path}
 use Rattle.ps_graph.specs.declared.edge.Edge.{Edge}

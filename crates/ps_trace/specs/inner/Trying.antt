@@ -1,5 +1,5 @@
 -- Steps along listed edges, and what code keeps of the world.
-use Rattle.std.specs.Prelude.{◌≡◌, ℕ, ℤ, List, [], ◌∷◌, length, map, Option, Some, None, option_map}
+use Rattle.std.specs.Prelude.{◌≡◌, ℕ, ℤ, List, [], ◌∷◌, length, map, Option, None, option_map}
 use Rattle.std.specs.List.{AllByRecursion}
 use Rattle.ps_command.specs.Values.{Values}
 use Rattle.ps_command.specs.declared.command.Command.{Command}

@@ -1,7 +1,6 @@
-use Rattle.std.proofs.Common.{◌≡◌, ◌≤◌, length, arith}
 use Rattle.std.proofs.lemmas.Bool.{leb-true, le-leb}
 use Rattle.ps_config.specs.Configurations.{Configuration}
-use Rattle.ps_config.specs.declared.config.TheConstants.{MOST_ATOMS, MOST_THREADS}
+use Rattle.ps_config.specs.declared.config.TheConstants.{MOST_THREADS}
 use Rattle.ps_config.proofs.Forming.{config_from, config_count}
 use Rattle.ps_config.proofs.form.is_in_form.Goals as goal
 

@@ -1,4 +1,4 @@
-use Rattle.std.proofs.Common.{◌≡◌, ◌<◌, true, List, sym, subst, length}
+use Rattle.std.proofs.Common.{◌≡◌, true, sym, subst}
 use Rattle.ps_command.specs.declared.symbolic_form.SymbolicForm.{SymbolicForm}
 use Rattle.ps_trace.proofs.Owning.{form_got, own_form_at}
 use Rattle.ps_trace.specs.Own.{is_own_form}

@@ -1,4 +1,4 @@
-use Rattle.std.proofs.Common.{◌≡◌, ◌<◌, true, false, ℕ, List, [], length, take, refl, sym, subst, ◌∙◌, rules}
+use Rattle.std.proofs.Common.{◌≡◌, true, false, List, length, refl, sym, subst, ◌∙◌, rules}
 use Rattle.std.proofs.lemmas.List.{take_all}
 use Rattle.ps_trace.specs.Traces.{pairs_in}
 use Rattle.ps_trace.specs.inner.Paths.{ArePaths}

@@ -1,6 +1,4 @@
 use Rattle.std.proofs.Common.{List, ap, ◌∙◌}
-use Rattle.std.specs.List.{list_any}
-use Rattle.ps_graph.specs.ErrorTrace.{is_path}
 use Rattle.ps_graph.specs.declared.edge.Edge.{Edge}
 use Rattle.ps_trace.specs.Traces.{letter_pair, pairs_in}
 use Rattle.ps_trace.specs.inner.Paths.{links}

@@ -1,4 +1,4 @@
-use Rattle.std.proofs.Common.{◌≡◌, ◌<◌, ◌+◌, ◌-◌, ℕ, [], length, drop, sym, ap, ◌∙◌, arith}
+use Rattle.std.proofs.Common.{◌≡◌, ◌<◌, ◌+◌, ◌-◌, ℕ, length, drop, ap, ◌∙◌, arith}
 use Rattle.ps_graph.specs.ErrorTrace.{edges_of}
 use Rattle.ps_trace.specs.Traces.{pairs_in}
 use Rattle.ps_trace.proofs.Following.{last_here}

@@ -1,6 +1,6 @@
 use Rattle.std.proofs.Common.{◌+◌, ap, drop}
 use Rattle.std.proofs.lemmas.List.{drop_more}
-use Rattle.ps_trace.specs.Traces.{letter_pair, pairs_in}
+use Rattle.ps_trace.specs.Traces.{pairs_in}
 use Rattle.ps_trace.specs.inner.SoFars.{so_far_of}
 use Rattle.ps_trace.proofs.Rowing.{rowing_take}
 use Rattle.ps_trace.proofs.rows.append_rows.Goals as goal

@@ -1,4 +1,4 @@
-use Rattle.std.proofs.Common.{◌≡◌, Bool, true, sym, ap, subst, ◌∙◌, List}
+use Rattle.std.proofs.Common.{◌≡◌, true, sym, subst, List}
 use Rattle.std.specs.List.{list_all}
 use Rattle.ps_term.specs.declared.row.Row.{Row}
 use Rattle.ps_trace.proofs.Owning.{declared_rows_own}

@@ -1,5 +1,4 @@
-use Rattle.std.proofs.Common.{◌≡◌, ◌≤◌, length, arith}
-use Rattle.std.specs.Prelude.{slice_index}
+use Rattle.std.proofs.Common.{length, arith}
 use Rattle.ps_trace.proofs.Columns.{ends_within}
 use Rattle.ps_trace.proofs.steps.choices_of.Goals as goal
 

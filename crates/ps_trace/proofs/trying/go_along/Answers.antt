@@ -1,10 +1,10 @@
-use Rattle.std.proofs.Common.{◌≡◌, ◌<◌, Bool, ℤ, List, length, sym, ap, ◌∙◌, subst, if◌then◌else◌}
-use Rattle.std.specs.Prelude.{Option, Some, None}
+use Rattle.std.proofs.Common.{◌<◌, Bool, List, length, sym, ap, ◌∙◌, subst, if◌then◌else◌}
+use Rattle.std.specs.Prelude.{Some, None}
 use Rattle.ps_command.specs.declared.command.Command.{Command}
 use Rattle.ps_graph.specs.Picks.{havocs_of}
 use Rattle.ps_graph.specs.declared.edge.Pick.{Pick}
 use Rattle.ps_trace.proofs.Results.{both_on, if_ok, on_ok}
-use Rattle.ps_trace.proofs.Tried.{edge_command, edge_fits, edge_past, Runs, runs_here, sized_after}
+use Rattle.ps_trace.proofs.Tried.{edge_command, edge_fits, edge_past, runs_here, sized_after}
 use Rattle.ps_trace.proofs.trying.go_along.Goals as goal
 
 pub bounds-as_slice-edge : goal.bounds-as_slice-edge

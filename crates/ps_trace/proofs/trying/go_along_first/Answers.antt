@@ -1,4 +1,4 @@
-use Rattle.std.proofs.Common.{◌≡◌, Bool, List, get_or, ap, ◌∙◌, if◌then◌else◌}
+use Rattle.std.proofs.Common.{Bool, List, get_or, ap, ◌∙◌, if◌then◌else◌}
 use Rattle.std.specs.Prelude.{Some, None}
 use Rattle.ps_graph.specs.declared.edge.Edge.{Edge}
 use Rattle.ps_trace.proofs.Tried.{trying_found, trying_on}

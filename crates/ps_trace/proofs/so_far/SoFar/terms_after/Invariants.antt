@@ -1,4 +1,4 @@
-use Rattle.std.proofs.Common.{◌≡◌, ◌++◌, All, map, take}
+use Rattle.std.proofs.Common.{◌≡◌, All, map, take}
 use Rattle.ps_term.specs.Substitution.{SubstitutionFits}
 use Rattle.ps_term.specs.declared.term.Term.{Term}
 use Rattle.ps_term.specs.declared.var.Var.{Var}

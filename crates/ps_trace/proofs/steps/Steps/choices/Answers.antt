@@ -1,4 +1,4 @@
-use Rattle.std.proofs.Common.{◌≡◌, ◌<◌, ℕ, ℤ, List, length, ap, ap₂, subst, sym, ◌∙◌, arith}
+use Rattle.std.proofs.Common.{ℕ, ℤ, List, length, ap, ap₂, ◌∙◌, arith}
 use Rattle.std.specs.Prelude.{◌∷◌, slice_index, slice_range}
 use Rattle.ps_trace.proofs.Columns.{choices_are, length_is}
 use Rattle.ps_trace.proofs.steps.Steps.choices.Goals as goal

@@ -1,4 +1,4 @@
-use Rattle.std.proofs.Common.{◌≡◌, ◌+◌, ◌++◌, ◌∷◌, [], ℕ, ℤ, List, length, ap, sym, ◌∙◌, rules}
+use Rattle.std.proofs.Common.{◌≡◌, ◌+◌, ◌++◌, ◌∷◌, [], ℕ, ℤ, List, length, ap, ◌∙◌, rules}
 use Rattle.ps_trace.proofs.Columns.{columns_more, pushed}
 use Rattle.ps_trace.proofs.steps.Steps.push.Goals as goal
 

@@ -1,4 +1,4 @@
-use Rattle.std.proofs.Common.{◌≡◌, ◌<◌, length, subst, arith, rules}
+use Rattle.std.proofs.Common.{◌<◌, length, arith, rules}
 use Rattle.ps_trace.proofs.Columns.{length_is, thread_is}
 use Rattle.ps_trace.proofs.steps.Steps.thread.Goals as goal
 
