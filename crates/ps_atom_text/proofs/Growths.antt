@@ -1,90 +1,78 @@
 -- The laws of lists that grow, and the loop that reads them.
 use Rattle.std.proofs.Common.{◌≡◌, ℕ, suc, ◌+◌, ◌<◌, Bool, true, false, List, [], ◌∷◌, ◌++◌, length, Option, Some, None, Result, Ok, Err, refl, sym, ap, ◌∙◌, arith}
 use Rattle.std.specs.Prelude.{IfOk, if◌then◌else◌}
-use Rattle.std.proofs.lemmas.Bool.{cond-true, cond-false}
+use Rattle.std.proofs.lemmas.Bool.{cond-false}
+use Rattle.std.proofs.lemmas.Option.{none-some, same_Some}
 use Rattle.ps_atom_text.specs.Growing.{grow_at, grow_from}
 use Rattle.ps_atom_text.proofs.Fields.{found_as}
 use Rattle.ps_lines.specs.declared.form_end.FormEnd.{FormEnd}
 use Rattle.ps_lines.specs.declared.form_end.FormEnd.TheVariants.{Fault, Memory}
 use Rattle.ps_lines.specs.declared.form_fault.FormFault.{FormFault}
 use Rattle.ps_lines.specs.declared.form_name.FormName.{FormName}
-use Rattle.ps_lines.specs.inner.Ahead.{list_goes_on}
-use Rattle.ps_lines.specs.Reading.{Position, Gives, fault_placed, leaf_at}
+use Rattle.ps_lines.specs.Reading.{Position, Gives, Tells, fault_placed, member_field, member_from}
 use Rattle.ps_lines.specs.Steps.{and_then, ◌>>=◌}
-use Rattle.ps_lines.specs.Tokens.{LinePart, Field, Newline, next_field}
+use Rattle.ps_lines.specs.Tokens.{LinePart, Field, Newline}
 use Rattle.ps_lines.proofs.Bytes.{IsPlain, IsClean}
 use Rattle.ps_lines.proofs.Exact.{Finds, Gets, found_bind, placed_found}
 use Rattle.ps_lines.proofs.Forms.{Stops, member_tokens}
-use Rattle.ps_lines.proofs.Loop.{read_of, read_is}
 
 -- ---- the loop
 
 abbrev here : ℕ → ℕ → List LinePart → Position
 here line field ts = record { line = line; field = field; tokens = ts }
 
--- with the next field, and then with those after it
-abbrev grown_further : {S : Type 0} → (List ℕ → Bool) → (S → List ℕ → Result S FormName) → S → Position → Result (S × Position) FormFault
-grown_further goes grown state at = leaf_at (grown state) at >>= λ more. grow_at goes grown more.0 more.1
+-- with the field that the list goes on with, and then with those after it
+abbrev grown_then : {S : Type 0} → (List ℕ → Bool) → (S → List ℕ → Result S FormName) → S → Position → Option (List ℕ × Position) → Result (S × Position) FormFault
+grown_then goes grown state at None = Ok (state, at)
+grown_then goes grown state at (Some p) = fault_placed at.line at.field (grown state p.0) >>= λ more. grow_at goes grown more p.1
 
-further : {S : Type 0} (goes : List ℕ → Bool) (grown : S → List ℕ → Result S FormName) (line field : ℕ) (ts : List LinePart) (r : Result S FormName) →
-    and_then (fault_placed line field r) (λ more. grow_from goes grown more line (field + 1) ts)
-    ≡ and_then {A = S × Position} (and_then (fault_placed line field r) (λ x. Ok (x, here line (field + 1) ts))) (λ more. grow_at goes grown more.0 more.1)
-unfolding and_then
-further goes grown line field ts (Ok x) = refl
-further goes grown line field ts (Err what) = refl
+by_tokens : {S : Type 0} (goes : List ℕ → Bool) (grown : S → List ℕ → Result S FormName) (state : S) (line field : ℕ) (ts : List LinePart) →
+    grow_at goes grown state (here line field ts) ≡ grown_then goes grown state (here line field ts) (member_from goes line field ts)
+unfolding grow_from
+by_tokens goes grown state line field [] = refl
+by_tokens goes grown state line field (Newline ∷ ts) = refl
+by_tokens {S = S} goes grown state line field (Field f ∷ ts) = by_test (goes f) (f, here line (field + 1) ts)
+  where
+    by_test : (t : Bool) (p : List ℕ × Position) →
+        (if t then (fault_placed line field (grown state p.0) >>= λ more. grow_at goes grown more p.1) else Ok (state, here line field (Field f ∷ ts)))
+        ≡ grown_then goes grown state (here line field (Field f ∷ ts)) (if t then Some p else None)
+    by_test true p = refl
+    by_test false p = refl
 
-grows_by_tokens : {S : Type 0} (goes : List ℕ → Bool) (grown : S → List ℕ → Result S FormName) (state : S) (line field : ℕ) (ts : List LinePart) →
-    grow_at goes grown state (here line field ts) ≡ (if list_goes_on goes (next_field ts) then grown_further goes grown state (here line field ts) else Ok (state, here line field ts))
-unfolding grow_from leaf_at and_then
-grows_by_tokens goes grown state line field [] = refl
-grows_by_tokens goes grown state line field (Newline ∷ ts) = refl
-grows_by_tokens {S = S} goes grown state line field (Field f ∷ ts) =
-    ap (λ (r : Result (S × Position) FormFault). if goes f then r else Ok (state, here line field (Field f ∷ ts))) (further goes grown line field ts (grown state f))
-
--- a list grows by its next field, where it goes on with it
-pub grows : {S : Type 0} (goes : List ℕ → Bool) (grown : S → List ℕ → Result S FormName) (state : S) (at : Position) →
-    grow_at goes grown state at ≡ (if list_goes_on goes (next_field at.tokens) then grown_further goes grown state at else Ok (state, at))
-grows goes grown state at = grows_by_tokens goes grown state at.line at.field at.tokens
-
-goes_on_with : (goes : List ℕ → Bool) (next : Option (List ℕ)) (f : List ℕ) (t : Bool) → next ≡ Some f → goes f ≡ t → list_goes_on goes next ≡ t
-goes_on_with goes next f t is test = ap (list_goes_on goes) is ∙ test
+-- a list grows by its next member
+grows : {S : Type 0} (goes : List ℕ → Bool) (grown : S → List ℕ → Result S FormName) (state : S) (at : Position) → grow_at goes grown state at ≡ grown_then goes grown state at (member_field goes at)
+grows goes grown state at = by_tokens goes grown state at.line at.field at.tokens
 
 -- the list that is left grows to the same
 pub grown_more : {S : Type 0} (goes : List ℕ → Bool) (grown : S → List ℕ → Result S FormName) (state more : S) (at after : Position) (f : List ℕ) (total : Result (S × Position) FormFault) →
-    grow_at goes grown state at ≡ total → next_field at.tokens ≡ Some f → goes f ≡ true → leaf_at (grown state) at ≡ Ok (more, after) → grow_at goes grown more after ≡ total
+    grow_at goes grown state at ≡ total → member_field goes at ≡ Some (f, after) → fault_placed at.line at.field (grown state f) ≡ Ok more → grow_at goes grown more after ≡ total
 unfolding and_then
-grown_more {S = S} goes grown state more at after f total same is test e =
-    sym (grows goes grown state at ∙ cond-true _ _ _ (goes_on_with goes (next_field at.tokens) f true is test) ∙ ap (λ (r : Result (S × Position) FormFault). r >>= λ x. grow_at goes grown x.0 x.1) e) ∙ same
+grown_more {S = S} goes grown state more at after f total same is e =
+    sym (grows goes grown state at ∙ ap (grown_then goes grown state at) is ∙ ap (λ (r : Result S FormFault). r >>= λ x. grow_at goes grown x after) e) ∙ same
 
 pub grown_fails : {X S : Type 0} (view : X → S) (goes : List ℕ → Bool) (grown : S → List ℕ → Result S FormName) (state : S) (at now after : Position) (f : List ℕ) (e : FormEnd) (total : Result (S × Position) FormFault) →
-    grow_at goes grown state at ≡ total → next_field at.tokens ≡ Some f → goes f ≡ true → Gives (λ (x : S). x) (Err e) now (leaf_at (grown state) at) → Gives view (Err e) after total
+    grow_at goes grown state at ≡ total → member_field goes at ≡ Some (f, after) → Tells (λ (x : S). x) (Err e) (fault_placed at.line at.field (grown state f)) → Gives view (Err e) now total
 unfolding and_then
-grown_fails view goes grown state at now after f (Memory m) total same is test e = tt
-grown_fails {S = S} view goes grown state at now after f (Fault fault) total same is test e =
-    sym same ∙ grows goes grown state at ∙ cond-true _ _ _ (goes_on_with goes (next_field at.tokens) f true is test) ∙ ap (λ (r : Result (S × Position) FormFault). r >>= λ x. grow_at goes grown x.0 x.1) e
+grown_fails view goes grown state at now after f (Memory m) total same is e = tt
+grown_fails {S = S} view goes grown state at now after f (Fault fault) total same is e =
+    sym same ∙ grows goes grown state at ∙ ap (grown_then goes grown state at) is ∙ ap (λ (r : Result S FormFault). r >>= λ x. grow_at goes grown x after) e
 
-pub grown_stops : {S : Type 0} (goes : List ℕ → Bool) (grown : S → List ℕ → Result S FormName) (state : S) (at : Position) (f : List ℕ) (total : Result (S × Position) FormFault) →
-    grow_at goes grown state at ≡ total → next_field at.tokens ≡ Some f → goes f ≡ false → total ≡ Ok (state, at)
-grown_stops goes grown state at f total same is test = sym same ∙ grows goes grown state at ∙ cond-false _ _ _ (goes_on_with goes (next_field at.tokens) f false is test)
+pub grown_ends : {S : Type 0} (goes : List ℕ → Bool) (grown : S → List ℕ → Result S FormName) (state : S) (at now : Position) (total : Result (S × Position) FormFault) →
+    grow_at goes grown state at ≡ total → member_field goes at ≡ None → now ≡ at → total ≡ Ok (state, now)
+grown_ends {S = S} goes grown state at now total same is stays = sym same ∙ grows goes grown state at ∙ ap (grown_then goes grown state at) is ∙ ap (λ (p : Position). grown_then goes grown state p None) (sym stays)
 
-pub grown_ends : {S : Type 0} (goes : List ℕ → Bool) (grown : S → List ℕ → Result S FormName) (state : S) (at : Position) (total : Result (S × Position) FormFault) →
-    grow_at goes grown state at ≡ total → next_field at.tokens ≡ None → total ≡ Ok (state, at)
-grown_ends goes grown state at total same is = sym same ∙ grows goes grown state at ∙ cond-false _ _ _ (ap (list_goes_on goes) is)
+smaller_by_tokens : (goes : List ℕ → Bool) (line field : ℕ) (ts : List LinePart) (f : List ℕ) (after : Position) → member_from goes line field ts ≡ Some (f, after) → length after.tokens < length ts
+smaller_by_tokens goes line field [] f after e = absurd (none-some _ e)
+smaller_by_tokens goes line field (Newline ∷ ts) f after e = absurd (none-some _ e)
+smaller_by_tokens goes line field (Field g ∷ ts) f after e = by_test (goes g) (g, here line (field + 1) ts) (f, after) e
+  where
+    by_test : (t : Bool) (p q : List ℕ × Position) → (if t then Some p else None) ≡ Some q → length q.1.tokens < suc (length p.1.tokens)
+    by_test true p q e = let same : length p.1.tokens ≡ length q.1.tokens = ap (λ (r : List ℕ × Position). length r.1.tokens) (same_Some p q e) in omega (arith, same)
+    by_test false p q e = absurd (none-some q e)
 
-smaller_by_leaf : {A : Type 0} (line field : ℕ) (ts : List LinePart) (after : Position) (x : A) (r : Result A FormName) → and_then (fault_placed line field r) (λ y. read_of (y, here line (field + 1) ts)) ≡ read_of (x, after) → length after.tokens < suc (length ts)
-unfolding and_then
-smaller_by_leaf {A = A} line field ts after x (Ok y) e = let same : length ts ≡ length after.tokens = ap (λ (p : A × Position). length p.1.tokens) (read_is (y, here line (field + 1) ts) (x, after) e) in omega (arith, same)
-smaller_by_leaf line field ts after x (Err what) e = absurd cc
-
-smaller_by_tokens : {A : Type 0} (leaf : List ℕ → Result A FormName) (line field : ℕ) (ts : List LinePart) (after : Position) (x : A) → leaf_at leaf (here line field ts) ≡ read_of (x, after) → length after.tokens < length ts
-unfolding leaf_at and_then
-smaller_by_tokens leaf line field [] after x e = absurd cc
-smaller_by_tokens leaf line field (Newline ∷ ts) after x e = absurd cc
-smaller_by_tokens leaf line field (Field f ∷ ts) after x e = smaller_by_leaf line field ts after x (leaf f) e
-
--- a field that was read is one less
-pub leaf_smaller : {A : Type 0} (leaf : List ℕ → Result A FormName) (at after : Position) (x : A) → leaf_at leaf at ≡ Ok (x, after) → length after.tokens < length at.tokens
-leaf_smaller leaf at after x e = smaller_by_tokens leaf at.line at.field at.tokens after x e
+-- a field that was taken is one less
+pub member_smaller : (goes : List ℕ → Bool) (at after : Position) (f : List ℕ) → member_field goes at ≡ Some (f, after) → length after.tokens < length at.tokens
+member_smaller goes at after f e = smaller_by_tokens goes at.line at.field at.tokens f after e
 
 -- ---- the laws
 

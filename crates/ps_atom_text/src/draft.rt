@@ -1,5 +1,5 @@
 //! Configurations, as they are read.
-ghost use Rattle.std.specs.Prelude.{◌≡◌, ◌-◌, ◌∷◌, [], ◌++◌, codes, length, slice_get, true};
+ghost use Rattle.std.specs.Prelude.{◌≡◌, IfOk, ◌-◌, ◌∷◌, [], ◌++◌, codes, length, slice_get, true};
 ghost use Rattle.ps_atom_text.specs.Forms.{in_form};
 ghost use Rattle.ps_atom_text.specs.Growing.{goes_to, grow_at};
 ghost use Rattle.ps_atom_text.specs.Reading.{empty_configuration, with_atom, with_place};
@@ -18,7 +18,7 @@ use crate::place::read_place;
 use ps_atom::Atom;
 use ps_config::{Config, MOST_ATOMS, MOST_THREADS};
 use ps_text::{FormEnd, FormName, Reader, Until};
-use std::alloc::Global;
+use std::alloc::{AllocError, Global};
 use std::marker::Model;
 
 /// A configuration of the fields so far, which are in form.
@@ -53,28 +53,26 @@ fn thread_comes_last(at: &[(u32, u32)], thread: u32) -> bool
 }
 
 impl Draft {
-    // No thread and no atom.
-    fn new(alloc: Global) -> Draft
-        ensures { result ≡ empty_configuration }
+    // No thread and no atom, with room for so many of them.
+    fn with_room(alloc: Global, places: usize, atoms: usize) -> Result<Draft, AllocError>
+        ensures { IfOk result (λ draft. draft ≡ empty_configuration) }
     {
-        Draft {
-            at: Vec::new(alloc),
-            atoms: Vec::new(alloc),
+        Ok(Draft {
+            at: Vec::with_capacity(alloc, places)?,
+            atoms: Vec::with_capacity(alloc, atoms)?,
             met: Vec::new(alloc),
-        }
+        })
     }
 
-    /// The configuration, in no more memory than its lists need.
+    /// The configuration; the call needs no memory.
     pub(crate) fn into_config(self) -> Config
         ensures { result ≡ self }
     {
         let Draft {
-            mut at,
-            mut atoms,
+            at,
+            atoms,
             met: _met,
         } = self;
-        at.shrink_to_fit();
-        atoms.shrink_to_fit();
         Config::new(at, atoms)
     }
 
@@ -156,12 +154,24 @@ impl Growth for AtomGrowth {
     }
 }
 
-/// Takes the threads with their locations of a configuration that has no atoms yet: the fields up to `has`.
+// No thread and no atom, with room for those that a line has ahead.
+fn empty_draft<'a>(alloc: Global, reader: &Reader<'a>) -> Result<Draft, AllocError>
+    ensures { IfOk result (λ draft. draft ≡ empty_configuration) }
+{
+    let places = reader.members_ahead(&Until::Word(b"has"), MOST_THREADS);
+    let fields = reader.members_ahead(&Until::LineEnd, MOST_THREADS + 1 + MOST_ATOMS);
+    let atoms = fields.saturating_sub(places).saturating_sub(1);
+    Draft::with_room(alloc, places, atoms)
+}
+
+/// Takes the threads with their locations of a configuration that has no atoms yet: the fields up to `has`. Counts the
+/// line's fields first, so that each list takes memory once, and no more than it needs.
 pub(crate) fn take_places<'a>(alloc: Global, reader: &mut Reader<'a>) -> Result<Draft, FormEnd>
     ensures { Gives (λ x. x) result reader.new
         (grow_at (goes_to (codes "has")) with_place empty_configuration reader.old) }
 {
-    grow_fields::<PlaceGrowth>(alloc, &Until::Word(b"has"), Draft::new(alloc), reader)
+    let empty = empty_draft(alloc, reader)?;
+    grow_fields::<PlaceGrowth>(alloc, &Until::Word(b"has"), empty, reader)
 }
 
 /// Takes the atoms of a configuration: the fields up to the end of the line.

@@ -20,9 +20,8 @@ fn take_lambda<'a>(alloc: Global, reader: &mut Reader<'a>) -> Result<Sequence<u1
     ensures { Gives (λ x. x) result reader.new (lambda_at reader.old) }
 {
     reader.word(b"by")?;
-    let mut numbers = list::<Natural>(alloc, &Until::LineEnd, reader)?;
+    let numbers = list::<Natural>(alloc, &Until::LineEnd, reader)?;
     reader.end()?;
-    numbers.shrink_to_fit();
     Ok(Sequence::from_list(numbers))
 }
 

@@ -2,12 +2,12 @@
 ghost use Rattle.std.specs.Prelude.{◌≡◌, List, Result, ℕ};
 ghost use Rattle.ps_atom_text.specs.Growing.{grow_at};
 ghost use Rattle.ps_atom_text.specs.inner.Ends.{IsRead};
-ghost use Rattle.ps_lines.specs.Reading.{Gives, leaf_at};
+ghost use Rattle.ps_lines.specs.Reading.{Gives, Tells, fault_placed};
 ghost use Rattle.ps_lines.specs.Until.{goes};
 ghost use Rattle.ps_lines.specs.declared.form_name.FormName.{FormName};
 
 use crate::field_end::FieldEnd;
-use ps_text::{FormEnd, FormName, Reader, Until};
+use ps_text::{FormEnd, FormFault, FormName, Reader, Until};
 use std::alloc::Global;
 
 /// What fields are gathered into, one by one. Its type has no values of its own: it says what a state becomes with one
@@ -22,24 +22,23 @@ pub(crate) trait Growth {
         ensures { IsRead result (grown state field.now) };
 }
 
-// The state with the next field of the line.
-#[tactic(auto, unfolding(ps_lines::specs::Reading::leaf_at, ps_lines::specs::Steps::and_then))]
-fn grow_next<'a, G: Growth>(
+// The state with a field that stands at this place.
+fn grown_with<G: Growth>(
     alloc: Global,
     state: G::State,
-    reader: &mut Reader<'a>,
+    place: FormFault,
+    field: &[u8],
 ) -> Result<G::State, FormEnd>
-    ensures { Gives (λ x. x) result reader.new (leaf_at (G.grown state) reader.old) }
+    ensures { Tells (λ x. x) result
+        (fault_placed place.line place.field (G.grown state field.now)) }
 {
-    let place = reader.fault(FormName::Field);
-    let field = reader.field()?;
     match G::grow(alloc, state, field) {
         Ok(grown) => Ok(grown),
         Err(end) => Err(end.placed(place)),
     }
 }
 
-/// The state that the fields of a line make, as long as `until` passes them.
+/// The state that the fields of a line make, as long as `until` passes them. Looks at each field once to find its end.
 pub(crate) fn grow_fields<'a, G: Growth>(
     alloc: Global,
     until: &Until<'_>,
@@ -50,11 +49,11 @@ pub(crate) fn grow_fields<'a, G: Growth>(
         (grow_at (goes until.now) G.grown start reader.old) }
 {
     let mut state = start;
-    'growing: while let Some(field) = reader.peek() {
-        if !until.passes(field) {
-            return Ok(state);
+    'growing: loop {
+        let place = reader.fault(FormName::Field);
+        match reader.member(until) {
+            Some(field) => state = grown_with::<G>(alloc, state, place, field)?,
+            None => return Ok(state),
         }
-        state = grow_next::<G>(alloc, state, reader)?;
     }
-    Ok(state)
 }

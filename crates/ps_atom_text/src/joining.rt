@@ -1,5 +1,5 @@
 //! Reading the atoms before the command of a triple, one by one.
-ghost use Rattle.std.specs.Prelude.{◌≡◌, ◌-◌, ◌∷◌, [], ◌++◌, codes, length, slice_get, refl};
+ghost use Rattle.std.specs.Prelude.{◌≡◌, IfOk, ◌-◌, ◌∷◌, [], ◌++◌, codes, length, slice_get, refl};
 ghost use Rattle.ps_atom_text.specs.Growing.{goes_to, grow_at};
 ghost use Rattle.ps_atom_text.specs.Reading.{before_of, before_with, none_before};
 ghost use Rattle.ps_atom_text.specs.inner.Ends.{IsRead};
@@ -15,7 +15,7 @@ use crate::limits::{ANY_THREAD, MOST_BEFORE};
 use ps_atom::Atom;
 use ps_list::Sequence;
 use ps_text::{FormEnd, FormName, Reader, Until};
-use std::alloc::Global;
+use std::alloc::{AllocError, Global};
 
 /// Whether the atom comes after the last of these, if there is one.
 pub(crate) fn comes_last(atoms: &[Atom], atom: &Atom) -> bool
@@ -27,13 +27,13 @@ pub(crate) fn comes_last(atoms: &[Atom], atom: &Atom) -> bool
     }
 }
 
-// No atom.
-fn no_atoms(alloc: Global) -> Before
-    ensures { result ≡ none_before }
+// No atom, with room for so many.
+fn no_atoms(alloc: Global, room: usize) -> Result<Before, AllocError>
+    ensures { IfOk result (λ before. before ≡ none_before) }
 {
-    Before {
-        atoms: Sequence::from_list(Vec::new(alloc)),
-    }
+    Ok(Before {
+        atoms: Sequence::from_list(Vec::with_capacity(alloc, room)?),
+    })
 }
 
 // One more atom, where it comes last and there is room.
@@ -70,33 +70,13 @@ impl Growth for BeforeGrowth {
     }
 }
 
-// The same atoms, in no more memory than they need.
-fn fitted(before: Before) -> Before
-    ensures { result ≡ before }
-{
-    let Before { atoms } = before;
-    let mut atoms = atoms.into_list();
-    atoms.shrink_to_fit();
-    Before {
-        atoms: Sequence::from_list(atoms),
-    }
-}
-
-// The atoms before a command: the fields up to `by`.
-fn grown_before<'a>(alloc: Global, reader: &mut Reader<'a>) -> Result<Before, FormEnd>
-    ensures { Gives (λ x. x) result reader.new
-        (grow_at (goes_to (codes "by")) before_with none_before reader.old) }
-{
-    grow_fields::<BeforeGrowth>(alloc, &Until::Word(b"by"), no_atoms(alloc), reader)
-}
-
-/// Takes the atoms before a command: the fields up to `by`.
+/// Takes the atoms before a command: the fields up to `by`. Counts them first, so that their list takes memory once, and
+/// no more than it needs.
 pub(crate) fn take_before<'a>(alloc: Global, reader: &mut Reader<'a>) -> Result<Before, FormEnd>
     ensures { Gives (λ x. x) result reader.new
         (grow_at (goes_to (codes "by")) before_with none_before reader.old) }
 {
-    match grown_before(alloc, reader) {
-        Ok(before) => Ok(fitted(before)),
-        Err(end) => Err(end),
-    }
+    let until = Until::Word(b"by");
+    let none = no_atoms(alloc, reader.members_ahead(&until, MOST_BEFORE))?;
+    grow_fields::<BeforeGrowth>(alloc, &until, none, reader)
 }

@@ -59,7 +59,7 @@ fn whole(alloc: Global, bytes: &[u8], first: u32) -> Result<Proof, FormEnd>
 }
 
 /// The proof that the bytes spell, all of the bytes, or the first fault. Lines count from `first`.
-/// Looks at each byte some twenty times; takes memory for the result alone.
+/// Looks at each byte some ten times; takes memory for the result alone.
 pub fn read_proof(alloc: Global, bytes: &[u8], first: u32) -> Result<Proof, FormEnd>
     requires from_one { 1 ≤ first }
     requires room { first + length bytes.now < 2 ^ 32 }

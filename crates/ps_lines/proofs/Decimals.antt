@@ -12,6 +12,7 @@ use Rattle.ps_lines.specs.declared.form_name.FormName.{FormName}
 use Rattle.ps_lines.specs.declared.form_name.FormName.TheVariants as name
 use Rattle.ps_lines.specs.Decimal.{IsDecimal, IsSignedDecimal, counts_as_decimal, is_run, u32_of, u128_of, i128_of}
 use Rattle.ps_lines.specs.Reading.{natural32, natural, integer, within_limit, count, decimal_leaf}
+use Rattle.ps_lines.specs.inner.Digits.{decimal_fault}
 use Rattle.ps_lines.proofs.Digits.{digit_is, digits_value_after_ge, are_digits-from, run_from, u32_is, u32_from, u128_is, u128_from, i128_is, i128_from, first_is_digit}
 use Rattle.ps_lines.proofs.Bytes.{IsPlain}
 use Rattle.ps_lines.proofs.Exact.{IsLeaf}
@@ -126,6 +127,26 @@ decimal_counts f n d =
 pub signed_counts : (f : List ℕ) (z : ℤ) → IsSignedDecimal f z → counts_as_decimal f ≡ true
 signed_counts f (pos n) d = decimal_counts f n d
 signed_counts f (negsuc n) d = ap is_run (cond-true _ _ _ (eq-eqb _ _ d.0)) ∙ run_of (drop 1 f) (n + 1) d.1
+
+-- a number that a field is stands for the field
+leaf_is : {A : Type 0} (of : List ℕ → Option A) (f : List ℕ) (x : A) → counts_as_decimal f ≡ true → of f ≡ Some x → decimal_leaf of f ≡ Ok x
+leaf_is of f x counts e = cond-true _ _ _ counts ∙ ap (λ o. ok_or o name.Number) e
+
+pub leaf_lacks : {A : Type 0} (of : List ℕ → Option A) (f : List ℕ) → of f ≡ None → decimal_leaf of f ≡ Err (decimal_fault f)
+leaf_lacks {A = A} of f e = by_test (counts_as_decimal f) (of f) e
+  where
+    by_test : (t : Bool) (o : Option A) → o ≡ None → (if t then ok_or o name.Number else Err name.Field) ≡ Err (if t then name.Number else name.Field)
+    by_test true o e = ap (λ p. ok_or p name.Number) e
+    by_test false o e = refl
+
+pub natural32_is : (f : List ℕ) (n : ℕ) → u32_of f ≡ Some n → natural32 f ≡ Ok n
+natural32_is f n e = leaf_is u32_of f n (decimal_counts f n (u32_is f n e).1) e
+
+pub natural_is : (f : List ℕ) (n : ℕ) → u128_of f ≡ Some n → natural f ≡ Ok n
+natural_is f n e = leaf_is u128_of f n (decimal_counts f n (u128_is f n e).1) e
+
+pub integer_is : (f : List ℕ) (z : ℤ) → i128_of f ≡ Some z → integer f ≡ Ok z
+integer_is f z e = leaf_is i128_of f z (signed_counts f z (i128_is f z e).1) e
 
 decimal_leaf_is : {A : Type 0} (of : List ℕ → Option A) (text : A → List ℕ) (fits : A → Type 0)
     → ((f : List ℕ) (x : A) → of f ≡ Some x → (f ≡ text x) × fits x)

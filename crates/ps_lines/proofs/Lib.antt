@@ -7,3 +7,5 @@ pub mod Exact
 pub mod Decimals
 pub mod Forms
 pub mod LineList
+mod Members
+mod Shorter

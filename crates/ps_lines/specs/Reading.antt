@@ -1,5 +1,5 @@
 -- Reading a text from left to right, with the first fault that is met.
-use Rattle.std.specs.Prelude.{◌≡◌, ℕ, zero, suc, ◌+◌, Bool, false, ◌&&◌, List, [], ◌∷◌, Option, ok_or, Result, Ok, Err, nat_le, if◌then◌else◌, ℤ}
+use Rattle.std.specs.Prelude.{◌≡◌, ℕ, zero, suc, ◌+◌, Bool, false, ◌&&◌, List, [], ◌∷◌, Option, Some, None, ok_or, Result, Ok, Err, nat_le, if◌then◌else◌, ℤ}
 use Rattle.std.specs.Str.{bytes_eq}
 use Rattle.ps_lines.specs.declared.form_name.FormName.{FormName}
 use Rattle.ps_lines.specs.declared.form_name.FormName.TheVariants as name
@@ -148,6 +148,21 @@ list_from goes leaf step state line field (Field f ∷ ts) =
 abbrev pub list_at : {A S : Type 0} → (List ℕ → Bool) → (S → List ℕ → Result A FormName) → (S → A → S) → S → Read (List A)
 list_at goes leaf step state at = list_from goes leaf step state at.line at.field at.tokens
 
+-- The next field and the place after it, where the line has one and a list goes on with it.
+abbrev pub member_from : (List ℕ → Bool) → ℕ → ℕ → List LinePart → Option (List ℕ × Position)
+member_from goes line field (Field f ∷ ts) = if goes f then Some (f, record { line = line; field = field + 1; tokens = ts }) else None
+member_from goes line field ts = None
+
+-- The same, from a place.
+abbrev pub member_field : (List ℕ → Bool) → Position → Option (List ℕ × Position)
+member_field goes at = member_from goes at.line at.field at.tokens
+
+-- With how many fields a list goes on, of the next ones, at most this many.
+abbrev pub members_up_to : (List ℕ → Bool) → ℕ → List LinePart → ℕ
+members_up_to goes zero ts = 0
+members_up_to goes (suc n) (Field f ∷ ts) = if goes f then members_up_to goes n ts + 1 else 0
+members_up_to goes (suc n) ts = 0
+
 -- Whether the tokens begin with this word, in a line that is ended.
 abbrev pub begins_from : List ℕ → List LinePart → Bool
 begins_from word (Field f ∷ ts) = bytes_eq f word && has_newline ts
@@ -169,6 +184,11 @@ while_at word read (suc n) at =
 abbrev pub Reads : {X A : Type 0} → (X → A) → Result X FormFault → Position → Result (A × Position) FormFault → Type 0
 Reads view (Ok x) now read = read ≡ Ok (view x, now)
 Reads view (Err fault) now read = read ≡ Err fault
+
+-- A call takes what is there and goes to the place after it, or leaves the place as it is.
+abbrev pub Takes : {A : Type 0} → Option A → Position → Position → Option (A × Position) → Type 0
+Takes (Some x) old now there = there ≡ Some (x, now)
+Takes None old now there = (there ≡ None) × (now ≡ old)
 
 -- The same of a call that takes memory: where memory runs out nothing is said.
 abbrev pub Gives : {X A : Type 0} → (X → A) → Result X FormEnd → Position → Result (A × Position) FormFault → Type 0

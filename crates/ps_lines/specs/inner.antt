@@ -1,2 +1,3 @@
 -- What only clauses within the crate speak of.
 pub mod Ahead
+pub mod Digits

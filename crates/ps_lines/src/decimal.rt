@@ -5,10 +5,14 @@ ghost use Rattle.std.specs.Prelude.{FitsSigned, length, ◌+◌, ◌*◌, Bool, 
 ghost use Rattle.std.specs.Option.{SomeIff};
 ghost use Rattle.std.specs.Str.Parse.{digits_value};
 ghost use Rattle.std.specs.Int.{w128};
-ghost use Rattle.ps_lines.specs.Decimal.{IsDecimal, IsSignedDecimal, are_digits, is_run, is_canonical, counts_as_decimal, u128_of, u32_of, i128_of, narrow, positive_of, negative_of};
+ghost use Rattle.ps_lines.specs.Decimal.{IsDecimal, IsSignedDecimal, are_digits, is_run, counts_as_decimal, u128_of, u32_of, i128_of, narrow, positive_of, negative_of};
+ghost use Rattle.ps_lines.specs.inner.Digits.{begins_canonical, decimal_fault, value_below, value_from, value_with};
 ghost use Rattle.ps_lines.specs.Reading.{natural32, natural, integer, count};
 
 use crate::form_name::FormName;
+
+// The most digits of which every number is below 2 ^ 64.
+const MOST_SHORT: usize = 19;
 
 fn are_digits(bytes: &[u8]) -> bool
     ensures { result ≡ are_digits bytes.now }
@@ -27,10 +31,11 @@ fn is_run(bytes: &[u8]) -> bool
     !bytes.is_empty() && are_digits(bytes)
 }
 
-fn is_canonical(bytes: &[u8]) -> bool
-    ensures { result ≡ is_canonical bytes.now }
+// Whether a decimal that begins so is canonical, if it is one.
+fn begins_canonical(field: &[u8]) -> bool
+    ensures { result ≡ begins_canonical field.now }
 {
-    is_run(bytes) && (bytes[0] != b'0' || bytes.len() == 1)
+    !field.is_empty() && (field[0] != b'0' || field.len() == 1)
 }
 
 /// Whether the field is a run of digits, with or without `-` before it.
@@ -43,22 +48,32 @@ pub fn counts_as_decimal(field: &[u8]) -> bool
     }
 }
 
-// The number with one digit more at its end.
-fn push_digit(value: u128, digit: u8) -> Option<u128>
-    ensures { SomeIff result (value * 10 + digit < 2 ^ 128) (value * 10 + digit) }
+// The value with one digit more at its end, below 2 ^ 64.
+fn push_digit64(value: u64, byte: u8) -> Option<u64>
+    ensures { result ≡ value_with (2 ^ 64) value byte }
 {
-    value.checked_mul(10)?.checked_add(u128::from(digit))
+    if byte < b'0' || byte > b'9' {
+        return None;
+    }
+    value.checked_mul(10)?.checked_add(u64::from(byte - b'0'))
 }
 
-/// The value of a run of digits, which may have leading zeros, or none past 128 bits. Looks at each byte once.
-pub fn read_digits(digits: &[u8]) -> Option<u128>
-    requires { are_digits digits.now ≡ true }
-    ensures { result ≡ (if nat_lt (digits_value 10 digits.now) (2 ^ 128) then Some
-        (digits_value 10 digits.now) else None) }
+// The value with one digit more at its end, below 2 ^ 128.
+fn push_digit128(value: u128, byte: u8) -> Option<u128>
+    ensures { result ≡ value_with (2 ^ 128) value byte }
 {
-    let mut value: u128 = 0;
-    for byte in digits {
-        match push_digit(value, *byte - b'0') {
+    if byte < b'0' || byte > b'9' {
+        return None;
+    }
+    value.checked_mul(10)?.checked_add(u128::from(byte - b'0'))
+}
+
+fn value64(bytes: &[u8]) -> Option<u64>
+    ensures { result ≡ value_from (2 ^ 64) 0 bytes.now }
+{
+    let mut value: u64 = 0;
+    for byte in bytes {
+        match push_digit64(value, *byte) {
             Some(next) => value = next,
             None => return None,
         }
@@ -66,17 +81,52 @@ pub fn read_digits(digits: &[u8]) -> Option<u128>
     Some(value)
 }
 
+fn value128(bytes: &[u8]) -> Option<u128>
+    ensures { result ≡ value_from (2 ^ 128) 0 bytes.now }
+{
+    let mut value: u128 = 0;
+    for byte in bytes {
+        match push_digit128(value, *byte) {
+            Some(next) => value = next,
+            None => return None,
+        }
+    }
+    Some(value)
+}
+
+// The value of digits, in the arithmetic of 64 bits where it has so few of them.
+fn value_of(bytes: &[u8]) -> Option<u128>
+    ensures { result ≡ value_below (2 ^ 128) bytes.now }
+{
+    if bytes.len() > MOST_SHORT {
+        return value128(bytes);
+    }
+    match value64(bytes) {
+        Some(n) => Some(u128::from(n)),
+        None => value128(bytes),
+    }
+}
+
+/// The value of a run of digits, which may have leading zeros, or none past 128 bits. Looks at each byte once or twice.
+pub fn read_digits(digits: &[u8]) -> Option<u128>
+    requires { are_digits digits.now ≡ true }
+    ensures { result ≡ (if nat_lt (digits_value 10 digits.now) (2 ^ 128) then Some
+        (digits_value 10 digits.now) else None) }
+{
+    value_of(digits)
+}
+
 fn number_of(field: &[u8]) -> Option<u128>
     ensures { result ≡ u128_of field.now }
 {
-    if is_canonical(field) {
-        read_digits(field)
+    if begins_canonical(field) {
+        value_of(field)
     } else {
         None
     }
 }
 
-/// The number of which the field is the canonical decimal. Looks at each byte at most three times.
+/// The number of which the field is the canonical decimal. Looks at each byte at most twice.
 pub fn read_u128(field: &[u8]) -> Option<u128>
     ensures canonical { MatchOption result ((n : ℕ) → n < 2 ^ 128 → IsDecimal field.now n → ⊥)
         (λ n. (n < 2 ^ 128) × IsDecimal field.now n) }
@@ -85,7 +135,7 @@ pub fn read_u128(field: &[u8]) -> Option<u128>
     number_of(field)
 }
 
-fn narrow(n: u128) -> Option<u32>
+fn narrow(n: u64) -> Option<u32>
     ensures { result ≡ narrow n }
 {
     if n < 1 << 32 { Some(n as u32) } else { None }
@@ -94,13 +144,16 @@ fn narrow(n: u128) -> Option<u32>
 fn short_number_of(field: &[u8]) -> Option<u32>
     ensures { result ≡ u32_of field.now }
 {
-    match number_of(field) {
+    if !begins_canonical(field) {
+        return None;
+    }
+    match value64(field) {
         Some(n) => narrow(n),
         None => None,
     }
 }
 
-/// The number below 2 ^ 32 of which the field is the canonical decimal. Looks at each byte at most three times.
+/// The number below 2 ^ 32 of which the field is the canonical decimal. Looks at each byte at most twice.
 pub fn read_u32(field: &[u8]) -> Option<u32>
     ensures canonical { MatchOption result ((n : ℕ) → n < 2 ^ 32 → IsDecimal field.now n → ⊥)
         (λ n. (n < 2 ^ 32) × IsDecimal field.now n) }
@@ -144,7 +197,7 @@ fn signed_number_of(field: &[u8]) -> Option<i128>
     }
 }
 
-/// The signed number of which the field is the canonical decimal. Looks at each byte at most three times.
+/// The signed number of which the field is the canonical decimal. Looks at each byte at most twice.
 pub fn read_i128(field: &[u8]) -> Option<i128>
     ensures canonical { MatchOption result ((z : ℤ) → FitsSigned w128 z
         → IsSignedDecimal field.now z → ⊥) (λ z. FitsSigned w128 z × IsSignedDecimal field.now z) }
@@ -153,14 +206,24 @@ pub fn read_i128(field: &[u8]) -> Option<i128>
     signed_number_of(field)
 }
 
+// What is wrong with a field that isn't a decimal of its type.
+fn decimal_fault(field: &[u8]) -> FormName
+    ensures { result ≡ decimal_fault field.now }
+{
+    if counts_as_decimal(field) {
+        FormName::Number
+    } else {
+        FormName::Field
+    }
+}
+
 /// A field of a form that is a decimal of 32 bits.
 pub fn natural32(field: &[u8]) -> Result<u32, FormName>
     ensures { result ≡ natural32 field.now }
 {
-    if counts_as_decimal(field) {
-        read_u32(field).ok_or(FormName::Number)
-    } else {
-        Err(FormName::Field)
+    match read_u32(field) {
+        Some(n) => Ok(n),
+        None => Err(decimal_fault(field)),
     }
 }
 
@@ -168,10 +231,9 @@ pub fn natural32(field: &[u8]) -> Result<u32, FormName>
 pub fn natural(field: &[u8]) -> Result<u128, FormName>
     ensures { result ≡ natural field.now }
 {
-    if counts_as_decimal(field) {
-        read_u128(field).ok_or(FormName::Number)
-    } else {
-        Err(FormName::Field)
+    match read_u128(field) {
+        Some(n) => Ok(n),
+        None => Err(decimal_fault(field)),
     }
 }
 
@@ -179,10 +241,9 @@ pub fn natural(field: &[u8]) -> Result<u128, FormName>
 pub fn integer(field: &[u8]) -> Result<i128, FormName>
     ensures { result ≡ integer field.now }
 {
-    if counts_as_decimal(field) {
-        read_i128(field).ok_or(FormName::Number)
-    } else {
-        Err(FormName::Field)
+    match read_i128(field) {
+        Some(n) => Ok(n),
+        None => Err(decimal_fault(field)),
     }
 }
 

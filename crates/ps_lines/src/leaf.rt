@@ -2,9 +2,8 @@
 
 ghost use Rattle.std.specs.Prelude.{◌≡◌, List, Option, Result, Some, None, ℕ};
 ghost use Rattle.ps_lines.specs.Until.{goes};
-ghost use Rattle.ps_lines.specs.Tokens.{next_field};
 ghost use Rattle.ps_lines.specs.Reading.{Reads, Gives, leaf_at, list_at};
-ghost use Rattle.ps_lines.specs.inner.Ahead.{list_goes_on, member_at};
+ghost use Rattle.ps_lines.specs.inner.Ahead.{member_at};
 ghost use Rattle.ps_lines.specs.declared.form_name.FormName.{FormName};
 
 use crate::form_end::FormEnd;
@@ -42,17 +41,8 @@ pub fn take_leaf<'a, L: Leaf>(
     }
 }
 
-fn goes_on<'a>(until: &Until<'_>, reader: &Reader<'a>) -> bool
-    ensures { result ≡ list_goes_on (goes until.now) (next_field reader.now.tokens) }
-{
-    match reader.peek() {
-        Some(field) => until.passes(field),
-        None => false,
-    }
-}
-
 // The next member of a list, or none where the list ends.
-#[tactic(auto, unfolding(crate::specs::Steps::and_then))]
+#[tactic(auto, using(crate::proofs::Members::member_none, crate::proofs::Members::member_some, crate::proofs::Members::member_fault))]
 fn member<'a, L: Leaf>(
     until: &Until<'_>,
     before: Option<L::Value>,
@@ -61,15 +51,19 @@ fn member<'a, L: Leaf>(
     ensures { Reads (λ x. x) result reader.new
         (member_at (goes until.now) (L.reading before) reader.old) }
 {
-    if !goes_on(until, reader) {
+    let fault = reader.fault(FormName::Field);
+    let Some(field) = reader.member(until) else {
         return Ok(None);
+    };
+    match L::read(before, field) {
+        Ok(x) => Ok(Some(x)),
+        Err(what) => Err(fault.named(what)),
     }
-    let x = take_leaf::<L>(before, reader)?;
-    Ok(Some(x))
 }
 
-/// The members of a list in a line, each read with the one before it.
-#[tactic(auto, using(crate::proofs::Loop::many_none, crate::proofs::Loop::many_more, crate::proofs::Loop::many_all, crate::proofs::Loop::many_fails))]
+/// The members of a list in a line, each read with the one before it. Counts them first, so that the list takes memory
+/// once, and no more than it needs.
+#[tactic(auto, using(crate::proofs::Loop::many_none, crate::proofs::Loop::many_more, crate::proofs::Loop::many_all))]
 pub fn list<'a, L: Leaf>(
     alloc: Global,
     until: &Until<'_>,
@@ -78,7 +72,7 @@ pub fn list<'a, L: Leaf>(
     ensures { Gives (λ v. v.items) result reader.new
         (list_at (goes until.now) L.reading (λ _ x. Some x) None reader.old) }
 {
-    let mut list = Vec::new(alloc);
+    let mut list = Vec::with_capacity(alloc, reader.members_ahead(until, usize::MAX))?;
     let mut before = None;
     'reading: loop {
         match member::<L>(until, before, reader)? {

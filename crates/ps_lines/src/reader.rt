@@ -2,12 +2,14 @@
 
 ghost use Rattle.std.specs.Prelude.{◌≡◌, ℕ, ◌+◌, ◌<◌, ◌≤◌, ◌^◌, List, length, drop, option_map, if◌then◌else◌};
 ghost use Rattle.ps_lines.specs.Tokens.{has_newline, next_field, line_parts, ahead};
-ghost use Rattle.ps_lines.specs.inner.Ahead.{field_len};
-ghost use Rattle.ps_lines.specs.Reading.{text_start, Reads, fault_at, line_fault, field_at, leaf_at, word_at, line_at, end_at, only_at, done_at, natural32, natural, integer, count, header_at, begins_at};
+ghost use Rattle.ps_lines.specs.Until.{goes};
+ghost use Rattle.ps_lines.specs.inner.Ahead.{field_ahead, field_len};
+ghost use Rattle.ps_lines.specs.Reading.{text_start, Reads, fault_at, line_fault, field_at, leaf_at, word_at, line_at, end_at, only_at, done_at, natural32, natural, integer, count, header_at, begins_at, Takes, member_field, members_up_to};
 
 use crate::decimal::{count, integer, natural, natural32};
 use crate::form_fault::FormFault;
 use crate::form_name::FormName;
+use crate::until::Until;
 use std::marker::Model;
 
 /// A place in a text. A call takes no memory, and looks at each byte that it passes a few times.
@@ -101,35 +103,98 @@ impl<'a> Reader<'a> {
         self.ended || has_line_feed(self.rest)
     }
 
-    /// The next field of the line, which stays where it is.
-    pub fn peek(&self) -> Option<&'a [u8]>
-        ensures { option_map (λ f. f.now) result ≡ next_field self.now.tokens }
+    // The next field of the line, where it has one, and the place after it.
+    fn split(&self) -> Option<(&'a [u8], Reader<'a>)>
+        ensures { option_map (λ p. (p.0.now, p.1)) result ≡ field_ahead self.now }
     {
         if self.ended || self.rest.is_empty() {
             return None;
         }
-        let (field, _) = self.rest.split_at(field_len(self.rest));
-        Some(field)
+        let len = field_len(self.rest);
+        let (field, tail) = self.rest.split_at(len);
+        if tail.is_empty() {
+            return Some((
+                field,
+                Reader {
+                    rest: tail,
+                    ended: false,
+                    line: self.line,
+                    field: self.field + 1,
+                },
+            ));
+        }
+        let (_, rest) = tail.split_at(1);
+        Some((
+            field,
+            Reader {
+                rest,
+                ended: tail[0] == b'\n',
+                line: self.line,
+                field: self.field + 1,
+            },
+        ))
+    }
+
+    /// The next field of the line, which stays where it is.
+    #[tactic(auto, using(crate::proofs::Ahead::next_found, crate::proofs::Ahead::next_lacks))]
+    pub fn peek(&self) -> Option<&'a [u8]>
+        ensures { option_map (λ f. f.now) result ≡ next_field self.now.tokens }
+    {
+        match self.split() {
+            Some((field, _)) => Some(field),
+            None => None,
+        }
     }
 
     /// Takes the next field of the line.
+    #[tactic(auto, using(crate::proofs::Ahead::field_found, crate::proofs::Ahead::field_lacks))]
     pub fn field(&mut self) -> Result<&'a [u8], FormFault>
         ensures { Reads (λ f. f.now) result self.new (field_at self.old) }
     {
-        if self.ended || self.rest.is_empty() {
-            return Err(self.fault(FormName::Count));
+        match self.split() {
+            Some((field, after)) => {
+                *self = after;
+                Ok(field)
+            }
+            None => Err(self.fault(FormName::Count)),
         }
-        let len = field_len(self.rest);
-        let (field, tail) = self.rest.split_at(len);
-        self.field += 1;
-        if tail.is_empty() {
-            self.rest = tail;
-            return Ok(field);
+    }
+
+    /// Takes the next field of the line, where it has one and a list goes on with it.
+    #[tactic(auto, using(crate::proofs::Ahead::member_found, crate::proofs::Ahead::member_lacks, crate::proofs::Ahead::member_stops))]
+    pub fn member(&mut self, until: &Until<'_>) -> Option<&'a [u8]>
+        ensures { Takes (option_map (λ f. f.now) result) self.old self.new
+            (member_field (goes until.now) self.old) }
+    {
+        match self.split() {
+            Some((field, after)) => {
+                if !until.passes(field) {
+                    return None;
+                }
+                *self = after;
+                Some(field)
+            }
+            None => None,
         }
-        self.ended = tail[0] == b'\n';
-        let (_, rest) = tail.split_at(1);
-        self.rest = rest;
-        Ok(field)
+    }
+
+    /// With how many of the next fields a list goes on, which stay where they are. Looks at no more than `most` fields.
+    #[tactic(auto, using(crate::proofs::Ahead::counted_none, crate::proofs::Ahead::counted_more, crate::proofs::Ahead::counted_stops, crate::proofs::Ahead::counted_all))]
+    pub fn members_ahead(&self, until: &Until<'_>, most: usize) -> usize
+        ensures { result ≡ members_up_to (goes until.now) most self.now.tokens }
+    {
+        let mut place = Reader {
+            rest: self.rest,
+            ended: self.ended,
+            line: self.line,
+            field: self.field,
+        };
+        for count in 0..most {
+            if place.member(until).is_none() {
+                return count;
+            }
+        }
+        most
     }
 
     /// Takes the end of the line.

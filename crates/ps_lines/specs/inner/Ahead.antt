@@ -3,9 +3,9 @@ use Rattle.std.specs.Prelude.{◌≡◌, ℕ, ◌+◌, ◌≤◌, ◌<◌, Bool,
 use Rattle.ps_lines.specs.declared.form_name.FormName.{FormName}
 use Rattle.ps_lines.specs.declared.span.Span.{Span}
 use Rattle.ps_lines.specs.Lines.{IsSpanWithin, lines_of, span_text}
-use Rattle.ps_lines.specs.Reading.{Read, leaf_at}
+use Rattle.ps_lines.specs.Reading.{Position, Read, leaf_at}
 use Rattle.ps_lines.specs.Steps.{◌>>=◌}
-use Rattle.ps_lines.specs.Tokens.{next_field, line_parts}
+use Rattle.ps_lines.specs.Tokens.{LinePart, Field, next_field, line_parts}
 
 -- How many bytes stand before the first blank or line feed.
 abbrev pub field_len : List ℕ → ℕ
@@ -17,6 +17,15 @@ abbrev pub IsLineAhead : List ℕ → ℕ → Option (List Span × ℕ) → Type
 IsLineAhead bytes start None = lines_of (line_parts (drop start bytes)) ≡ []
 IsLineAhead bytes start (Some p) =
     (lines_of (line_parts (drop start bytes)) ≡ map (span_text bytes) p.0 ∷ lines_of (line_parts (drop p.1 bytes))) × All (IsSpanWithin (length bytes)) p.0 × (start < p.1) × (p.1 ≤ length bytes)
+
+-- The next field of a line and the place after it, from the line's number, the field's, and the tokens ahead.
+abbrev pub field_ahead_from : ℕ → ℕ → List LinePart → Option (List ℕ × Position)
+field_ahead_from line field (Field f ∷ ts) = Some (f, record { line = line; field = field + 1; tokens = ts })
+field_ahead_from line field ts = None
+
+-- The same, from a place.
+abbrev pub field_ahead : Position → Option (List ℕ × Position)
+field_ahead at = field_ahead_from at.line at.field at.tokens
 
 -- Whether a list goes on with what stands next.
 abbrev pub list_goes_on : (List ℕ → Bool) → Option (List ℕ) → Bool

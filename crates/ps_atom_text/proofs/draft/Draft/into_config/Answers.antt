@@ -5,4 +5,4 @@ use Rattle.ps_config.specs.Configurations.{Configuration}
 pub new-requires : goal.new-requires
 new-requires c =
     let all : Configuration = record { at = c.self.inside.at.items; atoms = c.self.inside.atoms.items } in
-    rw (c.shrink_to_fit.ensures.items, c.shrink_to_fit-2.ensures.items) (config_from all (in_form_is all all c.self.invariant.form).0)
+    config_from all (in_form_is all all c.self.invariant.form).0

@@ -1,0 +1,10 @@
+use Rattle.std.proofs.Common.{sym, ◌∙◌}
+use Rattle.ps_lines.specs.Decimal.{u32_of}
+use Rattle.ps_lines.proofs.Decimals.{natural32_is, leaf_lacks}
+use Rattle.ps_lines.proofs.decimal.natural32.Goals as goal
+
+pub returns-in-Some : goal.returns-in-Some
+returns-in-Some c = sym (natural32_is c.args.field.now c.in-Some.n (sym c.read_u32.ensures.function ∙ c.in-Some.is))
+
+pub returns-in-None : goal.returns-in-None
+returns-in-None c = rw c.decimal_fault.ensures (sym (leaf_lacks u32_of c.args.field.now (sym c.read_u32.ensures.function ∙ c.in-None.is)))

@@ -1,0 +1,6 @@
+use Rattle.std.proofs.Common.{◌≡◌, ◌^◌, drop}
+use Rattle.ps_lines.specs.inner.Digits.{value_from}
+use Rattle.ps_lines.proofs.decimal.value128.Given as goal
+
+abbrev pub invariant-loop-byte : goal.invariant-loop-byte
+invariant-loop-byte l = value_from (2 ^ 128) l.value (drop l.byte-index l.bytes) ≡ value_from (2 ^ 128) 0 l.bytes
