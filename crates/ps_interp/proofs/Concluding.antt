@@ -124,30 +124,30 @@ module _ (graph : Graph) (ls : List Letter) (lambda : List ℕ) (edges : All (λ
           (subst (λ (l : List Weighed). EndsMeetings graph.setting l table cuts.low cuts.high end) letters_same
           (subst (λ (t : Setting). EndsMeetings t (letters_in cuts) table cuts.low cuts.high end) of_setting h)))
 
-      module _ (begun : Found) (table : begun.table ≡ known) (falses : AreFirst [] (falses_in cuts) begun.entries.items) where
-        falses_first : AreFirst [] (false_triples graph.setting (drop cuts.high trace)) begun.entries.items
-        falses_first = subst (λ (es : List Entry). AreFirst [] es begun.entries.items) falses_same falses
+      module _ (begun : Found) (table : begun.table ≡ known) (falses : AreFirst [] (falses_in cuts) begun.entries) where
+        falses_first : AreFirst [] (false_triples graph.setting (drop cuts.high trace)) begun.entries
+        falses_first = subst (λ (es : List Entry). AreFirst [] es begun.entries) falses_same falses
 
-        pub found_without : (found : Found) → AreMet cuts.setting.now (letters_in cuts) begun.table begun.entries.items cuts.high cuts.low found None →
+        pub found_without : (found : Found) → AreMet cuts.setting.now (letters_in cuts) begun.table begun.entries cuts.high cuts.low found None →
             IsFound graph.setting known (trace_of graph.edges (pairs_in ls)) lambda found
         found_without found m =
-            whole_without graph (pairs_in ls) lambda there refutes known first_known all_fit cuts.low cuts.high bounds within begun.entries.items falses_first found
-            (met_of_trace begun.entries.items begun.table found None table m)
+            whole_without graph (pairs_in ls) lambda there refutes known first_known all_fit cuts.low cuts.high bounds within begun.entries falses_first found
+            (met_of_trace begun.entries begun.table found None table m)
 
-        module _ (found : Found) (q : Interpolant) (m : AreMet cuts.setting.now (letters_in cuts) begun.table begun.entries.items cuts.high cuts.low found (Some q)) where
+        module _ (found : Found) (q : Interpolant) (m : AreMet cuts.setting.now (letters_in cuts) begun.table begun.entries cuts.high cuts.low found (Some q)) where
           pub found_with : (more : Found) → IsStarted graph.setting start q found more → IsFound graph.setting known (trace_of graph.edges (pairs_in ls)) lambda more
           found_with more h =
-              whole_with graph (pairs_in ls) lambda there refutes known first_known all_fit cuts.low cuts.high bounds within begun.entries.items falses_first found q
-              (met_of_trace begun.entries.items begun.table found (Some q) table m) more h.table (others_fit q.atom.threads h.small)
+              whole_with graph (pairs_in ls) lambda there refutes known first_known all_fit cuts.low cuts.high bounds within begun.entries falses_first found q
+              (met_of_trace begun.entries begun.table found (Some q) table m) more h.table (others_fit q.atom.threads h.small)
               (subst (λ (e : Entry). EntryHolds graph.setting found.table e) (initial_same q) h.holds)
-              (subst (λ (e : Entry). IsListed found.entries.items e more.entries.items) (initial_same q) h.listed)
+              (subst (λ (e : Entry). IsListed found.entries e more.entries) (initial_same q) h.listed)
 
           pub start_ends : (end : InterpEnd) → EndsStarting graph.setting start q found.table end → EndsInterpolation graph.setting known (trace_of graph.edges (pairs_in ls)) lambda end
           start_ends (Arity at count) h = absurd h
           start_ends (Predicates at) h = absurd h
           start_ends Past128 h =
-              ended_at_start graph (pairs_in ls) lambda there refutes known first_known all_fit cuts.low cuts.high bounds within begun.entries.items falses_first found q
-              (met_of_trace begun.entries.items begun.table found (Some q) table m)
+              ended_at_start graph (pairs_in ls) lambda there refutes known first_known all_fit cuts.low cuts.high bounds within begun.entries falses_first found q
+              (met_of_trace begun.entries begun.table found (Some q) table m)
               (λ fit. h (others_back q.atom.threads fit.0, subst (λ (e : Entry). EntryHolds graph.setting found.table e) (sym (initial_same q)) fit.1))
           start_ends (Memory end) h = tt
 
@@ -157,10 +157,10 @@ module _ (graph : Graph) (ls : List Letter) (lambda : List ℕ) (edges : All (λ
   same_rest (p ∷ ps) qs rs e = same_rest ps qs rs (ap (drop 1) e)
 
   pub made_of : (found : Found) (predicates : List Predicate) (entries : List Entry) → IsFound graph.setting known (trace_of graph.edges (pairs_in ls)) lambda found →
-      found.table ≡ known ++ predicates → entries ≡ found.entries.items → IsInterpolation graph.setting known (trace_of graph.edges (pairs_in ls)) lambda predicates entries
+      found.table ≡ known ++ predicates → entries ≡ found.entries → IsInterpolation graph.setting known (trace_of graph.edges (pairs_in ls)) lambda predicates entries
   made_of found predicates entries f table are =
       subst (λ (es : List Entry). IsInterpolation graph.setting known trace lambda predicates es) (sym are)
-      (subst (λ (ps : List Predicate). IsInterpolation graph.setting known trace lambda ps found.entries.items) (same_rest known f.new predicates (sym f.table ∙ table)) f.made)
+      (subst (λ (ps : List Predicate). IsInterpolation graph.setting known trace lambda ps found.entries) (same_rest known f.new predicates (sym f.table ∙ table)) f.made)
 
   pub held_of : (predicates : List Predicate) (entries : List Entry) → IsInterpolation graph.setting known (trace_of graph.edges (pairs_in ls)) lambda predicates entries →
       All (EntryHolds graph.setting (known ++ predicates)) entries

@@ -87,7 +87,7 @@ triple_at letters joined list cut q after entry within stands next is = at (ther
 -- ---- one cut after another
 module _ (setting : Setting) (letters : List Weighed) (joined : (i : ℕ) (w : Weighed) → slice_get letters i ≡ Some w → Joins letters i w)
     (known : List Predicate) (before : List Entry) (high : ℕ) where
-  pub met_none : (found : Found) → found.table ≡ known → found.entries.items ≡ before → length known ≤ MOST → IsFalseSum (sum_at letters high) →
+  pub met_none : (found : Found) → found.table ≡ known → found.entries ≡ before → length known ≤ MOST → IsFalseSum (sum_at letters high) →
       AreMet setting letters known before high high found (Some false_interpolant)
   met_none found e f room h = record {
     new = [];
@@ -213,7 +213,7 @@ module _ (cuts : Cuts) (a : AreCuts cuts) where
   pub meet_from : (cut : ℕ) (sum : Term) (d : WeighedLetter) (after : Interpolant) (old mid new : Found) (q : Option Interpolant) (entry : Entry) → cut < length cuts.letters.items →
       sum ≡ sum_at (letters_in cuts) cut → InterpolantFits sum → IsTaken old.table sum mid.table → length mid.table ≤ MOST → StandsAt mid.table sum q →
       ((w : Weighed) → part_in w ≡ part_of (get_or cuts.letters.items cut d) → entry ≡ triple_of w q after) →
-      EntryHolds cuts.setting.now mid.table entry → mid.entries.items ≡ old.entries.items → new.table ≡ mid.table → IsListed mid.entries.items entry new.entries.items →
+      EntryHolds cuts.setting.now mid.table entry → mid.entries ≡ old.entries → new.table ≡ mid.table → IsListed mid.entries entry new.entries →
       IsMet cuts.setting.now (letters_in cuts) cut after old new q
   meet_from cut sum d after old mid new q entry below is fits taken room stands triple holds kept same listed = record {
     fits = subst InterpolantFits is fits;
@@ -223,7 +223,7 @@ module _ (cuts : Cuts) (a : AreCuts cuts) where
     entry = entry;
     triple = λ w got. triple w (part_at cuts.setting.now cuts.letters.items cut w d got);
     holds = subst (λ (ps : List Predicate). EntryHolds cuts.setting.now ps entry) (sym same) holds;
-    listed = subst (λ (es : List Entry). IsListed es entry new.entries.items) kept listed;
+    listed = subst (λ (es : List Entry). IsListed es entry new.entries) kept listed;
   }
 
   -- its triple doesn't hold
@@ -255,7 +255,7 @@ module _ (cuts : Cuts) (a : AreCuts cuts) where
     abbrev Reached : ℕ → Found → Option Interpolant → Type 0
     Reached cut found q = AreMet cuts.setting.now (letters_in cuts) known before cuts.high cut found q
 
-    pub first_met : (found : Found) (after : Interpolant) → found.table ≡ known → found.entries.items ≡ before → length known ≤ MOST → after ≡ false_interpolant →
+    pub first_met : (found : Found) (after : Interpolant) → found.table ≡ known → found.entries ≡ before → length known ≤ MOST → after ≡ false_interpolant →
         AreMet cuts.setting.now (letters_in cuts) known before cuts.high cuts.high found (Some after)
     first_met found after e f room g = subst (λ (q : Interpolant). Reached cuts.high found (Some q)) (sym g)
         (met_none cuts.setting.now (letters_in cuts) joined_in known before cuts.high found e f room a.bounds.ends)

@@ -135,7 +135,7 @@ module _ (graph : Graph) (letters : List (ℕ × ℕ)) (lambda : List ℕ)
           made = m.made;
           initial = [];
           initial_is = inl (m.stands, refl);
-          first = subst (λ (es : List Entry). AreFirst [] (false_triples graph.setting (drop high trace) ++ es) found.entries.items) (sym (append-nil m.triples))
+          first = subst (λ (es : List Entry). AreFirst [] (false_triples graph.setting (drop high trace) ++ es) found.entries) (sym (append-nil m.triples))
               (subst (λ (es : List Entry). AreFirst [] (false_triples graph.setting (drop high trace) ++ m.triples) es) (sym m.entries)
               (first_append [] (false_triples graph.setting (drop high trace)) entries m.triples m.more falses m.first));
         };
@@ -150,7 +150,7 @@ module _ (graph : Graph) (letters : List (ℕ × ℕ)) (lambda : List ℕ)
 
         pub whole_with : (more : Found) → more.table ≡ found.table → OthersFit graph.setting (trace_of graph.edges letters) lambda q.atom.threads →
             EntryHolds graph.setting found.table (initial_of graph.setting (trace_of graph.edges letters) lambda q) →
-            IsListed found.entries.items (initial_of graph.setting (trace_of graph.edges letters) lambda q) more.entries.items →
+            IsListed found.entries (initial_of graph.setting (trace_of graph.edges letters) lambda q) more.entries →
             IsFound graph.setting known (trace_of graph.edges letters) lambda more
         whole_with more same others holds listed = record {
           new = m.new;

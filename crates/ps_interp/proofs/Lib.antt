@@ -13,6 +13,7 @@ pub mod Firsts
 pub mod Growing
 pub mod Holding
 pub mod Letters
+pub mod Looking
 pub mod Numbered
 pub mod Opening
 pub mod Parting

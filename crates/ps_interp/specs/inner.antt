@@ -1,3 +1,5 @@
+pub mod KeyLaws
+pub mod Keys
 pub mod Meetings
 pub mod Parts
 pub mod Places

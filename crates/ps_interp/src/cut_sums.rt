@@ -23,7 +23,7 @@ pub(crate) fn sums_at_cuts(
     ensures past { IsErrOf result TermEnd.Past128
         → ¬ All (SumFits setting.now) (letters_by setting.now letters.now) }
 {
-    let mut sums = Vec::new(alloc);
+    let mut sums = Vec::with_capacity(alloc, letters.len() + 1).map_err(TermEnd::Memory)?;
     push(&mut sums, Term::from_constant(alloc, 0))?;
     let mut left = letters.len();
     while left > 0 {

@@ -33,7 +33,9 @@ pub(crate) fn initial_entry(
     let Some(others) = weights_of_others(alloc, setting, threads, slots)? else {
         return Ok(None);
     };
-    let mut lambda = Vec::new(alloc);
+    let of_slots = others.len().saturating_mul(slots.len());
+    let rows = start.once.len() + others.len() + 1;
+    let mut lambda = Vec::with_capacity(alloc, rows.saturating_add(of_slots))?;
     lambda.extend_from_slice(start.once)?;
     push_of_slots(&mut lambda, setting, threads, slots)?;
     lambda.extend_from_slice(others.as_slice())?;
@@ -88,6 +90,15 @@ fn push_zeros(lambda: &mut Vec<u128>, setting: &Setting) -> Result<(), AllocErro
     Ok(())
 }
 
+// 0 for each row that holds for every thread.
+fn zeros(alloc: Global, setting: &Setting) -> Result<Vec<u128>, AllocError>
+    ensures { IfOk result (λ list. list.items ≡ zeros setting.now.init_each) }
+{
+    let mut list = Vec::with_capacity(alloc, setting.init_each.as_slice().len())?;
+    push_zeros(&mut list, setting)?;
+    Ok(list)
+}
+
 // For each row the sum of its multipliers for all threads in no slot, or `None` where one is past the greatest `i128`.
 fn weights_of_others(
     alloc: Global,
@@ -103,8 +114,7 @@ fn weights_of_others(
     ensures past { IfOk result (λ made. IfNone made
         (¬ AreOthersSmall setting.now threads.now slots.now)) }
 {
-    let mut sums = Vec::new(alloc);
-    push_zeros(&mut sums, setting)?;
+    let mut sums = zeros(alloc, setting)?;
     let mut left = threads.len();
     while left > 0 {
         left -= 1;

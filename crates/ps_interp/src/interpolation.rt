@@ -34,8 +34,8 @@ const TOO_MANY_LETTERS: usize = 1 << 32;
 /// at each cut gives a predicate, and two interpolants a triple. A value past 128 bits, a fifth thread and a 129th predicate
 /// end the call, the first that comes.
 ///
-/// In time of the sums at the cuts and of one check for each entry. Each entry is compared with those before it, by its
-/// command first. Lists of more members than 32 bits can count are answered as want of memory, which so many are.
+/// In time of the sums at the cuts, and of one check and one look-up for each entry. Lists of more members than 32 bits can count
+/// are answered as want of memory, which so many are.
 pub fn interpolate(
     alloc: Global,
     graph: &Graph,
@@ -58,6 +58,7 @@ pub fn interpolate(
     ensures ends { IfErr result (EndsInterpolation graph.now.setting predicates.now
         (trace_of graph.now.edges (pairs_of trace.now)) lambda.now) }
 {
+    // The clause of `list` says that the first predicate is `1 <= 0`; the call does nothing else here.
     let _known = predicates.list();
     let letters = trace.letters.as_slice();
     let found = match found_for(alloc, graph, predicates, letters, lambda) {
@@ -88,6 +89,7 @@ fn found_for(
     if letters.len() >= TOO_MANY_LETTERS {
         return Err(InterpEnd::Memory(AllocError));
     }
+    // The clause of `list` says that the first predicate is `1 <= 0`; the call does nothing else here.
     let _known = predicates.list();
     let setting = &graph.setting;
     let start = match start_of(alloc, setting, letters, lambda) {
@@ -134,7 +136,7 @@ fn start_of<'a>(
 fn found_first(alloc: Global, predicates: &Predicates, cuts: &Cuts<'_>) -> Result<Found, AllocError>
     requires { AreCuts cuts.now }
     ensures table { IfOk result (λ found. found.table ≡ predicates.now) }
-    ensures entries { IfOk result (λ found. AreFirst [] (falses_in cuts.now) found.entries.items) }
+    ensures entries { IfOk result (λ found. AreFirst [] (falses_in cuts.now) found.entries) }
 {
     let table = predicates.copy(alloc)?;
     let entries = false_triples(alloc, cuts)?;
@@ -153,7 +155,7 @@ fn refutation(
     ensures known { IfOk result (λ refutation. refutation.known ≡ length known.now) }
     ensures predicates { IfOk result
         (λ refutation. found.table ≡ known.now ++ refutation.predicates) }
-    ensures entries { IfOk result (λ refutation. refutation.entries ≡ found.entries.items) }
+    ensures entries { IfOk result (λ refutation. refutation.entries ≡ found.entries) }
 {
     let Found { table, entries } = found;
     let first = known.list().len();
@@ -162,6 +164,6 @@ fn refutation(
         trace: trace.copy(alloc)?,
         known: first as u32,
         predicates: Sequence::from_list(new),
-        entries: Sequence::from_list(entries),
+        entries: Sequence::from_list(entries.into_list(alloc)?),
     })
 }

@@ -2,9 +2,9 @@
 #![tactic(auto)]
 
 mod bounds;
-mod checking;
 mod cut_sums;
 mod cuts;
+mod entry_key;
 mod initial;
 mod interp_end;
 mod interpolation;

@@ -1,75 +1,65 @@
 // Lists in which equal entries stand once.
-ghost use Rattle.std.specs.Prelude.{◌≡◌, ◌↔◌, Contains, IsTrue, OnOk};
+ghost use Rattle.std.specs.Prelude.{◌≡◌, [], IfOk, OnOk, map};
+ghost use Rattle.ps_interp.specs.inner.Keys.{entry_of};
 ghost use Rattle.ps_interp.specs.inner.Meetings.{IsListed};
 
-use ps_atom::Atom;
-use ps_triple::{Entry, Triple};
-use std::alloc::AllocError;
+use crate::entry_key::EntryKey;
+use indexmap::IndexSet;
+use ps_triple::Entry;
+use std::alloc::{AllocError, Global};
+use std::marker::Model;
 
-// Appends the entry, unless it stands there. It is compared with each of them, by its command first.
-pub(crate) fn push_once(entries: &mut Vec<Entry>, entry: Entry) -> Result<(), AllocError>
-    ensures { OnOk result (IsListed entries.old.items entry entries.new.items) }
-{
-    if stands(entries.as_slice(), &entry) {
-        return Ok(());
+// Entries in the order in which they were listed first, which contracts see as their list.
+#[derive(Drop)]
+pub(crate) struct Listing {
+    keys: IndexSet<EntryKey>,
+}
+
+impl Model for Listing {
+    ghost use Rattle.std.specs.Prelude.{List, map};
+    ghost use Rattle.ps_interp.specs.inner.Keys.{entry_of};
+    ghost use Rattle.ps_triple.specs.declared.entry.Entry.{Entry};
+
+    ghost Value = { List Entry };
+
+    ghost view = { λ l. map entry_of l.keys.keys };
+}
+
+impl Listing {
+    // No entries, with room for so many.
+    pub(crate) fn with_capacity(alloc: Global, most: usize) -> Result<Listing, AllocError>
+        ensures { IfOk result (λ listing. listing ≡ []) }
+    {
+        Ok(Listing {
+            keys: IndexSet::with_capacity(alloc, most)?,
+        })
     }
-    match entries.push(entry) {
-        Ok(()) => Ok(()),
-        Err(_) => Err(AllocError),
+
+    // Appends the entry, unless it stands there, with one look-up.
+    pub(crate) fn push_once(&mut self, entry: Entry) -> Result<(), AllocError>
+        ensures { OnOk result (IsListed self.old entry self.new) }
+    {
+        self.keys.insert(EntryKey { entry })?;
+        Ok(())
+    }
+
+    // The entries in their order, which are moved, not copied.
+    pub(crate) fn into_list(self, alloc: Global) -> Result<Vec<Entry>, AllocError>
+        ensures { IfOk result (λ list. list.items ≡ self) }
+    {
+        let Listing { keys } = self;
+        entries_of(alloc, keys)
     }
 }
 
-fn stands(entries: &[Entry], entry: &Entry) -> bool
-    ensures { IsTrue result ↔ Contains entries.now entry.now }
+// The entries of the keys.
+fn entries_of(alloc: Global, keys: IndexSet<EntryKey>) -> Result<Vec<Entry>, AllocError>
+    ensures { IfOk result (λ entries. entries.items ≡ map entry_of keys.keys) }
 {
-    for other in entries {
-        if is_same(other, entry) {
-            return true;
-        }
+    let mut entries = Vec::with_capacity(alloc, keys.len())?;
+    for key in keys {
+        let EntryKey { entry } = key;
+        entries.push(entry)?;
     }
-    false
-}
-
-fn is_same(one: &Entry, other: &Entry) -> bool
-    ensures { IsTrue result ↔ (one.now ≡ other.now) }
-{
-    match (one, other) {
-        (Entry::Triple(one), Entry::Triple(other)) => is_same_triple(one, other),
-        (Entry::Initial(one), Entry::Initial(other)) => {
-            one.predicate == other.predicate && one.lambda.as_slice() == other.lambda.as_slice()
-        }
-        _ => false,
-    }
-}
-
-fn is_same_triple(one: &Triple, other: &Triple) -> bool
-    ensures { IsTrue result ↔ (one.now ≡ other.now) }
-{
-    if one.command != other.command || !is_same_atom(&one.post, &other.post) {
-        return false;
-    }
-    if !are_same_atoms(one.pre.as_slice(), other.pre.as_slice()) {
-        return false;
-    }
-    one.lambda.as_slice() == other.lambda.as_slice()
-}
-
-fn are_same_atoms(one: &[Atom], other: &[Atom]) -> bool
-    ensures { IsTrue result ↔ (one.now ≡ other.now) }
-{
-    if one.len() != other.len() {
-        return false;
-    }
-    for place in 0..one.len() {
-        if !is_same_atom(&one[place], &other[place]) {
-            return false;
-        }
-    }
-    true
-}
-
-fn is_same_atom(one: &Atom, other: &Atom) -> bool
-    ensures { IsTrue result ↔ (one.now ≡ other.now) }
-{
-    one.predicate == other.predicate && one.threads.as_slice() == other.threads.as_slice()
+    Ok(entries)
 }

@@ -13,7 +13,7 @@ pub(crate) fn numbered_threads(
 ) -> Result<Vec<u32>, AllocError>
     ensures { IfOk result (λ names. names.items ≡ numbered_threads thread slots.now) }
 {
-    let mut names = Vec::new(alloc);
+    let mut names = Vec::with_capacity(alloc, slots.len() + 1)?;
     names.push(thread)?;
     for slot in slots {
         if *slot == thread {

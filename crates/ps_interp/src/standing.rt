@@ -32,6 +32,7 @@ pub(crate) fn standing_at(
     ensures fits { OnOk result (InterpolantFits sum.now) }
     ensures ends { IfErr result (EndsTaking table.old sum.now cut) }
 {
+    // The clause of `as_slice` says that the pairs are in order; the call does nothing else here.
     let _pairs = sum.pairs.as_slice();
     let row = match interpolant_row(alloc, sum) {
         Ok(row) => row,

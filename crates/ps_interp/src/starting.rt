@@ -3,14 +3,13 @@ ghost use Rattle.std.specs.Prelude.{IfErr, OnOk};
 ghost use Rattle.ps_interp.specs.inner.Meetings.{interpolant_of};
 ghost use Rattle.ps_interp.specs.inner.Starts.{EndsStarting, HaveWeights, IsStarted};
 
-use crate::checking::holds;
 use crate::initial::initial_entry;
 use crate::interp_end::InterpEnd;
-use crate::listing::push_once;
 use crate::meeting::Found;
 use crate::standing::Standing;
 use crate::start::StartWeights;
 use ps_command::Setting;
+use ps_triple::entry_holds;
 use std::alloc::Global;
 
 // Lists the initial entry of what stands at the first cut, which holds where it has no value past 128 bits.
@@ -32,14 +31,14 @@ pub(crate) fn push_initial(
         Ok(None) => return Err(InterpEnd::Past128),
         Err(end) => return Err(InterpEnd::Memory(end)),
     };
-    let stands = match holds(alloc, setting, &found.table, &entry) {
+    let stands = match entry_holds(alloc, setting, &found.table, &entry) {
         Ok(stands) => stands,
         Err(end) => return Err(InterpEnd::Memory(end)),
     };
     if !stands {
         return Err(InterpEnd::Past128);
     }
-    match push_once(&mut found.entries, entry) {
+    match found.entries.push_once(entry) {
         Ok(()) => Ok(()),
         Err(end) => Err(InterpEnd::Memory(end)),
     }

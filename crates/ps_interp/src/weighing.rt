@@ -42,6 +42,7 @@ pub(crate) fn plus_scaled(
     ensures fits { OnOk result (TermFits so_far.now by term.now) }
     ensures past { IsErrOf result TermEnd.Past128 → ¬ TermFits so_far.now by term.now }
 {
+    // The clause of `as_slice` says that the pairs are in order; the call does nothing else here.
     let _pairs = so_far.pairs.as_slice();
     let sum = add_scaled(alloc, so_far, by, term)?;
     Ok(sum)

@@ -71,7 +71,7 @@ pub record IsMet (setting : Setting) (letters : List Weighed) (cut : ℕ) (after
   pub entry : Entry
   pub triple : (w : Weighed) → slice_get letters cut ≡ Some w → entry ≡ triple_of w q after
   pub holds : EntryHolds setting new.table entry
-  pub listed : IsListed old.entries.items entry new.entries.items
+  pub listed : IsListed old.entries entry new.entries
 
 -- a triple of the letter after the cut is made, and doesn't hold
 pub record IsUnheld (setting : Setting) (letters : List Weighed) (cut : ℕ) (after : Interpolant) (old : List Predicate) : Type 0 where
@@ -102,7 +102,7 @@ pub record AreMet (setting : Setting) (letters : List Weighed) (known : List Pre
   pub hold : All (EntryHolds setting (known ++ new)) triples
   pub more : List Entry
   pub first : AreFirst before triples more
-  pub entries : found.entries.items ≡ before ++ more
+  pub entries : found.entries ≡ before ++ more
   pub stands : StandsAt found.table (sum_at letters cut) q
 
 -- why not all of them are met
@@ -131,4 +131,4 @@ falses_in cuts = map (λ (l : WeighedLetter). false_triple cuts.setting.now l.co
 pub record IsFound (setting : Setting) (known : List Predicate) (trace : List (ℕ × ℕ)) (lambda : List ℕ) (found : Found) : Type 0 where
   pub new : List Predicate
   pub table : found.table ≡ known ++ new
-  pub made : IsInterpolation setting known trace lambda new found.entries.items
+  pub made : IsInterpolation setting known trace lambda new found.entries

@@ -59,7 +59,7 @@ pub record IsStarted (setting : Setting) (start : StartWeights) (q : Interpolant
   pub table : new.table ≡ old.table
   pub small : AreOthersSmall setting start.threads.items q.atom.threads
   pub holds : EntryHolds setting old.table (initial_by setting start q)
-  pub listed : IsListed old.entries.items (initial_by setting start q) new.entries.items
+  pub listed : IsListed old.entries (initial_by setting start q) new.entries
 
 -- why it isn't
 abbrev pub EndsStarting : Setting → StartWeights → Interpolant → List Predicate → InterpEnd → Type 0

@@ -14,7 +14,7 @@ any_thread = record { thread = 0; weights = record { ref_ptr = (0, 0); now = [] 
 
 pub loop-left-init : goal.loop-left-init
 loop-left-init c =
-    let none : c.push_zeros.new.lambda.items ≡ zeros c.args.setting.now.init_each = c.in_ok-push_zeros.ensures ∙ ap (λ (ns : List ℕ). ns ++ zeros c.args.setting.now.init_each) c.new-sums.ensures.items in
+    let none : c.in_ok-sums.sums.items ≡ zeros c.args.setting.now.init_each = c.in_ok-sums.ensures in
     record {
       within = omega arith;
       sums = none ∙ sym (ap (λ (ts : List ThreadWeights). weights_of_others (zeros c.args.setting.now.init_each) (all_weights ts) c.args.slots.now) (drop_all (length c.args.threads.now) c.args.threads.now (omega arith)));

@@ -25,7 +25,7 @@ returns-in-Ok-push_initial-clause-found c =
     (subst (λ (ps : List Predicate). slice_get ps 0 ≡ Some false_predicate) c.list-known.ensures.list c.list-known.ensures.table.first) c.in-Ok.start c.in-Ok.ensures
     c.in-Ok-cuts_of.cuts c.in-Ok-cuts_of.ensures.cuts c.in-Ok-cuts_of.ensures.setting c.in-Ok-cuts_of.ensures.parts c.in-Ok-cuts_of.ensures.fits
     c.in-Ok-found_first.found c.in-Ok-found_first.ensures.table c.in-Ok-found_first.ensures.entries c.meet_cuts.new.found (interpolant_of c.in-Ok-Some.lowest)
-    (subst (λ (s : Option Standing). AreMet c.in-Ok-cuts_of.cuts.setting.now (letters_in c.in-Ok-cuts_of.cuts) c.in-Ok-found_first.found.table c.in-Ok-found_first.found.entries.items c.in-Ok-cuts_of.cuts.high c.in-Ok-cuts_of.cuts.low c.meet_cuts.new.found (interpolant_in s))
+    (subst (λ (s : Option Standing). AreMet c.in-Ok-cuts_of.cuts.setting.now (letters_in c.in-Ok-cuts_of.cuts) c.in-Ok-found_first.found.table c.in-Ok-found_first.found.entries c.in-Ok-cuts_of.cuts.high c.in-Ok-cuts_of.cuts.low c.meet_cuts.new.found (interpolant_in s))
     c.in-Ok-Some.field-0-is c.in-Ok-Some.ensures.met)
     c.push_initial.new.found c.in-Ok-push_initial.ensures.started
 
@@ -35,7 +35,7 @@ returns-in-Ok-None-clause-found c =
     (subst (λ (ps : List Predicate). slice_get ps 0 ≡ Some false_predicate) c.list-known.ensures.list c.list-known.ensures.table.first) c.in-Ok.start c.in-Ok.ensures
     c.in-Ok-cuts_of.cuts c.in-Ok-cuts_of.ensures.cuts c.in-Ok-cuts_of.ensures.setting c.in-Ok-cuts_of.ensures.parts c.in-Ok-cuts_of.ensures.fits
     c.in-Ok-found_first.found c.in-Ok-found_first.ensures.table c.in-Ok-found_first.ensures.entries c.meet_cuts.new.found
-    (subst (λ (s : Option Standing). AreMet c.in-Ok-cuts_of.cuts.setting.now (letters_in c.in-Ok-cuts_of.cuts) c.in-Ok-found_first.found.table c.in-Ok-found_first.found.entries.items c.in-Ok-cuts_of.cuts.high c.in-Ok-cuts_of.cuts.low c.meet_cuts.new.found (interpolant_in s))
+    (subst (λ (s : Option Standing). AreMet c.in-Ok-cuts_of.cuts.setting.now (letters_in c.in-Ok-cuts_of.cuts) c.in-Ok-found_first.found.table c.in-Ok-found_first.found.entries c.in-Ok-cuts_of.cuts.high c.in-Ok-cuts_of.cuts.low c.meet_cuts.new.found (interpolant_in s))
     c.in-Ok-None.field-0-is c.in-Ok-None.ensures.met)
 
 pub returns-in-Ok-Some-clause-ends : goal.returns-in-Ok-Some-clause-ends
@@ -44,7 +44,7 @@ returns-in-Ok-Some-clause-ends c =
     (subst (λ (ps : List Predicate). slice_get ps 0 ≡ Some false_predicate) c.list-known.ensures.list c.list-known.ensures.table.first) c.in-Ok.start c.in-Ok.ensures
     c.in-Ok-cuts_of.cuts c.in-Ok-cuts_of.ensures.cuts c.in-Ok-cuts_of.ensures.setting c.in-Ok-cuts_of.ensures.parts c.in-Ok-cuts_of.ensures.fits
     c.in-Ok-found_first.found c.in-Ok-found_first.ensures.table c.in-Ok-found_first.ensures.entries c.meet_cuts.new.found (interpolant_of c.in-Ok-Some.lowest)
-    (subst (λ (s : Option Standing). AreMet c.in-Ok-cuts_of.cuts.setting.now (letters_in c.in-Ok-cuts_of.cuts) c.in-Ok-found_first.found.table c.in-Ok-found_first.found.entries.items c.in-Ok-cuts_of.cuts.high c.in-Ok-cuts_of.cuts.low c.meet_cuts.new.found (interpolant_in s))
+    (subst (λ (s : Option Standing). AreMet c.in-Ok-cuts_of.cuts.setting.now (letters_in c.in-Ok-cuts_of.cuts) c.in-Ok-found_first.found.table c.in-Ok-found_first.found.entries c.in-Ok-cuts_of.cuts.high c.in-Ok-cuts_of.cuts.low c.meet_cuts.new.found (interpolant_in s))
     c.in-Ok-Some.field-0-is c.in-Ok-Some.ensures.met)
     c.in-Err-push_initial.end c.in-Err-push_initial.ensures.ends
 

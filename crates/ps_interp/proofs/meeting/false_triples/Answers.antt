@@ -16,6 +16,6 @@ loop-left-preserved c =
     record {
       within = omega (arith, c.loop-left.invariant.within);
       above = omega (arith, c.loop-left-test.true);
-      first = falses_more c.args.cuts.now.setting.now c.as_slice-letters.result.now c.loop-left.left x c.loop-left.entries.items c.push_once.new.entries.items c.in_ok-entry.entry some c.loop-left.invariant.within is
+      first = falses_more c.args.cuts.now.setting.now c.as_slice-letters.result.now c.loop-left.left x c.loop-left.entries c.push_once.new.self c.in_ok-entry.entry some c.loop-left.invariant.within is
           c.in_ok-entry.ensures c.loop-left.invariant.first c.in_ok-push_once.ensures;
     }

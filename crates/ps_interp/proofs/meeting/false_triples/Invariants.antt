@@ -8,7 +8,7 @@ abbrev pub invariant-loop-left : goal.invariant-loop-left
 invariant-loop-left l = record {
   within : l.left ≤ length l.letters;
   above : l.cuts.high ≤ l.left;
-  first : AreFirst [] (map (λ (w : WeighedLetter). false_triple l.cuts.setting.now w.command) (reverse (drop l.left l.letters))) l.entries.items;
+  first : AreFirst [] (map (λ (w : WeighedLetter). false_triple l.cuts.setting.now w.command) (reverse (drop l.left l.letters))) l.entries;
 }
 
 abbrev pub decreases-loop-left : goal.decreases-loop-left

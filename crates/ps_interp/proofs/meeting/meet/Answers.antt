@@ -26,7 +26,7 @@ returns-then-not-stands-clause-ends c =
     unheld_from c.args.cuts.now c.requires.cuts c.args.cut c.index.result.now c.index-2.result.now (interpolant_of c.args.after.now) c.args.found.now.table c.standing_at.new.table (interpolant_in c.in-Ok.before) c.in-Ok-triple_of.entry
     (c.index.ensures ∙ sum_at_is c.args.cuts.now c.requires.cuts c.args.cut c.index.result.now c.requires.within) c.in-Ok.ensures.fits c.in-Ok.ensures.taken
     (subst (λ (ps : List Predicate). length ps ≤ MOST) c.list-table.ensures.list c.list-table.ensures.table.within) c.in-Ok.ensures.stands
-    (λ w e. c.in-Ok-triple_of.ensures w (e ∙ ap part_of (sym c.index-2.ensures))) (λ h. both_ways c.in-Ok-holds.stands c.if-not-stands.true (c.in-Ok-holds.ensures.1 h))
+    (λ w e. c.in-Ok-triple_of.ensures w (e ∙ ap part_of (sym c.index-2.ensures))) (λ h. both_ways c.in-Ok-entry_holds.stands c.if-not-stands.true (c.in-Ok-entry_holds.ensures.1 h))
 
 pub returns-in-Ok-push_once-clause-met : goal.returns-in-Ok-push_once-clause-met
 returns-in-Ok-push_once-clause-met c =
@@ -34,4 +34,4 @@ returns-in-Ok-push_once-clause-met c =
     (interpolant_in c.in-Ok.before) c.in-Ok-triple_of.entry c.requires.within
     (c.index.ensures ∙ sum_at_is c.args.cuts.now c.requires.cuts c.args.cut c.index.result.now c.requires.within) c.in-Ok.ensures.fits c.in-Ok.ensures.taken
     (subst (λ (ps : List Predicate). length ps ≤ MOST) c.list-table.ensures.list c.list-table.ensures.table.within) c.in-Ok.ensures.stands
-    (λ w e. c.in-Ok-triple_of.ensures w (e ∙ ap part_of (sym c.index-2.ensures))) (c.in-Ok-holds.ensures.0 c.if-not-stands.false) refl refl c.in-Ok-push_once.ensures
+    (λ w e. c.in-Ok-triple_of.ensures w (e ∙ ap part_of (sym c.index-2.ensures))) (c.in-Ok-entry_holds.ensures.0 c.if-not-stands.false) refl refl c.in-Ok-push_once.ensures
