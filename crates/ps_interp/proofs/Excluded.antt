@@ -1,14 +1,12 @@
 -- Where a trace has an interpolation, the call doesn't end for another reason than want of memory; and it ends for one such reason.
 use Rattle.std.proofs.Common.{◌≡◌, ◌≢◌, refl, sym, ap, ◌∙◌, subst, ℕ, zero, suc, ◌+◌, ◌-◌, ◌<◌, ◌≤◌, ◌^◌, min, ℤ, List, [], ◌∷◌, ◌++◌, append_assoc, length, length-append, Contains, inl, inr, ◌⊎◌, All, arith}
-use Rattle.std.specs.Prelude.{Option, Some, None, slice_get}
-use Rattle.std.specs.List.{AllByRecursion, AllZip, filter_map}
-use Rattle.std.proofs.lemmas.Bool.{cases_eq, cases_lt}
+use Rattle.std.specs.Prelude.{Option, Some, None}
+use Rattle.std.specs.List.{AllZip, filter_map}
+use Rattle.std.proofs.lemmas.Bool.{cases_lt}
 use Rattle.std.proofs.lemmas.List.{append-nil}
 use Rattle.std.proofs.lemmas.List.Elements.{All-contains, filter_map-append}
-use Rattle.std.proofs.lemmas.Option.{slice_get_within}
-use Rattle.ps_atom.specs.Numbers.{false_predicate}
-use Rattle.ps_atom.specs.Places.{HasForm, IsArityOf, IsEndOf}
-use Rattle.ps_atom.specs.Threads.{AreOccurring, HasThreads, Occurs}
+use Rattle.ps_atom.specs.Places.{IsArityOf, IsEndOf}
+use Rattle.ps_atom.specs.Threads.{AreOccurring, Occurs}
 use Rattle.ps_atom.specs.declared.place.PlaceEnd.TheVariants.{Full}
 use Rattle.ps_atom.specs.declared.predicate.Predicate.{Predicate}
 use Rattle.ps_atom.specs.declared.predicates.TheConstants.Predicates.{MOST}
@@ -27,7 +25,7 @@ use Rattle.ps_interp.specs.Sums.{SumFits, Weighed}
 use Rattle.ps_interp.specs.Weights.{OthersFit}
 use Rattle.ps_interp.specs.declared.interp_end.InterpEnd.{InterpEnd}
 use Rattle.ps_interp.specs.declared.interp_end.InterpEnd.TheVariants.{Arity, Predicates, Past128, Memory}
-use Rattle.ps_list.proofs.Members.{here, nothing, there}
+use Rattle.ps_list.proofs.Members.{here}
 use Rattle.ps_list.proofs.Numbers.{same_ascending}
 use Rattle.ps_term.specs.Exact.{with_pairs}
 use Rattle.ps_term.specs.declared.term.Term.{Term}

@@ -1,4 +1,4 @@
-use Rattle.std.proofs.Common.{Vec, Global, ◌≡◌, ◌-◌, ◌<◌, ◌==◌, false, [], ◌++◌, List, ℕ, All, sym, ap, ◌∙◌, subst, length, get_or, arith, rules}
+use Rattle.std.proofs.Common.{Vec, Global, ◌≡◌, ◌-◌, ◌<◌, ◌==◌, false, [], List, ℕ, All, sym, ap, ◌∙◌, subst, length, get_or, arith, rules}
 use Rattle.std.specs.List.{list_any}
 use Rattle.std.proofs.lemmas.List.{drop_all}
 use Rattle.std.specs.Prelude.{IfNone, Option}

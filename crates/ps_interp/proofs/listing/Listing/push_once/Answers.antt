@@ -1,4 +1,4 @@
-use Rattle.std.proofs.Common.{◌≡◌, List, map, subst}
+use Rattle.std.proofs.Common.{List, map, subst}
 use Rattle.ps_interp.specs.inner.Keys.{entry_of, key_of}
 use Rattle.ps_interp.specs.inner.Meetings.{IsListed}
 use Rattle.ps_triple.specs.declared.entry.Entry.{Entry}
