@@ -9,7 +9,7 @@ use Rattle.std.proofs.lemmas.List.FromFn.{length-range_with_len, get_or-range_wi
 use Rattle.std.proofs.lemmas.List.Kept.{IsStrictlyIncreasing-filter}
 use Rattle.ps_atom_text.specs.Forms.{different}
 use Rattle.ps_atom_text.specs.inner.Met.{met_with, met_with_all}
-use Rattle.ps_config.proofs.Few.{once_ascending}
+use Rattle.ps_config.proofs.Bounded.{once_ascending}
 use Rattle.ps_config.proofs.Once.{IsOnce, no_longer}
 use Rattle.ps_list.proofs.Mapped.{kept, from_kept}
 use Rattle.ps_list.proofs.Members.{nothing, cons_cases, here, there}

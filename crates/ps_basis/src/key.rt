@@ -46,7 +46,9 @@ impl Key {
     pub(crate) fn compare(&self, other: &Key) -> Ordering
         ensures { result ≡ key_cmp self.now other.now }
     {
-        let by_command = self.command.cmp(&other.command);
-        self.predicate.cmp(&other.predicate).then(by_command)
+        match self.predicate.cmp(&other.predicate) {
+            Ordering::Equal => self.command.cmp(&other.command),
+            unequal => unequal,
+        }
     }
 }

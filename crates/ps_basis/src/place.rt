@@ -17,7 +17,9 @@ impl Place {
     pub(crate) fn compare(&self, other: &Place) -> Ordering
         ensures { result ≡ place_cmp self.now other.now }
     {
-        let by_number = self.number.cmp(&other.number);
-        self.key.compare(&other.key).then(by_number)
+        match self.key.compare(&other.key) {
+            Ordering::Equal => self.number.cmp(&other.number),
+            unequal => unequal,
+        }
     }
 }

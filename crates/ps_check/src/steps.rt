@@ -1,17 +1,17 @@
 //! The steps back that aren't covered.
 ghost use Rattle.std.specs.Prelude.{◌<◌, ◌^◌, IfOk, MatchBool, MatchOption, length};
 ghost use Rattle.ps_check.specs.inner.Stages.{AreAllCovered, IsCoveredAlong, IsCoveredBy, IsFirstAlong, IsFirstUncovered, IsUncoveredBy};
-ghost use Rattle.ps_config.specs.Forms.{IsFresh};
+ghost use Rattle.ps_config.specs.Forms.{AreThreads, IsFresh};
 ghost use Rattle.ps_demand.specs.Demands.{AreTied};
 
 use crate::branches::are_hits_covered;
 use crate::counted::count_of;
 use crate::listed::Listed;
 use ps_basis::Front;
-use ps_config::Config;
+use ps_config::{Config, next_number};
 use ps_demand::demands_of;
 use ps_graph::Graph;
-use ps_step::{next_of, step_to};
+use ps_step::step_to;
 use std::alloc::{AllocError, Global};
 
 /// A step back: along the edge of this number, by a thread that occurs, or by the fresh one.
@@ -36,11 +36,21 @@ pub(crate) fn first_uncovered(
         (AreAllCovered graph.now front.now configs.now from.now)
         (IsFirstUncovered graph.now front.now configs.now from.now)) }
 {
+    let threads = from.threads();
     let fresh = from.fresh();
     let edges = graph.edges.as_slice();
     let count = count_of(edges);
     for edge in 0..count {
-        match uncovered_along(alloc, graph, front, configs, from, fresh, edge)? {
+        match uncovered_along(
+            alloc,
+            graph,
+            front,
+            configs,
+            from,
+            threads.as_slice(),
+            fresh,
+            edge,
+        )? {
             Some(step) => return Ok(Some(step)),
             None => {}
         }
@@ -55,10 +65,12 @@ fn uncovered_along(
     front: &Front,
     configs: &Listed,
     from: &Config,
+    threads: &[u32],
     fresh: u32,
     edge: u32,
 ) -> Result<Option<Step>, AllocError>
     requires tied { AreTied front.now }
+    requires threads { AreThreads from.now threads.now }
     requires fresh { IsFresh from.now fresh }
     requires exists { edge < length graph.now.edges }
     ensures { IfOk result (λ step. MatchOption step
@@ -66,7 +78,7 @@ fn uncovered_along(
         (IsFirstAlong graph.now front.now configs.now from.now edge)) }
 {
     let mut least: u64 = 0;
-    while let Some(thread) = next_of(from, least) {
+    while let Some(thread) = next_number(threads, least) {
         let covered = is_step_covered(alloc, graph, front, configs, from, edge, thread)?;
         if !covered {
             return Ok(Some(Step {

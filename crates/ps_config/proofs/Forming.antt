@@ -12,7 +12,7 @@ use Rattle.ps_atom.specs.declared.atom.Atom.{Atom}
 use Rattle.ps_config.specs.Configurations.{Configuration}
 use Rattle.ps_config.specs.Forms.{HasThreadCount, IsConfig}
 use Rattle.ps_config.specs.declared.config.TheConstants.{MOST_ATOMS, MOST_THREADS}
-use Rattle.ps_config.proofs.Few.{once_ascending}
+use Rattle.ps_config.proofs.Bounded.{once_ascending}
 use Rattle.ps_config.proofs.Once.{no_longer}
 
 -- ---- threads

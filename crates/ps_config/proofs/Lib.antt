@@ -1,8 +1,10 @@
+pub mod Bounded
 pub mod Comparing
 pub mod Covering
-pub mod Few
 pub mod Forming
+pub mod Located
 pub mod Nexts
 pub mod Occurring
 pub mod Once
 pub mod Sent
+pub mod Tested

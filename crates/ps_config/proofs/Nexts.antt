@@ -143,6 +143,11 @@ listed_more xs from m list later l next e = subst (λ (ys : List ℕ). Listed xs
 pub listed_all : (c : Configuration) (from : ℕ) (list : List ℕ) → Listed (threads_at c) from list → IsNextThread (threads_at c) from None → AreThreads c list
 listed_all c from list l next = record { ascend = l.ascend; occurring = λ t. ((λ h. (l.below t h).0), (λ h. l.every t h (next t h))) }
 
+-- the next of the threads that are listed is the next of those that occur
+pub next_listed : (c : Configuration) (threads : List ℕ) (from : ℕ) (o : Option ℕ) → AreThreads c threads → IsNextThread threads from o → IsNextThread (threads_at c) from o
+next_listed c threads from None are none = λ n h. none n ((are.occurring n).1 h)
+next_listed c threads from (Some m) are next = ((are.occurring m).0 next.0, next.1, λ n h above. next.2 n ((are.occurring n).1 h) above)
+
 -- the next number from one on is this one exactly where it is among them
 pub next_is : (xs : List ℕ) (n m : ℕ) → IsNextThread xs n (Some m) → ((m == n) ≡ true → Contains xs n) × (Contains xs n → (m == n) ≡ true)
 next_is xs n m h = (

@@ -2,4 +2,5 @@ pub mod Configurations
 pub mod Forms
 pub mod Next
 pub mod Sent
+pub mod Zeros
 pub mod inner

@@ -1,11 +1,12 @@
 //! Configurations of a search.
 ghost use Rattle.std.specs.Prelude.{◌≡◌, ◌↔◌, IfOk, IsTrue};
 ghost use Rattle.ps_config.specs.Configurations.{Configuration};
-ghost use Rattle.ps_config.specs.Forms.{IsConfig, IsFresh, config_cmp, start_configuration};
+ghost use Rattle.ps_config.specs.Forms.{AreThreads, IsConfig, IsFresh, config_cmp, start_configuration};
 
+use crate::few::Few;
 use crate::form::is_in_form;
 use crate::order::{compare_atoms, compare_places};
-use crate::threads::fresh_thread;
+use crate::threads::{fresh_thread, threads_in};
 use ps_atom::{Atom, Threads};
 use ps_list::{Duplicate, Sequence};
 use std::alloc::{AllocError, Global};
@@ -82,6 +83,13 @@ impl Config {
         ensures form { IsConfig self.now }
     {
         self.atoms.as_slice()
+    }
+
+    /// The threads that occur, ascending, in one pass over both lists for each. It takes no memory.
+    pub fn threads(&self) -> Few
+        ensures { AreThreads self.now result }
+    {
+        threads_in(self.at.as_slice(), self.atoms.as_slice())
     }
 
     /// The least number that is no thread's, neither of one with a location nor of one of an atom. It

@@ -25,7 +25,8 @@ pub(crate) fn is_in_form(at: &[(u32, u32)], atoms: &[Atom]) -> bool
     thread_count(at, atoms) <= MOST_THREADS
 }
 
-fn threads_ascend(at: &[(u32, u32)]) -> bool
+/// Whether the threads with locations ascend.
+pub(crate) fn threads_ascend(at: &[(u32, u32)]) -> bool
     ensures { IsTrue result ↔ IsStrictlyIncreasing (map (λ p. p.0) at.now) }
 {
     for place in 1..at.len() {

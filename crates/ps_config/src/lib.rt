@@ -2,6 +2,7 @@
 #![tactic(auto)]
 
 mod config;
+mod few;
 mod form;
 pub mod laws;
 mod limits;
@@ -10,6 +11,7 @@ mod threads;
 mod wide;
 
 pub use config::{Config, MOST_ATOMS, MOST_THREADS};
+pub use few::Few;
 pub use limits::Limits;
-pub use threads::{next_thread, thread_count};
+pub use threads::{is_located, next_number, next_thread, thread_count, threads_in};
 pub use wide::{WideName, WideStep};

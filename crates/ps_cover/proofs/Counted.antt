@@ -6,7 +6,7 @@ use Rattle.ps_atom.specs.Atoms.{renamed}
 use Rattle.ps_atom.specs.declared.atom.Atom.{Atom}
 use Rattle.ps_config.proofs.Once.{IsOnce, no_longer, once_mapped, once_kept}
 use Rattle.ps_config.specs.Forms.{IsConfig}
-use Rattle.ps_config.proofs.Few.{once_located}
+use Rattle.ps_config.proofs.Bounded.{once_located}
 use Rattle.ps_cover.specs.Within.{times, IsWithinList}
 use Rattle.ps_cover.specs.inner.Counts.{those_at, those_of}
 use Rattle.ps_list.proofs.Members.{here, there}

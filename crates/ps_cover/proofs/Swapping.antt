@@ -11,7 +11,8 @@ use Rattle.ps_config.proofs.Occurring.{renamed_twice, renamed_stays}
 use Rattle.ps_cover.specs.inner.Rests.{NoWay}
 use Rattle.ps_cover.specs.inner.Swaps.{swapped, place_swaps, maps_swapped, swap_maps, atom_swaps, swap_keeps}
 use Rattle.ps_cover.specs.inner.Tests.{is_listed, is_placed}
-use Rattle.ps_cover.proofs.Testing.{all_from, any_from, placed_from}
+use Rattle.ps_config.proofs.Tested.{all_from, any_from}
+use Rattle.ps_cover.proofs.Testing.{placed_from}
 use Rattle.ps_cover.proofs.Ways.{map_last, map_push}
 
 -- ---- steps of a loop

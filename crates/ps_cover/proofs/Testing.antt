@@ -1,15 +1,16 @@
 -- The tests of one more image say what they are to say.
 use Rattle.std.proofs.Common.{◌≡◌, ◌≢◌, ◌<◌, ◌+◌, ℕ, Bool, true, false, not, ◌&&◌, ◌||◌, ◌==◌, List, [], ◌∷◌, ◌++◌, length, drop, get_or, map, refl, sym, ap, ap₂, ◌∙◌, subst, inl, inr, Contains, Option, Some, if◌then◌else◌, arith}
 use Rattle.std.specs.List.{list_any, list_all}
-use Rattle.std.proofs.lemmas.Bool.{both_ways, false≢true, cases_Bool, eqb-true, eq-eqb, eqb-false, and_parts, and_from, or_cases, or_left, or_right}
+use Rattle.std.proofs.lemmas.Bool.{both_ways, false≢true, cases_Bool, eqb-true, eq-eqb, eqb-false, and_parts, and_from}
 use Rattle.std.proofs.lemmas.List.{drop_more, length-append}
 use Rattle.ps_atom.specs.Atoms.{renamed}
 use Rattle.ps_atom.specs.declared.atom.Atom.{Atom}
-use Rattle.ps_list.proofs.Members.{nothing, cons_cases, here, there}
+use Rattle.ps_list.proofs.Members.{nothing, here, there}
 use Rattle.ps_config.specs.Configurations.{Configuration}
 use Rattle.ps_config.specs.Sent.{sent}
 use Rattle.ps_list.proofs.Numbers.{has_from, has_to}
 use Rattle.ps_config.proofs.Sent.{later_in}
+use Rattle.ps_config.proofs.Tested.{all_from, any_from, any_to}
 use Rattle.ps_cover.proofs.Fitting.{FitsNext}
 use Rattle.ps_cover.specs.inner.Agreeing.{found, agrees_with, slots_agree, atom_agrees}
 use Rattle.ps_cover.specs.inner.Tests.{is_listed, is_placed, place_kept, atom_kept, can_go}
@@ -39,35 +40,6 @@ agree_long threads to (x ∷ xs) (y ∷ ys) n = at (agrees_with (found threads t
     at : (b : Bool) → false ≡ slots_agree threads to xs ys → false ≡ (b && slots_agree threads to xs ys)
     at true rest = rest
     at false rest = refl
-
--- ---- all and any
-
-pub all_from : {X : Type 0} (p : X → Bool) (xs : List X) → list_all p xs ≡ true → (x : X) → Contains xs x → p x ≡ true
-all_from p [] h x c = absurd (nothing x c)
-all_from {X} p (y ∷ ys) h x c =
-    let both = and_parts (p y) (list_all p ys) h in
-    elim (cons_cases y ys x c) [
-      | inl is ↦ subst (λ (z : X). p z ≡ true) is both.0
-      | inr later ↦ all_from p ys both.1 x later
-    ]
-
-pub all_to : {X : Type 0} (p : X → Bool) (xs : List X) → ((x : X) → Contains xs x → p x ≡ true) → list_all p xs ≡ true
-all_to p [] h = refl
-all_to p (y ∷ ys) h = and_from (p y) (list_all p ys) (h y (here y ys)) (all_to p ys (λ x c. h x (there y ys x c)))
-
-pub any_from : {X : Type 0} (p : X → Bool) (xs : List X) → list_any p xs ≡ true → (x : X) × Contains xs x × (p x ≡ true)
-any_from p [] h = absurd (false≢true h)
-any_from p (y ∷ ys) h = elim (or_cases (p y) (list_any p ys) h) [
-  | inl first ↦ (y, here y ys, first)
-  | inr later ↦ (let w = any_from p ys later in (w.0, there y ys w.0 w.1, w.2))
-]
-
-pub any_to : {X : Type 0} (p : X → Bool) (xs : List X) (x : X) → Contains xs x → p x ≡ true → list_any p xs ≡ true
-any_to p [] x c h = absurd (nothing x c)
-any_to {X} p (y ∷ ys) x c h = elim (cons_cases y ys x c) [
-  | inl is ↦ or_left (p y) (list_any p ys) (subst (λ (z : X). p z ≡ true) (sym is) h)
-  | inr later ↦ or_right (p y) (list_any p ys) (any_to p ys x later h)
-]
 
 -- ---- places
 

@@ -7,13 +7,15 @@ use Rattle.ps_list.proofs.Members.{nothing}
 use Rattle.ps_list.proofs.Numbers.{has_to}
 use Rattle.ps_config.specs.Configurations.{Configuration, threads_at}
 use Rattle.ps_config.specs.Next.{IsNextThread}
+use Rattle.ps_config.specs.declared.config.TheConstants.{MOST_THREADS}
 use Rattle.ps_config.proofs.Covering.{image_occurs}
 use Rattle.ps_cover.specs.declared.partial.Partial.{Partial}
 use Rattle.ps_cover.specs.inner.Rests.{NoWay, Ends, HaveFailed, AllOccur, Waits}
 use Rattle.ps_cover.specs.inner.Swaps.{swap_keeps}
 use Rattle.ps_cover.specs.inner.Tests.{can_go, is_listed}
 use Rattle.ps_cover.proofs.Swapping.{no_way_swapped}
-use Rattle.ps_cover.proofs.Testing.{any_from, fitting_from}
+use Rattle.ps_config.proofs.Tested.{any_from}
+use Rattle.ps_cover.proofs.Testing.{fitting_from}
 use Rattle.ps_cover.proofs.Ways.{goes_not, goes_absent, map_push}
 
 -- a thread that waits, where the threads so far have images
@@ -61,13 +63,19 @@ alike_ends small large p t is failed image goes have h =
 pub none_failed : (small large : Configuration) (p : Partial) (t : ℕ) (failed : List ℕ) → failed ≡ [] → HaveFailed small large p t failed
 none_failed small large p t failed e w h = absurd (nothing w (subst (λ (xs : List ℕ). Contains xs w) e h))
 
-pub one_failed : (small large : Configuration) (p : Partial) (t : ℕ) (failed noted : List ℕ) (image : ℕ) → HaveFailed small large p t failed → Ends small large p t image × (¬ Contains p.to image)
+noted_one : (small large : Configuration) (p : Partial) (t : ℕ) (failed noted : List ℕ) (image : ℕ) → HaveFailed small large p t failed → Ends small large p t image × (¬ Contains p.to image)
     → (noted ≡ failed ++ image ∷ []) ⊎ (noted ≡ failed) → HaveFailed small large p t noted
-one_failed small large p t failed noted image have more (inl is) w h = elim (Contains-push_cases failed image w (subst (λ (xs : List ℕ). Contains xs w) is h)) [
+noted_one small large p t failed noted image have more (inl is) w h = elim (Contains-push_cases failed image w (subst (λ (xs : List ℕ). Contains xs w) is h)) [
   | inl old ↦ have w old
   | inr same ↦ subst (λ (v : ℕ). Ends small large p t v × (¬ Contains p.to v)) same more
 ]
-one_failed small large p t failed noted image have more (inr is) w h = have w (subst (λ (xs : List ℕ). Contains xs w) is h)
+noted_one small large p t failed noted image have more (inr is) w h = have w (subst (λ (xs : List ℕ). Contains xs w) is h)
+
+-- it is noted where there is room
+pub one_failed : (small large : Configuration) (p : Partial) (t : ℕ) (failed noted : List ℕ) (image : ℕ) → HaveFailed small large p t failed → Ends small large p t image × (¬ Contains p.to image)
+    → (length failed < MOST_THREADS → noted ≡ failed ++ image ∷ []) → (MOST_THREADS ≤ length failed → noted ≡ failed) → HaveFailed small large p t noted
+one_failed small large p t failed noted image have more room full =
+    noted_one small large p t failed noted image have more (elim (cases_lt (length failed) MOST_THREADS) [ inl below ↦ inl (room below) | inr above ↦ inr (full above) ])
 
 -- ---- one thread more
 

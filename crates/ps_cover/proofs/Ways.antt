@@ -9,7 +9,7 @@ use Rattle.ps_config.specs.Configurations.{Configuration, threads_at, Embeds}
 use Rattle.ps_config.specs.Forms.{AreThreads}
 use Rattle.ps_config.specs.Sent.{sent}
 use Rattle.ps_config.proofs.Covering.{image_occurs}
-use Rattle.ps_config.proofs.Few.{once_ascending}
+use Rattle.ps_config.proofs.Bounded.{once_ascending}
 use Rattle.ps_list.proofs.Mapped.{from_mapped, same_map}
 use Rattle.ps_config.proofs.Once.{IsOnce}
 use Rattle.ps_config.proofs.Sent.{sent_first, sent_later}
@@ -17,7 +17,8 @@ use Rattle.ps_cover.specs.inner.Agreeing.{atom_agrees}
 use Rattle.ps_cover.specs.inner.Rests.{Fits, NoWay}
 use Rattle.ps_cover.specs.inner.Tests.{is_listed, is_placed, place_kept, atom_kept, can_go}
 use Rattle.ps_cover.proofs.Fitting.{covering_from_fits}
-use Rattle.ps_cover.proofs.Testing.{all_to, any_to, atom_image, listed_not, placed_to, unless_to}
+use Rattle.ps_config.proofs.Tested.{all_to, any_to}
+use Rattle.ps_cover.proofs.Testing.{atom_image, listed_not, placed_to, unless_to}
 
 -- there is no way to go on, by lists of images
 abbrev pub HasNoRest : Configuration → Configuration → List ℕ → List ℕ → List ℕ → Type 0

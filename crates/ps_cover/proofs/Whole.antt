@@ -8,13 +8,14 @@ use Rattle.ps_config.specs.Configurations.{Configuration, Covers}
 use Rattle.ps_config.proofs.Once.{IsOnce}
 use Rattle.ps_cover.specs.inner.Counts.{HasBare, those_at, those_of, place_counts, is_bare, atom_counts, counts_allow}
 use Rattle.ps_config.specs.Forms.{AreThreads, IsConfig}
-use Rattle.ps_config.proofs.Few.{once_atoms, once_located}
+use Rattle.ps_config.proofs.Bounded.{once_atoms, once_located}
 use Rattle.ps_cover.specs.Coverings.{IsFirstInjection}
 use Rattle.ps_cover.specs.inner.Rests.{Fits, IsFirstRest, IsRestAnswer, NoWay}
 use Rattle.ps_cover.specs.declared.partial.Partial.{Partial}
 use Rattle.ps_cover.proofs.Counted.{fewer_at, fewer_of}
 use Rattle.ps_cover.proofs.Firsts.{bare_there, fits_none, first_covering}
-use Rattle.ps_cover.proofs.Testing.{all_from, all_to, any_from, any_to, unless_from, unless_to}
+use Rattle.ps_config.proofs.Tested.{all_from, all_to, any_from, any_to}
+use Rattle.ps_cover.proofs.Testing.{unless_from, unless_to}
 
 le_test : (a b : ℕ) → a ≤ b → nat_le a b ≡ true
 le_test a b h = grind (arith, nat_tests, h)

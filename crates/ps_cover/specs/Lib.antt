@@ -1,5 +1,4 @@
 pub mod Coverings
 pub mod Examples
 pub mod Within
-pub mod Zeros
 pub mod inner

@@ -2,15 +2,13 @@
 ghost use Rattle.std.specs.Prelude.{◌≡◌, ◌≤◌, IfSome, IfNone, length};
 ghost use Rattle.ps_config.specs.Configurations.{Configuration, Covers};
 ghost use Rattle.ps_cover.specs.Coverings.{IsFirstInjection, images};
-ghost use Rattle.ps_cover.specs.Zeros.{AreZeroFrom};
+ghost use Rattle.ps_config.specs.Zeros.{AreZeroFrom};
 
 use crate::counts::may_cover;
-use crate::few::Few;
 use crate::partial::Partial;
 use crate::search::search;
-use crate::threads::threads_in;
 use ps_atom::Atom;
-use ps_config::{Config, MOST_THREADS};
+use ps_config::{Config, Few, MOST_THREADS, threads_in};
 
 /// The images of the threads of the smaller configuration, in ascending order of threads, and zeros
 /// beyond them.

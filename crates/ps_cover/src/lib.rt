@@ -3,7 +3,6 @@
 
 mod among;
 mod counts;
-mod few;
 mod fits;
 mod images;
 mod injection;
@@ -12,7 +11,6 @@ mod open;
 mod partial;
 mod search;
 mod swaps;
-mod threads;
 
 pub use among::within;
 pub use injection::{Injection, covers, covers_lists};

@@ -4,12 +4,11 @@ ghost use Rattle.std.specs.Bool.{OnFalse};
 ghost use Rattle.ps_config.specs.Configurations.{threads_at};
 ghost use Rattle.ps_cover.specs.inner.Rests.{AllOccur, HaveFailed, IsProbe, NoWay, Waits, large_of};
 
-use crate::few::Few;
 use crate::fits::{fits, has};
 use crate::partial::Partial;
 use crate::swaps::is_like_failed;
 use ps_atom::Atom;
-use ps_config::{Config, MOST_THREADS, next_thread};
+use ps_config::{Config, Few, MOST_THREADS, next_thread};
 
 /// What comes of an image for a thread.
 #[derive(Drop)]

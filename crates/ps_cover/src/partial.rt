@@ -1,8 +1,7 @@
 //! Where the first threads of a configuration go.
 ghost use Rattle.std.specs.Prelude.{◌≡◌, ◌++◌, ◌∷◌, ◌<◌, [], length};
 
-use crate::few::Few;
-use ps_config::MOST_THREADS;
+use ps_config::{Few, MOST_THREADS};
 
 /// The threads that have an image so far, and their images.
 #[derive(Drop)]

@@ -4,13 +4,12 @@ ghost use Rattle.ps_config.specs.Configurations.{Configuration};
 ghost use Rattle.ps_config.specs.Forms.{AreThreads};
 ghost use Rattle.ps_cover.specs.inner.Rests.{Fits, HaveFailed, IsRestAnswer, IsTrial, large_of};
 
-use crate::few::Few;
 use crate::fits::fits;
 use crate::open::is_open;
 use crate::partial::Partial;
 use crate::swaps::is_like_failed;
 use ps_atom::Atom;
-use ps_config::{Config, MOST_THREADS, next_thread};
+use ps_config::{Config, Few, MOST_THREADS, next_thread};
 
 /// What comes of an image for the next thread.
 #[derive(Drop)]

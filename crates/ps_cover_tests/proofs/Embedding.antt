@@ -10,7 +10,8 @@ use Rattle.ps_config.specs.Forms.{AreThreads}
 use Rattle.ps_config.specs.Sent.{sent}
 use Rattle.ps_config.proofs.Sent.{sent_later}
 use Rattle.ps_cover.specs.Coverings.{IsCovering}
-use Rattle.ps_cover.proofs.Testing.{all_from, all_to, any_from, any_to, placed_from, placed_to}
+use Rattle.ps_config.proofs.Tested.{all_from, all_to, any_from, any_to}
+use Rattle.ps_cover.proofs.Testing.{placed_from, placed_to}
 use Rattle.ps_cover_tests.specs.Embedding.{is_apart, is_placed_too, are_sent, goes_to, is_kept, takes_into}
 
 -- ---- steps of loops

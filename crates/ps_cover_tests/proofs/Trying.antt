@@ -16,7 +16,7 @@ use Rattle.ps_config.specs.Forms.{AreThreads}
 use Rattle.ps_config.specs.Next.{IsNextThread}
 use Rattle.ps_config.specs.Sent.{sent}
 use Rattle.ps_config.proofs.Covering.{image_occurs}
-use Rattle.ps_config.proofs.Few.{once_ascending}
+use Rattle.ps_config.proofs.Bounded.{once_ascending}
 use Rattle.ps_cover.specs.Coverings.{IsCovering, IsFirstInjection}
 use Rattle.ps_cover.proofs.Fitting.{images_of}
 use Rattle.ps_cover.proofs.Ways.{map_sent}

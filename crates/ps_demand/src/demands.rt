@@ -21,7 +21,7 @@ pub fn demands_of<B: Shown>(
     ensures { IfOk result (λ sets.
         lists_of sets.items ≡ demands (B.entries basis.now) atoms.now thread command) }
 {
-    let mut sets = Vec::new(alloc);
+    let mut sets = Vec::with_capacity(alloc, atoms.len())?;
     for atom in atoms {
         add_demands(alloc, basis, atom, thread, command, &mut sets)?;
     }

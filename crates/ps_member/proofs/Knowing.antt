@@ -13,7 +13,7 @@ use Rattle.std.proofs.lemmas.List.Kept.{IsStrictlySortedBy-filter}
 use Rattle.ps_atom.specs.Atoms.{atom_cmp}
 use Rattle.ps_atom.specs.declared.atom.Atom.{Atom}
 use Rattle.ps_basis.specs.Demands.{IsGiven}
-use Rattle.ps_cover.proofs.Testing.{all_from, all_to, any_from, any_to}
+use Rattle.ps_config.proofs.Tested.{all_from, all_to, any_from, any_to}
 use Rattle.ps_demand.proofs.Atoms.{atoms_exact, atoms_total}
 use Rattle.ps_demand.proofs.Giving.{demanded, demand_of}
 use Rattle.ps_demand.proofs.Pooling.{found_at}

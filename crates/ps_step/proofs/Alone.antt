@@ -1,9 +1,9 @@
 -- Atoms that are alone in sets, and the only least set where they meet all sets.
-use Rattle.std.proofs.Common.{◌≡◌, ◌≢◌, ◌<◌, ◌≤◌, ◌+◌, ℕ, Bool, true, false, List, [], ◌∷◌, ◌++◌, length, take, get_or, refl, sym, ap, ◌∙◌, subst, inl, inr, ◌⊎◌, Contains, arith, rules}
+use Rattle.std.proofs.Common.{◌≡◌, ◌≢◌, ◌<◌, ◌≤◌, ◌+◌, ℕ, Bool, true, false, List, [], ◌∷◌, ◌++◌, length, take, get_or, refl, sym, ap, ◌∙◌, subst, inl, inr, ◌⊎◌, Contains, arith}
 use Rattle.std.specs.Prelude.{◌↔◌}
 use Rattle.std.specs.Cmp.{IsStrictWeakOrder}
 use Rattle.std.specs.Cmp.Lexicographic.{slice_cmp}
-use Rattle.std.specs.List.{AllByRecursion, dedup}
+use Rattle.std.specs.List.{dedup}
 use Rattle.std.specs.List.Sorted.{IsStrictlySortedBy, IsSorted, IsPermutation, IsPartitionPoint}
 use Rattle.std.specs.Ordering.{eq_by_cmp, is_eq, is_lt}
 use Rattle.std.specs.declared.cmp.Ordering.{Ordering}
@@ -20,10 +20,10 @@ use Rattle.ps_atom.specs.declared.atom.Atom.{Atom}
 use Rattle.ps_demand.proofs.Atoms.{atoms_exact, atoms_total}
 use Rattle.ps_demand.proofs.Pooling.{found_at}
 use Rattle.ps_demand.specs.Hitting.{HitsAll, IsLeastHit, MeetsSet}
-use Rattle.ps_demand.specs.Pools.{HasEach, lists_of}
+use Rattle.ps_demand.specs.Pools.{lists_of}
 use Rattle.ps_list.proofs.Mapped.{mapped}
-use Rattle.ps_list.proofs.Members.{nothing, cons_cases, here, there}
-use Rattle.ps_step.specs.inner.Found.{AreLeast, AreAllLeast, IsFound}
+use Rattle.ps_list.proofs.Members.{nothing, cons_cases, here}
+use Rattle.ps_step.specs.inner.Found.{AreLeast, AreAllLeast}
 use Rattle.ps_step.specs.inner.Only.{IsAlone, IsOnlySet}
 
 -- ---- the atoms that are alone in the first sets

@@ -1,28 +1,18 @@
 -- The list of demands says what the definition demands.
-use Rattle.std.proofs.Common.{◌≡◌, ℕ, Bool, true, false, ◌&&◌, ◌==◌, List, [], ◌∷◌, ◌++◌, map, refl, sym, ap, ap₂, ◌∙◌, subst, inl, inr, ◌⊎◌, Contains, Some, None, if◌then◌else◌}
+use Rattle.std.proofs.Common.{◌≡◌, ℕ, List, map, sym, subst, Contains, Some}
 use Rattle.std.specs.List.{filter_map}
-use Rattle.std.proofs.lemmas.Bool.{false≢true, eqb-true, eq-eqb, and_parts, and_from}
-use Rattle.std.proofs.lemmas.List.Elements.{All-contains, Contains-append_left, Contains-append_right, Contains-append_cases}
-use Rattle.ps_atom.specs.Atoms.{renamed, IsInjectiveOn, threads_of}
+use Rattle.ps_atom.specs.Atoms.{renamed}
 use Rattle.ps_atom.specs.declared.atom.Atom.{Atom}
-use Rattle.ps_list.proofs.Members.{cons_cases, here, there}
 use Rattle.ps_config.specs.Configurations.{Configuration}
-use Rattle.ps_config.specs.Sent.{sent}
-use Rattle.ps_list.proofs.Mapped.{flat_mapped, from_flat_mapped, same_map}
-use Rattle.ps_config.proofs.Occurring.{renamed_same}
-use Rattle.ps_config.proofs.Sent.{sent_image}
-use Rattle.ps_triple.specs.declared.triple.Triple.{Triple}
+use Rattle.ps_list.proofs.Mapped.{flat_mapped, from_flat_mapped}
 use Rattle.ps_triple.specs.declared.entry.Entry.{Entry}
 use Rattle.ps_triple.specs.declared.entry.Entry.TheVariants.{Triple as OfTriple, Initial as OfInitial}
-use Rattle.ps_triple.specs.Entries.{GivesAtom, threads_in}
-use Rattle.ps_triple.specs.Tests.{IsTied, IsTiedTo}
 use Rattle.ps_step.specs.Steps.{MeetsDemands}
 use Rattle.ps_demand.specs.Demands.{AreTied}
-use Rattle.ps_demand.specs.Demands.{is_renaming, demand, demands}
+use Rattle.ps_demand.specs.Demands.{demand, demands}
 use Rattle.ps_demand.specs.Hitting.{MeetsSet, HitsAll}
 use Rattle.ps_demand.proofs.Demanding.{demanded_given, renamed_demanded}
 use Rattle.ps_demand.proofs.Picked.{picked, from_picked}
-use Rattle.ps_demand.proofs.Sent.{image_is_renaming, sent_all, sent_apart}
 
 -- ---- all of them
 

@@ -13,7 +13,7 @@ use Rattle.std.proofs.lemmas.Map.Keys.{IsStrictlyIncreasing-from_sorted, sorted_
 use Rattle.ps_config.specs.Configurations.{Configuration, IsAt}
 use Rattle.ps_config.specs.Forms.{IsConfig}
 use Rattle.ps_list.proofs.Mapped.{from_kept, kept}
-use Rattle.ps_cover.proofs.Testing.{all_from, all_to, any_from, any_to}
+use Rattle.ps_config.proofs.Tested.{all_from, all_to, any_from, any_to}
 use Rattle.ps_graph.specs.Facts.{owner_of}
 use Rattle.ps_graph.specs.declared.edge.Edge.{Edge}
 use Rattle.ps_graph.specs.declared.graph.Graph.{Graph}

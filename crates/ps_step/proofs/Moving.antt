@@ -2,7 +2,7 @@
 use Rattle.std.proofs.Common.{◌≡◌, ◌≢◌, ℕ, Bool, true, false, ◌&&◌, ◌||◌, ◌==◌, List, refl, sym, subst, ◌∙◌, inl, inr, ◌⊎◌, Contains, if◌then◌else◌}
 use Rattle.std.proofs.lemmas.Bool.{and_from, and_parts, both_ways, cases_eq, eq-eqb, eqb-false, eqb-true, false≢true, or_cases, or_left, or_right}
 use Rattle.ps_config.specs.Configurations.{Configuration, IsAt}
-use Rattle.ps_cover.proofs.Testing.{all_from, all_to, any_from, any_to}
+use Rattle.ps_config.proofs.Tested.{all_from, all_to, any_from, any_to}
 use Rattle.ps_graph.specs.declared.edge.Edge.{Edge}
 use Rattle.ps_graph.specs.declared.graph.Graph.{Graph}
 use Rattle.ps_step.specs.Steps.{GoesBack, IsDue, IsMovedTo}

@@ -19,7 +19,7 @@ use Rattle.ps_config.specs.declared.config.TheConstants.{MOST_ATOMS, MOST_THREAD
 use Rattle.ps_config.specs.declared.wide.WideName.{WideName}
 use Rattle.ps_config.specs.declared.wide.WideName.TheVariants.{Sets, Atoms, Threads}
 use Rattle.ps_config.specs.declared.wide.WideStep.{WideStep}
-use Rattle.ps_config.proofs.Few.{once_ascending}
+use Rattle.ps_config.proofs.Bounded.{once_ascending}
 use Rattle.ps_list.proofs.Mapped.{from_mapped, mapped}
 use Rattle.ps_config.proofs.Once.{IsOnce, no_longer, once_sorted}
 use Rattle.ps_graph.specs.declared.edge.Edge.{Edge}

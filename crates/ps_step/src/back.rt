@@ -9,7 +9,7 @@ ghost use Rattle.ps_step.specs.inner.Going.{are_alone, is_only_thread, is_body, 
 ghost use Rattle.ps_triple.specs.Entries.{false_atom};
 
 use ps_atom::Atom;
-use ps_config::Config;
+use ps_config::{Config, is_located};
 use ps_graph::{Edge, Graph};
 use std::alloc::{AllocError, Global};
 
@@ -69,12 +69,6 @@ pub(crate) fn is_at(at: &[(u32, u32)], thread: u32, location: u32) -> bool
 {
     at.iter()
         .any(|place| place.0 == thread && place.1 == location)
-}
-
-fn is_located(at: &[(u32, u32)], thread: u32) -> bool
-    ensures { result ≡ list_any (λ p. p.0 == thread) at.now }
-{
-    at.iter().any(|place| place.0 == thread)
 }
 
 fn is_owned_by(owner: &[Option<u32>], location: u32, body: u32) -> bool

@@ -1,8 +1,6 @@
 //! The successors of a configuration.
 ghost use Rattle.std.specs.Prelude.{◌≡◌, ◌<◌, ℕ, IfErr, IfOk, OnOk, [], length};
-ghost use Rattle.ps_config.specs.Configurations.{threads_at};
-ghost use Rattle.ps_config.specs.Forms.{IsFresh};
-ghost use Rattle.ps_config.specs.Next.{IsNextThread};
+ghost use Rattle.ps_config.specs.Forms.{AreThreads, IsFresh};
 ghost use Rattle.ps_demand.specs.Demands.{AreTied};
 ghost use Rattle.ps_step.specs.Successors.{AreSuccessors, CoverAll};
 ghost use Rattle.ps_step.specs.Wide.{AreNarrow, StepEndsBy, IsFirstWide};
@@ -12,7 +10,7 @@ use crate::expand_end::ExpandEnd;
 use crate::expansion::{Expansion, Successor};
 use crate::step::add_step;
 use ps_basis::Shown;
-use ps_config::{Config, next_thread};
+use ps_config::{Config, next_number};
 use ps_graph::Graph;
 use ps_list::Sequence;
 use ps_triple::Entry;
@@ -78,6 +76,7 @@ fn successors_of<B: Shown>(
     ensures wide { IfErr result
         (StepEndsBy (IsFirstWide graph.now (B.entries basis.now) config.now fresh)) }
 {
+    let threads = config.threads();
     let mut successors = Vec::new(alloc);
     for number in 0..graph.edges.as_slice().len() {
         if let Err(end) = add_numbered(
@@ -85,6 +84,7 @@ fn successors_of<B: Shown>(
             graph,
             basis,
             config,
+            threads.as_slice(),
             fresh,
             number,
             &mut successors,
@@ -102,11 +102,13 @@ fn add_numbered<B: Shown>(
     graph: &Graph,
     basis: &B,
     config: &Config,
+    threads: &[u32],
     fresh: u32,
     number: usize,
     successors: &mut Vec<Successor>,
 ) -> Result<(), ExpandEnd>
     requires tied { AreTied (B.entries basis.now) }
+    requires threads { AreThreads config.now threads.now }
     requires fresh { IsFresh config.now fresh }
     requires exists { number < length graph.now.edges }
     ensures adds { OnOk result (AddsSteps graph.now (B.entries basis.now) config.now fresh
@@ -115,7 +117,9 @@ fn add_numbered<B: Shown>(
         (StepEndsBy (IsFirstWideAt graph.now (B.entries basis.now) config.now fresh number)) }
 {
     match u32::try_from(number) {
-        Ok(edge) => add_edge(alloc, graph, basis, config, fresh, edge, successors),
+        Ok(edge) => add_edge(
+            alloc, graph, basis, config, threads, fresh, edge, successors,
+        ),
         Err(_) => Err(ExpandEnd::Memory(AllocError)),
     }
 }
@@ -126,11 +130,13 @@ fn add_edge<B: Shown>(
     graph: &Graph,
     basis: &B,
     config: &Config,
+    threads: &[u32],
     fresh: u32,
     number: u32,
     successors: &mut Vec<Successor>,
 ) -> Result<(), ExpandEnd>
     requires tied { AreTied (B.entries basis.now) }
+    requires threads { AreThreads config.now threads.now }
     requires fresh { IsFresh config.now fresh }
     requires exists { number < length graph.now.edges }
     ensures adds { OnOk result (AddsSteps graph.now (B.entries basis.now) config.now fresh
@@ -139,20 +145,13 @@ fn add_edge<B: Shown>(
         (StepEndsBy (IsFirstWideAt graph.now (B.entries basis.now) config.now fresh number)) }
 {
     let mut from: u64 = 0;
-    while let Some(thread) = next_of(config, from) {
+    while let Some(thread) = next_number(threads, from) {
         if let Err(end) = add_step(alloc, graph, basis, config, number, thread, successors) {
             return Err(end);
         }
         from = u64::from(thread) + 1;
     }
     add_step(alloc, graph, basis, config, number, fresh, successors)
-}
-
-/// The least thread that occurs in the configuration from a number on, in one pass.
-pub fn next_of(config: &Config, from: u64) -> Option<u32>
-    ensures { IsNextThread (threads_at config.now) from result }
-{
-    next_thread(config.at(), config.atoms(), from)
 }
 
 fn expansion_of<B: Shown>(

@@ -17,6 +17,6 @@ pub mod worked;
 pub use accepted::accepting;
 pub use back::step_to;
 pub use expand_end::{ExpandEnd, MOST_SETS};
-pub use expanded::{expand, next_of};
+pub use expanded::expand;
 pub use expansion::{Expansion, Successor};
 pub use standing::stands;

@@ -1,7 +1,7 @@
 use Rattle.std.proofs.Common.{◌≤◌, arith}
 use Rattle.ps_config.specs.Configurations.{Configuration}
 use Rattle.ps_config.specs.declared.config.TheConstants.{MOST_THREADS}
-use Rattle.ps_config.proofs.Few.{few_below, below_more}
+use Rattle.ps_config.proofs.Bounded.{few_below, below_more}
 use Rattle.ps_config.proofs.threads.fresh_thread.Goals as goal
 
 pub overflow_add-thread : goal.overflow_add-thread

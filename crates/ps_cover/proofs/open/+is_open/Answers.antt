@@ -12,7 +12,7 @@ goes_somewhere-loop-image-preserved-in-Closed t c =
     let small : c.in-Some.image < 4294967296 = search rules in
     record {
       none = rw c.from-from.ensures (below_more c.args.small.now (large_of c.args.at.now c.args.atoms.now) c.args.partial.now c.args.thread c.in-Some.image below c.in-Closed.ensures.0);
-      closed = one_failed c.args.small.now (large_of c.args.at.now c.args.atoms.now) c.args.partial.now c.args.thread c.loop-image.closed c.noted-closed.result c.in-Some.image c.loop-image.invariant.closed c.in-Closed.ensures c.noted-closed.ensures;
+      closed = one_failed c.args.small.now (large_of c.args.at.now c.args.atoms.now) c.args.partial.now c.args.thread c.loop-image.closed c.noted-closed.result c.in-Some.image c.loop-image.invariant.closed c.in-Closed.ensures c.noted-closed.ensures.room c.noted-closed.ensures.full;
       fits = omega (arith, small, c.from-from.ensures);
     }
 

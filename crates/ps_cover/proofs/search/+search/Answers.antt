@@ -52,7 +52,7 @@ search-loop-image-preserved-in-Failed t c =
     let small : c.in-Some.image < 4294967296 = search rules in
     record {
       none = rw c.from-from.ensures (below_more c.args.small.now (large_of c.args.at.now c.args.atoms.now) c.args.partial.now (get_or c.args.left.now 0 0) c.in-Some.image below c.in-Failed.ensures.0);
-      failed = one_failed c.args.small.now (large_of c.args.at.now c.args.atoms.now) c.args.partial.now (get_or c.args.left.now 0 0) c.loop-image.failed c.noted-failed.result c.in-Some.image c.loop-image.invariant.failed c.in-Failed.ensures c.noted-failed.ensures;
+      failed = one_failed c.args.small.now (large_of c.args.at.now c.args.atoms.now) c.args.partial.now (get_or c.args.left.now 0 0) c.loop-image.failed c.noted-failed.result c.in-Some.image c.loop-image.invariant.failed c.in-Failed.ensures c.noted-failed.ensures.room c.noted-failed.ensures.full;
       fits = omega (arith, small, c.from-from.ensures);
     }
 

@@ -1,4 +1,5 @@
-use Rattle.std.proofs.Common.{◌≤◌, List, [], length, sym, subst}
+use Rattle.std.proofs.Common.{◌≤◌, ℕ, List, [], length, sym, subst}
+use Rattle.ps_config.specs.Forms.{AreThreads}
 use Rattle.ps_graph.specs.declared.edge.Edge.{Edge}
 use Rattle.ps_step.specs.declared.expansion.Successor.{Successor}
 use Rattle.ps_step.specs.inner.Parts.{AddsSteps, IsFirstWideAt, IsStepBefore}
@@ -38,3 +39,6 @@ pub returns-clause-narrow : goal.returns-clause-narrow
 returns-clause-narrow g c =
     all_narrow c.args.graph.now (g.B.Shown.entries c.args.basis.now) c.args.config.now c.args.fresh c.loop-number.number [] c.loop-number.successors.items
     (subst (λ (es : List Edge). length es ≤ c.loop-number.number) c.as_slice-number-end.ensures c.loop-number-test.false) c.loop-number.invariant
+
+pub add_numbered-requires-clause-threads : goal.add_numbered-requires-clause-threads
+add_numbered-requires-clause-threads g c = subst (λ (ts : List ℕ). AreThreads c.args.config.now ts) (sym c.as_slice.ensures) c.threads-threads.ensures

@@ -1,4 +1,4 @@
-use Rattle.std.proofs.Common.{◌≡◌, List, [], length, subst, sym, ◌∙◌, rules}
+use Rattle.std.proofs.Common.{◌≡◌, List, [], length, subst, rules}
 use Rattle.ps_atom.specs.declared.atom.Atom.{Atom}
 use Rattle.ps_demand.specs.Hitting.{MeetsSet}
 use Rattle.ps_step.proofs.Alone.{hits_all, hits_first, hits_push, one_met}

@@ -1,6 +1,4 @@
-use Rattle.std.proofs.Common.{◌≡◌, rules, of_calls}
-use Rattle.std.specs.List.{dedup}
-use Rattle.std.specs.List.Sorted.{IsSorted}
+use Rattle.std.proofs.Common.{rules, of_calls}
 use Rattle.std.specs.Ordering.{eq_by_cmp, is_lt}
 use Rattle.std.proofs.lemmas.Fn.{always_returns_same, dedup_same}
 use Rattle.ps_atom.specs.Atoms.{atom_cmp}

@@ -1,4 +1,4 @@
-use Rattle.ps_config.proofs.Few.{start_lists}
+use Rattle.ps_config.proofs.Bounded.{start_lists}
 use Rattle.ps_config.proofs.config.Config.start.Goals as goal
 
 pub new-requires-2 : goal.new-requires-2

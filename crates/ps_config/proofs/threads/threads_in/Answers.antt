@@ -1,8 +1,8 @@
 use Rattle.std.proofs.Common.{◌<◌, arith, rules}
 use Rattle.ps_config.specs.Configurations.{threads_at}
-use Rattle.ps_config.proofs.Few.{listed_few}
+use Rattle.ps_config.proofs.Bounded.{listed_few}
 use Rattle.ps_config.proofs.Nexts.{listed_more, listed_all}
-use Rattle.ps_cover.proofs.threads.threads_in.Goals as goal
+use Rattle.ps_config.proofs.threads.threads_in.Goals as goal
 
 pub with-threads-requires : goal.with-threads-requires
 with-threads-requires c =

@@ -1,7 +1,7 @@
 use Rattle.std.proofs.Common.{◌≤◌, ◌-◌, ◌^◌}
 use Rattle.ps_config.specs.Configurations.{threads_at}
 use Rattle.ps_config.proofs.Nexts.{CountedBelow}
-use Rattle.ps_config.proofs.threads.thread_count.Given as goal
+use Rattle.ps_config.proofs.threads.counted.Given as goal
 
 -- so many threads are below the bound
 abbrev pub invariant-loop-thread : goal.invariant-loop-thread

@@ -1,20 +1,20 @@
 //! A few numbers, which take no memory.
-ghost use Rattle.std.specs.Prelude.{◌≡◌, ◌++◌, ◌∷◌, ◌<◌, ◌≤◌, ◌⊎◌, [], length, take};
-ghost use Rattle.ps_cover.specs.Zeros.{AreZeroFrom};
+ghost use Rattle.std.specs.Prelude.{◌≡◌, ◌++◌, ◌∷◌, ◌<◌, ◌≤◌, [], length, take};
+ghost use Rattle.ps_config.specs.Zeros.{AreZeroFrom};
 
-use ps_config::MOST_THREADS;
+use crate::config::MOST_THREADS;
 use std::marker::Model;
 
 /// At most as many numbers as a configuration has threads.
 #[derive(Drop)]
-pub(crate) struct Few {
+pub struct Few {
     numbers: [u32; MOST_THREADS],
     count: usize,
 }
 
 impl Model for Few {
     ghost use Rattle.std.specs.Prelude.{◌≤◌, ℕ, List, take};
-    ghost use Rattle.ps_cover.specs.Zeros.{AreZeroFrom};
+    ghost use Rattle.ps_config.specs.Zeros.{AreZeroFrom};
     ghost use Rattle.ps_config.specs.declared.config.TheConstants.{MOST_THREADS};
 
     ghost Value = { List ℕ };
@@ -25,6 +25,7 @@ impl Model for Few {
 }
 
 impl Few {
+    /// No numbers.
     pub fn none() -> Few
         ensures { result ≡ [] }
     {
@@ -34,6 +35,7 @@ impl Few {
         }
     }
 
+    /// How many there are.
     pub fn len(&self) -> usize
         ensures len { result ≡ length self.now }
         ensures few { result ≤ MOST_THREADS }
@@ -41,6 +43,7 @@ impl Few {
         self.count
     }
 
+    /// The numbers in their order.
     pub fn as_slice(&self) -> &[u32]
         ensures { result.now ≡ self.now }
     {
@@ -60,6 +63,7 @@ impl Few {
         }
     }
 
+    /// The same numbers.
     pub fn copied(&self) -> Few
         ensures { result ≡ self.now }
     {
@@ -71,7 +75,8 @@ impl Few {
 
     /// The same with one more at the end where there is room, else the same.
     pub fn noted(&self, number: u32) -> Few
-        ensures { (result ≡ self.now ++ number ∷ []) ⊎ (result ≡ self.now) }
+        ensures room { length self.now < MOST_THREADS → result ≡ self.now ++ number ∷ [] }
+        ensures full { MOST_THREADS ≤ length self.now → result ≡ self.now }
     {
         if self.len() < MOST_THREADS {
             self.with(number)
