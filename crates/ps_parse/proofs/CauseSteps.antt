@@ -10,7 +10,9 @@ use Rattle.ps_term.specs.declared.var.Var.{Var}
 use Rattle.ps_tree.specs.declared.limit_name.LimitName.TheVariants as limit
 use Rattle.ps_parse.specs.declared.read_refusal.ReadRefusal.{ReadRefusal}
 use Rattle.ps_parse.specs.declared.read_refusal.ReadRefusal.TheVariants as refusal
-use Rattle.ps_parse.specs.Causes.{words_at, is_declaration, declared_in, is_after_factor, count_of, rows_passed, Level, atomic_block, levels_with, levels, opens_level, GivesRows, IsCauseAt, IsCause, HasCauseOf, IsClean, rank, IsFirstCause}
+use Rattle.ps_parse.specs.declared.level.Level.{Level}
+use Rattle.ps_parse.specs.declared.level.Level.TheVariants as level
+use Rattle.ps_parse.specs.Causes.{words_at, is_declaration, declared_in, is_after_factor, count_of, rows_passed, levels_with, levels, opens_level, GivesRows, IsCauseAt, IsCause, HasCauseOf, IsClean, rank, IsFirstCause}
 use Rattle.ps_grammar.specs.Declarations.{most_globals, most_levels, most_locals, most_rows}
 use Rattle.ps_grammar.specs.Names.{Names, variable_of_name}
 use Rattle.ps_parse.specs.Reads.{refusal_place}
@@ -71,7 +73,7 @@ pub record Allows (back : List Word) (w : Word) (ahead : List Word) : Type 0 whe
   pub linear : w.kind ≡ kind.Name → is_after_factor back ≡ false
   pub globals : w.kind ≡ kind.Name → begins_with kind.Global back ≡ true → count_of kind.Global back ≤ most_globals
   pub locals : w.kind ≡ kind.Name → begins_with kind.Local back ≡ true → count_of kind.Local back ≤ most_locals
-  pub loops : w.kind ≡ kind.While → ¬ Contains (levels back) atomic_block
+  pub loops : w.kind ≡ kind.While → ¬ Contains (levels back) level.AtomicBlock
   pub rows : opens_item w.kind ≡ true → (rows : ℕ) → GivesRows (w ∷ ahead) rows → rows_passed back + rows ≤ most_rows
   pub depth : opens_level w.kind ≡ true → length (levels back) < most_levels
 
@@ -129,7 +131,7 @@ opening back w ahead k h few e =
     marked back w ahead k a.0 e (λ i. test_clash w opens_item e a.1 i) (λ i. few)
 
 -- `while`, where no atomic block is open
-pub looping : (back : List Word) (w : Word) (ahead : List Word) → ¬ Contains (levels back) atomic_block → w.kind ≡ kind.While → Allows back w ahead
+pub looping : (back : List Word) (w : Word) (ahead : List Word) → ¬ Contains (levels back) level.AtomicBlock → w.kind ≡ kind.While → Allows back w ahead
 looping back w ahead out e = record {
   known = λ i. kind_clash w e refl i;
   new = λ i. kind_clash w e refl i;
@@ -246,17 +248,17 @@ least_limit back w ws k e c other h = omega arith
 pub depth_blamed : {t : Whole} {names : Names} {back : List Word} {w : Word} {ws : List Word} {end : Place} (k : TokenKind) → In t names back (record { words = w ∷ ws; end = end }) → w.kind ≡ k → (is_kind k kind.Name || is_kind k kind.While) ≡ false → opens_level k ≡ true → most_levels ≤ length (levels back) → Blamed t (refusal.Limit w.place limit.Depth)
 depth_blamed {back = back} {w = w} {ws = ws} k h e c o many = blame (refusal.Limit w.place limit.Depth) h refl (ap opens_level e ∙ o, many) (least_limit back w ws k e c)
 
-least_loop : (back : List Word) (w : Word) (ws : List Word) → w.kind ≡ kind.While → (other : ReadRefusal) → IsCauseAt back w ws other → 4 ≤ rank other
+pub least_loop : (back : List Word) (w : Word) (ws : List Word) → w.kind ≡ kind.While → (other : ReadRefusal) → IsCauseAt back w ws other → 4 ≤ rank other
 least_loop back w ws e (refusal.UnknownName p) h = kind_clash w e refl h.0
 least_loop back w ws e (refusal.Twice p) h = kind_clash w e refl h.0
 least_loop back w ws e (refusal.NotLinear p) h = kind_clash w e refl h.0
 least_loop back w ws e (refusal.Grammar p) h = absurd h
 least_loop back w ws e other h = omega arith
 
-pub loop_blamed : {t : Whole} {names : Names} {back : List Word} {w : Word} {ws : List Word} {end : Place} → In t names back (record { words = w ∷ ws; end = end }) → w.kind ≡ kind.While → Contains (levels back) atomic_block → Blamed t (refusal.LoopInAtomic w.place)
+pub loop_blamed : {t : Whole} {names : Names} {back : List Word} {w : Word} {ws : List Word} {end : Place} → In t names back (record { words = w ∷ ws; end = end }) → w.kind ≡ kind.While → Contains (levels back) level.AtomicBlock → Blamed t (refusal.LoopInAtomic w.place)
 loop_blamed {back = back} {w = w} {ws = ws} h e inside = blame (refusal.LoopInAtomic w.place) h refl (e, inside) (least_loop back w ws e)
 
-least_unknown : (back : List Word) (w : Word) (ws : List Word) → is_after_factor back ≡ false → (other : ReadRefusal) → IsCauseAt back w ws other → 2 ≤ rank other
+pub least_unknown : (back : List Word) (w : Word) (ws : List Word) → is_after_factor back ≡ false → (other : ReadRefusal) → IsCauseAt back w ws other → 2 ≤ rank other
 least_unknown back w ws l (refusal.NotLinear p) h = absurd (true≢false (sym h.1 ∙ l))
 least_unknown back w ws l (refusal.Grammar p) h = absurd h
 least_unknown back w ws l other h = omega arith

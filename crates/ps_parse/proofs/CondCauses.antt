@@ -9,7 +9,9 @@ use Rattle.ps_tree.specs.declared.cond.Cond.{Cond}
 use Rattle.ps_tree.specs.declared.cond.Cond.TheVariants as cond
 use Rattle.ps_tree.specs.declared.limit_name.LimitName.TheVariants as limit
 use Rattle.ps_parse.specs.declared.read_refusal.ReadRefusal.TheVariants.{Limit}
-use Rattle.ps_parse.specs.Causes.{Level, parens, negation, without_negations, closed, levels, levels_with, opens_level}
+use Rattle.ps_parse.specs.declared.level.Level.{Level}
+use Rattle.ps_parse.specs.declared.level.Level.TheVariants as level
+use Rattle.ps_parse.specs.Causes.{without_negations, closed, levels, levels_with, opens_level}
 use Rattle.ps_parse.specs.Inner.Conds.{members_at, conj_with, cond_with, opens_at, unary_at, cond_at, test_at, parens_at}
 use Rattle.ps_grammar.specs.Declarations.{most_levels}
 use Rattle.ps_grammar.specs.Names.{Names}
@@ -22,18 +24,10 @@ use Rattle.ps_parse.proofs.Steps.{one_kind}
 use Rattle.ps_parse.proofs.Guards.{Keeps, keeps_end, keeps_more}
 use Rattle.ps_parse.proofs.SumGuards.{all_signs}
 use Rattle.ps_parse.proofs.CauseSteps.{Whole, In, Blamed, opens_item, has_causes, plain, opening, Fresh, joins, fresh_word, fresh_star, level_word, fresh_linear, depth_blamed, then_keeps, if_keeps, after_keeps, found_word, word_keeps}
+use Rattle.ps_parse.proofs.OpenLevels.{Settles, settled_again}
 use Rattle.ps_parse.proofs.SumCauses.{Past, LevelsAre, past_as, mark_keeps, while_keeps, relation_keeps}
 
 -- ---- levels
-
--- these levels are open once each `!` is ended
-abbrev pub Settles : List Level → List Word → Type 0
-Settles ls back = without_negations (levels back) ≡ ls
-
-settled_again : (ls : List Level) → without_negations (without_negations ls) ≡ without_negations ls
-settled_again [] = refl
-settled_again (negation ∷ ls) = settled_again ls
-settled_again (l ∷ ls) = refl
 
 -- a word that opens a level, where fewer are open than may be
 pub opening_keeps : {t : Whole} {names : Names} {back : List Word} {at : WordsAhead} {after : Bool} {ls : List Level} (k : TokenKind) → (is_kind k kind.Name || is_kind k kind.While || opens_item k) ≡ false → joins k ≡ false → is_kind k kind.Atomic ≡ false → length ls < most_levels
@@ -114,12 +108,12 @@ unary_keeps t names n (suc more) ls room back at h f o =
     if_keeps (next_is kind.Not at) _ _ _ _
     (λ on.
     then_keeps _ _ _ _ _ (after_keeps kind.Not _ _ _ _ _ (opening_keeps kind.Not refl refl refl (omega (arith, room)) h f o) (λ w p.
-    unary_keeps t names n more (negation ∷ ls) (omega (arith, room)) p.back w.1 p.here p.fresh p.so)) (λ c p.
+    unary_keeps t names n more (level.Negation ∷ ls) (omega (arith, room)) p.back w.1 p.here p.fresh p.so)) (λ c p.
     keeps_end _ _ _ (past_as _ _ p (λ b e. e))))
     (λ off. if_keeps (next_is kind.OpenParen at) _ _ _ _
     (λ on.
     then_keeps _ _ _ _ _ (after_keeps kind.OpenParen _ _ _ _ _ (opening_keeps kind.OpenParen refl refl refl (omega (arith, room)) h f o) (λ w p.
-    cond_with_keeps t names (parens ∷ ls) (unary_at (Some names) n more) n (unary_keeps t names n more (parens ∷ ls) (omega (arith, room))) p.back w.1 p.here p.fresh p.so)) (λ c p.
+    cond_with_keeps t names (level.Parens ∷ ls) (unary_at (Some names) n more) n (unary_keeps t names n more (level.Parens ∷ ls) (omega (arith, room))) p.back w.1 p.here p.fresh p.so)) (λ c p.
     then_keeps _ _ _ _ _ (mark_keeps kind.CloseParen refl refl refl p.here p.fresh refl) (λ w q.
     keeps_end _ _ _ (past_as _ _ q (λ b e. ap without_negations (e ∙ ap (λ (xs : List Level). without_negations (closed xs)) p.so) ∙ settled_again ls)))))
     (λ off'. rel_keeps n h f o))

@@ -16,6 +16,7 @@ use Rattle.ps_parse.specs.declared.read_refusal.ReadRefusal.TheVariants as refus
 use Rattle.ps_parse.specs.Inner.Blocks.{ended_at}
 use Rattle.ps_parse.specs.Causes.{words_at, is_declaration, declared_in, is_after_factor, count_of, rows_passed, levels_with, levels, opens_level, GivesRows, IsCauseAt, rank}
 use Rattle.ps_grammar.specs.Declarations.{Declared, most_globals, most_locals, most_rows, nothing_declared, names_of}
+use Rattle.ps_parse.specs.Inner.Passed.{has_name, ones}
 use Rattle.ps_parse.specs.Inner.Items.{is_some_variable, refused_name, new_name_at, signed_number_ahead, declared_value_ahead, item_rows, global_at, local_at, init_at, counted_item_at, with_rows, item_at, has_item, items_at}
 use Rattle.ps_grammar.specs.Names.{Names, variable_of_name}
 use Rattle.ps_parse.specs.Inner.Sums.{init_sign_of, relation_at}
@@ -26,9 +27,10 @@ use Rattle.ps_parse.proofs.Steps.{Finds, found_if}
 use Rattle.ps_parse.proofs.SumGuards.{init_signs}
 use Rattle.ps_parse.proofs.DeclarationGuards.{with_global}
 use Rattle.ps_parse.proofs.Guards.{Keeps, keeps_end, keeps_found, keeps_more}
-use Rattle.ps_parse.proofs.ItemRows.{ones, weight, count_of_weight, Tallies, item_tallies}
+use Rattle.ps_parse.proofs.ItemRows.{Tallies, item_tallies}
+use Rattle.ps_parse.proofs.Weights.{weight, count_of_weight}
 use Rattle.ps_parse.proofs.RowLaws.{rows_given, rows_counted}
-use Rattle.ps_parse.proofs.NamesDeclared.{has_name, Knows, knows_none, knows_global, knows_local, contains_named, named_contains, contains_known, not_contains}
+use Rattle.ps_parse.proofs.NamesDeclared.{Knows, knows_none, knows_global, knows_local, contains_named, named_contains, contains_known, not_contains}
 use Rattle.ps_parse.proofs.CauseSteps.{Whole, In, Blamed, opens_item, Allows, no_cause, kind_clash, test_clash, marked, has_causes, stepped, Fresh, joins, fresh_word, level_word, blame, fresh_linear, least_limit, then_keeps, if_keeps, after_keeps, found_word}
 use Rattle.ps_parse.proofs.SumCauses.{Past, LevelsAre, mark_keeps, while_keeps, relation_keeps}
 
@@ -135,13 +137,13 @@ record Declaring (t : Whole) (names : Names) (back : List Word) (at : WordsAhead
   pub factor : is_after_factor back ≡ false
   pub level : levels back ≡ []
 
-least_twice : (back : List Word) (w : Word) (ws : List Word) → is_declaration back ≡ true → is_after_factor back ≡ false → (other : ReadRefusal) → IsCauseAt back w ws other → 3 ≤ rank other
+pub least_twice : (back : List Word) (w : Word) (ws : List Word) → is_declaration back ≡ true → is_after_factor back ≡ false → (other : ReadRefusal) → IsCauseAt back w ws other → 3 ≤ rank other
 least_twice back w ws d f (refusal.UnknownName p) h = absurd (true≢false (sym d ∙ h.1))
 least_twice back w ws d f (refusal.NotLinear p) h = absurd (true≢false (sym h.1 ∙ f))
 least_twice back w ws d f (refusal.Grammar p) h = absurd h
 least_twice back w ws d f other h = omega arith
 
-least_full : (back : List Word) (w : Word) (ws : List Word) → w.kind ≡ kind.Name → is_declaration back ≡ true → is_after_factor back ≡ false → ¬ Contains (declared_in back) w.text → (other : ReadRefusal) → IsCauseAt back w ws other → 5 ≤ rank other
+pub least_full : (back : List Word) (w : Word) (ws : List Word) → w.kind ≡ kind.Name → is_declaration back ≡ true → is_after_factor back ≡ false → ¬ Contains (declared_in back) w.text → (other : ReadRefusal) → IsCauseAt back w ws other → 5 ≤ rank other
 least_full back w ws e d f new (refusal.UnknownName p) h = absurd (true≢false (sym d ∙ h.1))
 least_full back w ws e d f new (refusal.NotLinear p) h = absurd (true≢false (sym h.1 ∙ f))
 least_full back w ws e d f new (refusal.Grammar p) h = absurd h
@@ -150,7 +152,7 @@ least_full back w ws e d f new (refusal.LoopInAtomic p) h = kind_clash w e refl 
 least_full back w ws e d f new other h = omega arith
 
 -- the limits of names that are kept
-record HasRoom (back : List Word) : Type 0 where
+pub record HasRoom (back : List Word) : Type 0 where
   pub globals : begins_with kind.Global back ≡ true → count_of kind.Global back ≤ most_globals
   pub locals : begins_with kind.Local back ≡ true → count_of kind.Local back ≤ most_locals
 
@@ -162,7 +164,7 @@ record IsNamed (t : Whole) (names : Names) (back : List Word) (y : List ℕ × W
   pub inside : In t names back (record { words = word ∷ y.1.words; end = y.1.end })
   pub allows : Allows back word y.1.words
 
-new_allows : (back : List Word) (w : Word) (ahead : List Word) → w.kind ≡ kind.Name → is_declaration back ≡ true → is_after_factor back ≡ false → ¬ Contains (declared_in back) w.text → HasRoom back → Allows back w ahead
+pub new_allows : (back : List Word) (w : Word) (ahead : List Word) → w.kind ≡ kind.Name → is_declaration back ≡ true → is_after_factor back ≡ false → ¬ Contains (declared_in back) w.text → HasRoom back → Allows back w ahead
 new_allows back w ahead e declares factor new room = record {
   known = λ i h. absurd (true≢false (sym declares ∙ h));
   new = λ i h. new;
@@ -231,10 +233,10 @@ word_is k [] end = record { is = tt }
 word_is k (w ∷ ws) end = found_if (is_kind w.kind k) _ _ _ (record { is = refl }) (record { is = tt })
 
 -- whatever rows the words ahead give, they are within the limit
-record RowsFit (back ws : List Word) : Type 0 where
+pub record RowsFit (back ws : List Word) : Type 0 where
   pub is : (rows : ℕ) → GivesRows ws rows → rows_passed back + rows ≤ most_rows
 
-item_allows : (back : List Word) (w : Word) (ahead : List Word) (k : TokenKind) → (is_kind k kind.Name || is_kind k kind.While || opens_level k) ≡ false → RowsFit back (w ∷ ahead) → w.kind ≡ k → Allows back w ahead
+pub item_allows : (back : List Word) (w : Word) (ahead : List Word) (k : TokenKind) → (is_kind k kind.Name || is_kind k kind.While || opens_level k) ≡ false → RowsFit back (w ∷ ahead) → w.kind ≡ k → Allows back w ahead
 item_allows back w ahead k h fit e =
     let a : ((is_kind k kind.Name || is_kind k kind.While) ≡ false) × (opens_level k ≡ false) = or_parts _ _ h in
     marked back w ahead k a.0 e (λ i. fit.is) (λ i. test_clash w opens_level e a.1 i)
@@ -257,7 +259,7 @@ item_declares {back = back} {w = w} k d f l s after e i = record {
   level = level_word w k back false [] e s.fresh.atomic s.level ∙ l;
 }
 
-count_more : (k : TokenKind) (w : Word) (back : List Word) → w.kind ≡ k → is_kind k k ≡ true → count_of k (w ∷ back) ≡ suc (count_of k back)
+pub count_more : (k : TokenKind) (w : Word) (back : List Word) → w.kind ≡ k → is_kind k k ≡ true → count_of k (w ∷ back) ≡ suc (count_of k back)
 count_more k w back e itself =
     let a : count_of k (w ∷ back) ≡ ones k w.kind + weight (ones k) back = count_of_weight k (w ∷ back) in
     let b : ones k w.kind ≡ 1 = ap (ones k) e ∙ cond-true _ _ _ itself in
@@ -265,7 +267,7 @@ count_more k w back e itself =
     omega (arith, a, b, c)
 
 -- a word that was passed is of one kind
-not_begins : {A : Type 0} (w : Word) (back : List Word) (k j : TokenKind) → w.kind ≡ k → is_kind k j ≡ false → begins_with j (w ∷ back) ≡ true → A
+pub not_begins : {A : Type 0} (w : Word) (back : List Word) (k j : TokenKind) → w.kind ≡ k → is_kind k j ≡ false → begins_with j (w ∷ back) ≡ true → A
 not_begins w back k j e no' h = absurd (true≢false (sym h ∙ ap (λ (i : TokenKind). is_kind i j) e ∙ no'))
 
 -- ---- items
@@ -367,7 +369,7 @@ read_keeps : (t : Whole) (d : Declared) (at : WordsAhead) → length at.words �
 unfolding item_at
 read_keeps t d at room item s =
     let n : ℕ = length t.words in
-    let same : d.rows ≡ rows_passed s.back = s.tallies.rows in
+    let same : d.rows ≡ rows_passed s.back = s.tallies.counts.rows in
     let within : d.rows ≤ most_rows = s.tallies.within in
     if_keeps (nat_lt most_rows (d.rows + item_rows n at)) _ _ _ _
     (λ e.
@@ -375,7 +377,7 @@ read_keeps t d at room item s =
     record { is = rows_blamed t (names_of d) s.back at.words at.end (item_rows n at) s.stands.inside item (rows_given n at room (omega (arith, many, within))) (omega (arith, many, same)) })
     (λ e.
     let few : d.rows + item_rows n at ≤ most_rows = ltb-false most_rows (d.rows + item_rows n at) e in
-    counted_keeps t n (with_rows (d.rows + item_rows n at) d) s.back at s.stands s.tallies.globals s.tallies.locals
+    counted_keeps t n (with_rows (d.rows + item_rows n at) d) s.back at s.stands s.tallies.counts.globals s.tallies.counts.locals
     (record { is = λ rows g. let counted : rows ≤ item_rows n at = rows_counted n at rows room g in omega (arith, few, same, counted) }))
 
 item_keeps : (t : Whole) (d : Declared) (at : WordsAhead) → has_item at ≡ true → Declares t d at → Keeps (item_at d (length t.words) at) (λ y. Declares t y.0 y.1) (Blamed t)
@@ -407,5 +409,5 @@ declares_none t = record {
     fresh = record { declaration = refl; factor = refl; atomic = refl };
     level = refl;
   };
-  tallies = record { rows = refl; within = omega arith; globals = refl; locals = refl };
+  tallies = record { counts = record { rows = refl; globals = refl; locals = refl }; within = omega arith };
 }

@@ -8,13 +8,9 @@ use Rattle.std.proofs.lemmas.Slice.Eq.{bytes_eq-Decides}
 use Rattle.ps_term.specs.declared.var.Var.{Var}
 use Rattle.ps_term.specs.declared.var.Var.TheVariants.{Global, Local}
 use Rattle.ps_parse.specs.Inner.Items.{is_some_variable}
+use Rattle.ps_parse.specs.Inner.Passed.{has_name}
 use Rattle.ps_grammar.specs.Declarations.{names_of, nothing_declared}
 use Rattle.ps_grammar.specs.Names.{Names, first_of, position_from, variable_of_name}
-
--- the name is in the list
-abbrev pub has_name : List ℕ → List (List ℕ) → Bool
-has_name y [] = false
-has_name y (x ∷ xs) = bytes_eq x y || has_name y xs
 
 abbrev is_there : {A : Type 0} → Option A → Bool
 is_there (Some x) = true
@@ -50,7 +46,7 @@ known_is names y =
 
 -- ---- one name more
 
-has_name-append : (y : List ℕ) (xs ys : List (List ℕ)) → has_name y (xs ++ ys) ≡ (has_name y xs || has_name y ys)
+pub has_name-append : (y : List ℕ) (xs ys : List (List ℕ)) → has_name y (xs ++ ys) ≡ (has_name y xs || has_name y ys)
 has_name-append y [] ys = refl
 has_name-append y (x ∷ xs) ys = by_test (bytes_eq x y) (has_name-append y xs ys)
   where

@@ -15,17 +15,17 @@ use Rattle.ps_tree.specs.declared.limit_name.LimitName.TheVariants as limit
 use Rattle.ps_tree.specs.declared.program.Program.{Program}
 use Rattle.ps_grammar.specs.Programs.{IsProgram, IsProgramText}
 use Rattle.ps_grammar.specs.Words.{Word, words_of}
-use Rattle.ps_parse.specs.Causes.{AreRefused, HasCauseOf, HasNoCause, IsCause, IsCauseAt, IsFaultIfSaid, opens_level, rank, words_at}
+use Rattle.ps_parse.specs.Causes.{AreRefused, HasCauseOf, IsCause, IsCauseAt, IsFaultIfSaid, opens_level, rank, words_at}
 use Rattle.ps_parse.specs.Inner.Items.{program_in}
 use Rattle.ps_parse.specs.Kinds.{begins_with, is_kind, place_of_next}
-use Rattle.ps_parse.specs.Reads.{IsFirstGrammarFault, IsText, PassesGrammar, StandsInText, refusal_place}
+use Rattle.ps_parse.specs.Reads.{IsFirstGrammarFault, PassesGrammar, StandsInText, refusal_place}
 use Rattle.ps_parse.specs.Texts.{GrammarIsFault, IsAnswered, IsFirstRefusal, IsInText, IsRefused, end_of}
 use Rattle.ps_parse.specs.declared.read_refusal.ReadRefusal.{ReadRefusal}
 use Rattle.ps_parse.specs.declared.read_refusal.ReadRefusal.TheVariants as refusal
 use Rattle.ps_parse.proofs.CauseSteps.{rows_begin}
-use Rattle.ps_parse.proofs.Guards.{alike_itself}
 use Rattle.ps_parse.proofs.OneAnswer.{no_program, not_after_fault, not_at_fault, one_fault}
-use Rattle.ps_parse.proofs.ProgramCauses.{program_of_clean, program_of_first}
+use Rattle.ps_parse.proofs.ProgramCauses.{program_of_first}
+use Rattle.ps_parse.proofs.ProgramsClean.{program_of_clean}
 use Rattle.ps_parse.proofs.ProgramGuards.{program_of_found, program_of_grammar, program_of_refused}
 use Rattle.ps_parse.proofs.Spots.{Ascend, Same, cause_moved, clean_before, length_passed, one_spot, passed, same_spot, words_ascend}
 use Rattle.ps_parse.proofs.Steps.{one_kind}
@@ -185,24 +185,6 @@ fault_said words end e h = tt
 
 pub refused_words : (words : List Word) (end : Place) (e : ReadRefusal) → program_in words end ≡ Err e → AreRefused words end e
 refused_words words end e h = record { first = program_of_first words end e h; in_text = program_of_refused words end e h; fault = fault_said words end e h }
-
--- A text of the grammar in which no word has a cause of a refusal is a program.
-pub program_of_text : (words : List Word) → IsText words → HasNoCause words → (p : Program) × IsProgramText words p
-program_of_text words text none = by_answer (program_in words end) refl
-  where
-    end : Place
-    end = record { line = 0; column = 0 }
-
-    refused : (e : ReadRefusal) → AreRefused words end e → ⊥
-    refused e a =
-        elim (sort_of e) [
-          | inl q ↦ (let f : IsFirstGrammarFault words end q.0 = (as_fault words end e q.0 q.1 a).fault in f.stops f.rest (alike_itself f.rest) (subst IsText f.split text))
-          | inr h ↦ none a.first.back a.first.ahead a.first.split e (h a.first.back a.first.ahead a.first.cause)
-        ]
-
-    by_answer : (r : Result Program ReadRefusal) → program_in words end ≡ r → (p : Program) × IsProgramText words p
-    by_answer (Ok p) h = (p, program_of_found words end p h)
-    by_answer (Err e) h = absurd (refused e (refused_words words end e h))
 
 -- ---- of bytes
 

@@ -1,32 +1,30 @@
 -- The law of causes of refusals of whole programs: a refusal stands at the first word that has a cause of one.
-use Rattle.std.proofs.Common.{◌≡◌, ℕ, false, List, [], ◌∷◌, length, Some, Result, Ok, Err, refl, subst}
+use Rattle.std.proofs.Common.{◌≡◌, ℕ, false, List, [], ◌∷◌, length, Some, Err, refl}
 use Rattle.ps_token.specs.declared.place.Place.{Place}
 use Rattle.ps_token.specs.declared.token_kind.TokenKind.TheVariants as kind
 use Rattle.ps_parse.specs.declared.read_refusal.ReadRefusal.{ReadRefusal}
 use Rattle.ps_parse.specs.Inner.Blocks.{block_at}
-use Rattle.ps_tree.specs.declared.program.Program.{Program}
-use Rattle.ps_parse.specs.Causes.{HasNoCause, IsFirstCause}
-use Rattle.ps_grammar.specs.Programs.{IsProgramText}
+use Rattle.ps_parse.specs.Causes.{IsFirstCause}
 use Rattle.ps_grammar.specs.Declarations.{most_levels, names_of, nothing_declared}
 use Rattle.ps_parse.specs.Inner.Items.{program_at, program_in}
 use Rattle.ps_grammar.specs.Names.{Names}
 use Rattle.ps_grammar.specs.Words.{Word}
 use Rattle.ps_parse.specs.Inner.Reading.{words_end_from}
+use Rattle.ps_parse.proofs.Steps.{Always}
 use Rattle.ps_parse.proofs.Guards.{Keeps, keeps_end}
-use Rattle.ps_parse.proofs.ProgramGuards.{refused_is, program_of_again}
-use Rattle.ps_parse.proofs.Spots.{no_cause_in}
+use Rattle.ps_parse.proofs.ProgramGuards.{refused_is}
 use Rattle.ps_parse.proofs.CauseSteps.{Whole, In, Blamed, Fresh, fresh_linear, grammar_blamed, then_keeps, after_keeps}
 use Rattle.ps_parse.proofs.SumCauses.{mark_keeps}
-use Rattle.ps_parse.proofs.StmtCauses.{outside, block_keeps}
+use Rattle.ps_parse.proofs.OpenLevels.{outside}
+use Rattle.ps_parse.proofs.StmtCauses.{block_keeps}
 use Rattle.ps_parse.proofs.ItemCauses.{declares_none, items_keeps}
 
 -- where the text ends
-end_keeps : {t : Whole} {names : Names} {back : List Word} (ws : List Word) (end : Place) → In t names back (record { words = ws; end = end }) → Fresh false back → Keeps (words_end_from ws) (λ u. HasNoCause t.words) (Blamed t)
-end_keeps {t = t} {back = back} [] end h f = keeps_end _ _ _ (no_cause_in t.words back h.whole h.clean)
+end_keeps : {t : Whole} {names : Names} {back : List Word} (ws : List Word) (end : Place) → In t names back (record { words = ws; end = end }) → Fresh false back → Keeps (words_end_from ws) Always (Blamed t)
+end_keeps [] end h f = keeps_end _ _ _ tt
 end_keeps (w ∷ ws) end h f = record { is = grammar_blamed h (fresh_linear (w ∷ ws) f) }
 
--- Of a program no word has a cause, and a refusal stands at the first word that has one.
-program_keeps : (t : Whole) → Keeps (program_at (length t.words) (record { words = t.words; end = t.end })) (λ p. HasNoCause t.words) (Blamed t)
+program_keeps : (t : Whole) → Keeps (program_at (length t.words) (record { words = t.words; end = t.end })) Always (Blamed t)
 unfolding program_at
 program_keeps t =
     let n : ℕ = length t.words in
@@ -37,17 +35,7 @@ program_keeps t =
 
 -- A refusal stands at the first word that has a cause of one.
 pub program_of_first : (words : List Word) (end : Place) (e : ReadRefusal) → program_in words end ≡ Err e → IsFirstCause words end e
-program_of_first words end e h = refused_is (program_in words end) (λ p. HasNoCause t.words) (Blamed t) e (program_keeps t) h
+program_of_first words end e h = refused_is (program_in words end) Always (Blamed t) e (program_keeps t) h
   where
     t : Whole
     t = record { words = words; end = end }
-
--- No word of a program has a cause of a refusal.
-pub program_of_clean : (words : List Word) (p : Program) → IsProgramText words p → HasNoCause words
-program_of_clean words p is = kept (subst (λ (r : Result Program ReadRefusal). Keeps r (λ q. HasNoCause words) (Blamed t)) (program_of_again words t.end p is) (program_keeps t))
-  where
-    t : Whole
-    t = record { words = words; end = record { line = 0; column = 0 } }
-
-    kept : Keeps {A = Program} (Ok p) (λ q. HasNoCause words) (Blamed t) → HasNoCause words
-    kept k = k.is

@@ -33,7 +33,8 @@ use Rattle.ps_parse.proofs.GuardLoops.{GoesOn, Ends, turn_goes, turn_ends, turn_
 use Rattle.ps_parse.proofs.SumGuards.{relation_text}
 use Rattle.ps_parse.proofs.StmtGuards.{BlockFits, block_guards, block_example}
 use Rattle.ps_parse.proofs.DeclarationGuards.{Allowed, NamesFit, counted_guards, init_item_okay}
-use Rattle.ps_parse.proofs.RowLaws.{rows_of_item, item_rows_again}
+use Rattle.ps_parse.proofs.RowLaws.{item_rows_again}
+use Rattle.ps_parse.proofs.Weights.{rows_of_item}
 
 -- ---- an item, with its rows
 

@@ -27,6 +27,7 @@ use Rattle.ps_parse.proofs.Steps.{one_kind, Takes, takes_then, takes_so, takes_p
 use Rattle.ps_parse.proofs.Guards.{Went, again_of, found_of, keeps_finds, took, name_sort, word_law, word_again, mark_again, mark_found}
 use Rattle.ps_parse.proofs.SumGuards.{SignedText, further_piece, begins_adding, carries, no_both, init_signs, every_init_sign, no_init_sign, SignIn, relation_guards, RelationEnds, all_known}
 use Rattle.ps_parse.proofs.DeclarationGuards.{value_guards}
+use Rattle.ps_parse.proofs.Weights.{rows_of_item}
 
 -- ---- what is counted is at least what the words give, and no more where no `&&` follows
 
@@ -35,12 +36,6 @@ length_pieces ws = sym (length-map ws (λ (w : Word). piece_of_kind w.kind w.tex
 
 next_pieces : (k : TokenKind) (at : WordsAhead) (ps : List Piece) → pieces at.words ≡ ps → next_is k at ≡ begins_piece k ps
 next_pieces k at ps h = begins_pieces k at.words ∙ ap (begins_piece k) h
-
--- how many rows an item of the grammar gives
-abbrev pub rows_of_item : ItemText → ℕ
-rows_of_item (global x v) = rows_of_value (declared_value v)
-rows_of_item (local x) = 0
-rows_of_item (init r rs) = rows_of_relations (r ∷ rs)
 
 -- a word of another kind ends the count
 misses : (k : TokenKind) (rest : WordsAhead → ℕ) (ws : List Word) (end : Place) → begins_with k ws ≡ false → rows_counted_on (λ (w : Word). 0) rest (word_from k ws end) ≡ 0

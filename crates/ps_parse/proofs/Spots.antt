@@ -147,7 +147,7 @@ whole_is (w ∷ back) a b = whole_is back (w ∷ a) b
 pub passed_front : (back ahead : List Word) → words_at back ahead ≡ passed back ++ ahead
 passed_front back ahead = whole_is back [] ahead
 
-length_at : (back ahead : List Word) → length (words_at back ahead) ≡ length back + length ahead
+pub length_at : (back ahead : List Word) → length (words_at back ahead) ≡ length back + length ahead
 length_at [] ahead = omega arith
 length_at (w ∷ back) ahead = let h : length (words_at back (w ∷ ahead)) ≡ length back + length (w ∷ ahead) = length_at back (w ∷ ahead) in omega (arith, h)
 

@@ -1,15 +1,16 @@
 -- The laws of causes of refusals of statements and blocks: after each, the levels are open that were open before it.
-use Rattle.std.proofs.Common.{◌≡◌, ℕ, zero, suc, ◌+◌, Bool, true, false, inl, inr, List, [], ◌∷◌, length, Some, refl, sym, ap, subst, ◌∙◌, arith}
+use Rattle.std.proofs.Common.{◌≡◌, ℕ, zero, suc, ◌+◌, Bool, true, false, List, [], ◌∷◌, length, Some, refl, sym, ap, subst, ◌∙◌, arith}
 use Rattle.std.specs.Prelude.{Contains}
 use Rattle.std.proofs.lemmas.Bool.{true≢false}
-use Rattle.std.proofs.lemmas.List.Elements.{Contains-append_left, Contains-append_right, Contains-push, Contains-push_cases, Contains-append_cases}
 use Rattle.ps_token.specs.declared.place.Place.{Place}
 use Rattle.ps_token.specs.declared.token_kind.TokenKind.TheVariants as kind
 use Rattle.ps_parse.specs.declared.read_refusal.ReadRefusal.TheVariants.{LoopInAtomic}
 use Rattle.ps_tree.specs.declared.stmt.Stmt.{Stmt}
 use Rattle.ps_tree.specs.declared.stmt.StmtKind.TheVariants as stmt
 use Rattle.ps_parse.specs.Inner.Blocks.{ended_at, assign_at, havoc_at, cond_stmt_at, skip_at, atomic_at, else_at, if_at, while_stmt_at, kind_at, stmt_at, has_more, block_at}
-use Rattle.ps_parse.specs.Causes.{Level, block, atomic_block, without_negations, block_level, levels}
+use Rattle.ps_parse.specs.declared.level.Level.{Level}
+use Rattle.ps_parse.specs.declared.level.Level.TheVariants as level
+use Rattle.ps_parse.specs.Causes.{without_negations, block_level, levels}
 use Rattle.ps_parse.specs.Inner.Conds.{cond_at, parens_at}
 use Rattle.ps_grammar.specs.Declarations.{most_levels}
 use Rattle.ps_grammar.specs.Names.{Names}
@@ -21,37 +22,9 @@ use Rattle.ps_parse.specs.Kinds.{begins_with, place_of_next}
 use Rattle.ps_parse.proofs.Steps.{one_kind}
 use Rattle.ps_parse.proofs.Guards.{Keeps, keeps_end, keeps_more}
 use Rattle.ps_parse.proofs.CauseSteps.{Whole, In, Blamed, plain, looping, Fresh, fresh_word, level_word, fresh_linear, grammar_blamed, loop_blamed, then_keeps, if_keeps, after_keeps, word_keeps}
+use Rattle.ps_parse.proofs.OpenLevels.{Settles, Matches, matches_block, matches_atomic, settled_block}
 use Rattle.ps_parse.proofs.SumCauses.{Past, LevelsAre, past_as, mark_keeps, while_keeps, variable_keeps, sum_keeps}
-use Rattle.ps_parse.proofs.CondCauses.{Settles, opening_keeps, full_keeps, cond_keeps, parens_keeps}
-
--- ---- atomic blocks
-
--- an atomic block is open, or none is
-abbrev pub Matches : Bool → List Level → Type 0
-Matches true ls = Contains ls atomic_block
-Matches false ls = ¬ Contains ls atomic_block
-
-no_block : block ≡ atomic_block → ⊥
-no_block e = cc
-
-matches_block : (inside : Bool) (ls : List Level) → Matches inside ls → Matches inside (block ∷ ls)
-matches_block true ls h = Contains-append_right (block ∷ []) ls atomic_block h
-matches_block false ls h = λ c.
-    elim (Contains-append_cases (block ∷ []) ls atomic_block c) [
-      | inl d ↦ elim (Contains-push_cases [] block atomic_block d) [ inl n ↦ omega (arith, n.1) | inr e ↦ no_block e ]
-      | inr d ↦ h d
-    ]
-
-matches_atomic : (ls : List Level) → Matches true (atomic_block ∷ ls)
-matches_atomic ls = Contains-append_left (atomic_block ∷ []) ls atomic_block (Contains-push [] atomic_block)
-
--- in the body none is open
-pub outside : Matches false (block_level false ∷ [])
-outside = matches_block false [] (λ c. omega (arith, c.1))
-
-settled_block : (after : Bool) (ls : List Level) → without_negations (block_level after ∷ ls) ≡ block_level after ∷ ls
-settled_block true ls = refl
-settled_block false ls = refl
+use Rattle.ps_parse.proofs.CondCauses.{opening_keeps, full_keeps, cond_keeps, parens_keeps}
 
 -- ---- statements
 
@@ -137,9 +110,9 @@ while_stmt_keeps t names ls true read n more room calm within law back at h f o 
   where
     by_words : (ws : List Word) (end : Place) → In t names back (record { words = ws; end = end }) → begins_with kind.While ws ≡ true → Blamed t (LoopInAtomic (place_of_next ws end))
     by_words [] end here next = absurd (true≢false (sym next))
-    by_words (w ∷ ws) end here next = loop_blamed here (one_kind w.kind kind.While next) (subst (λ (xs : List Level). Contains xs atomic_block) (sym o) within)
+    by_words (w ∷ ws) end here next = loop_blamed here (one_kind w.kind kind.While next) (subst (λ (xs : List Level). Contains xs level.AtomicBlock) (sym o) within)
 while_stmt_keeps t names ls false read n more room calm within law back at h f o on =
-    let out : ¬ Contains (levels back) atomic_block = subst (λ (xs : List Level). ¬ Contains xs atomic_block) (sym o) within in
+    let out : ¬ Contains (levels back) level.AtomicBlock = subst (λ (xs : List Level). ¬ Contains xs level.AtomicBlock) (sym o) within in
     then_keeps _ _ _ _ _ (after_keeps kind.While (parens_at (Some names) n more) _ _ _ _ (word_keeps kind.While h (fresh_linear at.words f) f.declaration (λ w ahead e. looping back w ahead out e)) (λ w p.
     parens_keeps n more room calm p.1 (fresh_word kind.While back refl p.0) (level_word w.0 kind.While back false ls p.0 f.atomic o))) (λ x p.
     then_keeps _ _ _ _ _ (law p.back x.1 p.here p.fresh p.so) (λ y q.

@@ -10,7 +10,8 @@ use Rattle.ps_term.specs.declared.var.Var.{Var}
 use Rattle.ps_parse.specs.declared.read_refusal.ReadRefusal.TheVariants.{Grammar, NotLinear, UnknownName}
 use Rattle.ps_tree.specs.declared.relation.Sign.{Sign}
 use Rattle.ps_tree.specs.declared.relation.Sign.TheVariants as sign
-use Rattle.ps_parse.specs.Causes.{declared_in, is_declaration, is_after_factor, Level, levels, levels_with}
+use Rattle.ps_parse.specs.declared.level.Level.{Level}
+use Rattle.ps_parse.specs.Causes.{declared_in, is_declaration, is_after_factor, levels, levels_with}
 use Rattle.ps_grammar.specs.Names.{Names}
 use Rattle.ps_parse.specs.Inner.Variables.{variable_in, variable_at}
 use Rattle.ps_grammar.specs.Spelling.{sign_kind}

@@ -24,6 +24,7 @@ within_from bytes from (t ∷ ts) to cut inside = (
   record {
     ordered = omega (arith, (first_inside (length bytes) t ts inside).ordered);
     inside = (first_inside (length bytes) t ts inside).inside;
+    spelled = cut.1.text.spelled;
     number = is_number t.kind _ cut.1.text.spelled;
   },
   within_from bytes t.end ts to cut.2 (rest_inside (length bytes) t ts inside),

@@ -6,6 +6,8 @@ use Rattle.ps_token.specs.declared.place.Place.{Place}
 use Rattle.ps_token.specs.declared.token_kind.TokenKind.{TokenKind}
 use Rattle.ps_token.specs.declared.token_kind.TokenKind.TheVariants as kind
 use Rattle.ps_tree.specs.declared.limit_name.LimitName.TheVariants as limit
+use Rattle.ps_parse.specs.declared.level.Level.{Level}
+use Rattle.ps_parse.specs.declared.level.Level.TheVariants as level
 use Rattle.ps_parse.specs.declared.read_refusal.ReadRefusal.{ReadRefusal}
 use Rattle.ps_parse.specs.declared.read_refusal.ReadRefusal.TheVariants as refusal
 use Rattle.ps_tree.specs.declared.relation.Sign.TheVariants as sign
@@ -46,20 +48,11 @@ count_of k back = count_by (λ (w : Word). is_kind w.kind k) back
 abbrev pub rows_passed : List Word → ℕ
 rows_passed back = (2 * count_of kind.Equal back) + (count_of kind.Init back + (count_of kind.And back + count_of kind.EqualEqual back))
 
--- A level that is open: a block, one of `atomic`, a parenthesis, or a `!` whose operand isn't whole.
-pub data Level : Type 0 where
-  block : Level
-  atomic_block : Level
-  parens : Level
-  negation : Level
-
 -- after an operand, which ends each `!` before it
 abbrev pub without_negations : List Level → List Level
 without_negations [] = []
-without_negations (negation ∷ ls) = without_negations ls
-without_negations (block ∷ ls) = block ∷ ls
-without_negations (atomic_block ∷ ls) = atomic_block ∷ ls
-without_negations (parens ∷ ls) = parens ∷ ls
+without_negations (level.Negation ∷ ls) = without_negations ls
+without_negations (l ∷ ls) = l ∷ ls
 
 -- without the level that was opened last
 abbrev pub closed : List Level → List Level
@@ -68,16 +61,16 @@ closed (l ∷ ls) = ls
 
 -- the level that `{` opens, after `atomic` or not
 abbrev pub block_level : Bool → Level
-block_level true = atomic_block
-block_level false = block
+block_level true = level.AtomicBlock
+block_level false = level.Block
 
 -- The levels after a word of the kind, from those before it and whether `atomic` stands before.
 abbrev pub levels_with : Bool → TokenKind → List Level → List Level
 levels_with atomic kind.OpenBrace ls = block_level atomic ∷ ls
 levels_with atomic kind.CloseBrace ls = closed ls
-levels_with atomic kind.OpenParen ls = parens ∷ ls
+levels_with atomic kind.OpenParen ls = level.Parens ∷ ls
 levels_with atomic kind.CloseParen ls = without_negations (closed (without_negations ls))
-levels_with atomic kind.Not ls = negation ∷ ls
+levels_with atomic kind.Not ls = level.Negation ∷ ls
 levels_with atomic kind.And ls = without_negations ls
 levels_with atomic kind.Or ls = without_negations ls
 levels_with atomic kind.Semicolon ls = without_negations ls
@@ -146,7 +139,7 @@ abbrev pub IsCauseAt : List Word → Word → List Word → ReadRefusal → Type
 IsCauseAt back w ahead (refusal.UnknownName p) = (w.kind ≡ kind.Name) × (is_declaration back ≡ false) × ¬ Contains (declared_in back) w.text
 IsCauseAt back w ahead (refusal.Twice p) = (w.kind ≡ kind.Name) × (is_declaration back ≡ true) × Contains (declared_in back) w.text
 IsCauseAt back w ahead (refusal.NotLinear p) = (w.kind ≡ kind.Name) × (is_after_factor back ≡ true)
-IsCauseAt back w ahead (refusal.LoopInAtomic p) = (w.kind ≡ kind.While) × Contains (levels back) atomic_block
+IsCauseAt back w ahead (refusal.LoopInAtomic p) = (w.kind ≡ kind.While) × Contains (levels back) level.AtomicBlock
 IsCauseAt back w ahead (refusal.Limit p limit.Globals) = (w.kind ≡ kind.Name) × (begins_with kind.Global back ≡ true) × (most_globals < count_of kind.Global back)
 IsCauseAt back w ahead (refusal.Limit p limit.Locals) = (w.kind ≡ kind.Name) × (begins_with kind.Local back ≡ true) × (most_locals < count_of kind.Local back)
 IsCauseAt back w ahead (refusal.Limit p limit.Init) = (rows : ℕ) × GivesRows (w ∷ ahead) rows × (most_rows < rows_passed back + rows)

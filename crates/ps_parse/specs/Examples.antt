@@ -4,7 +4,8 @@
 use Rattle.std.specs.Prelude.{◌≡◌, ℕ, ◌≤◌, negsuc, false, List, [], ◌∷◌, ◌++◌, Some}
 use Rattle.ps_grammar.specs.Programs.{IsProgramText}
 use Rattle.ps_grammar.specs.Words.{Word}
-use Rattle.ps_parse.specs.Causes.{GivesRows, IsCauseAt, atomic_block, block, declared_in, is_after_factor, levels, negation, parens, rows_passed, words_at}
+use Rattle.ps_parse.specs.declared.level.Level.TheVariants as level
+use Rattle.ps_parse.specs.Causes.{GivesRows, IsCauseAt, declared_in, is_after_factor, levels, rows_passed, words_at}
 use Rattle.ps_parse.specs.Reads.{IsFirstGrammarFault}
 use Rattle.ps_parse.specs.declared.read_refusal.ReadRefusal.TheVariants as refusal
 use Rattle.ps_term.specs.declared.var.Var.TheVariants.{Global}
@@ -88,11 +89,11 @@ in_atomic = mark kind.Atomic ∷ mark kind.OpenBrace ∷ mark kind.If ∷ mark k
 -- `)` and `&&` end a negation with parentheses, `! x > 0` stays open until `&&`, and `atomic { } {` is outside again
 abbrev pub LevelsAreOpen : Type 0
 LevelsAreOpen =
-    (levels (turned [] negated) ≡ parens ∷ negation ∷ [])
+    (levels (turned [] negated) ≡ level.Parens ∷ level.Negation ∷ [])
     × (levels (turned [] (negated ++ mark kind.CloseParen ∷ mark kind.And ∷ [])) ≡ [])
-    × (levels (turned [] (mark kind.Not ∷ x ∷ mark kind.Greater ∷ zero ∷ [])) ≡ negation ∷ [])
-    × (levels (turned [] in_atomic) ≡ parens ∷ atomic_block ∷ [])
-    × (levels (turned [] (mark kind.Atomic ∷ mark kind.OpenBrace ∷ mark kind.CloseBrace ∷ mark kind.OpenBrace ∷ [])) ≡ block ∷ [])
+    × (levels (turned [] (mark kind.Not ∷ x ∷ mark kind.Greater ∷ zero ∷ [])) ≡ level.Negation ∷ [])
+    × (levels (turned [] in_atomic) ≡ level.Parens ∷ level.AtomicBlock ∷ [])
+    × (levels (turned [] (mark kind.Atomic ∷ mark kind.OpenBrace ∷ mark kind.CloseBrace ∷ mark kind.OpenBrace ∷ [])) ≡ level.Block ∷ [])
 
 -- `global x ; local y ;`
 abbrev pub declarations : List Word

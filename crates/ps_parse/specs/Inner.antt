@@ -9,3 +9,4 @@ pub mod Seen
 pub mod Signed
 pub mod Steps
 pub mod Within
+pub mod Passed

@@ -1,9 +1,9 @@
 //! A place in the words of a program text, from which one word is taken after the other.
 
-ghost use Rattle.std.specs.Prelude.{◌≡◌, ℕ, Ok, IfOk, if◌then◌else◌};
+ghost use Rattle.std.specs.Prelude.{◌≡◌, ℕ, Ok, IfOk, IfSome, option_map, if◌then◌else◌};
 ghost use Rattle.ps_token.specs.declared.token_kind.TokenKind.TheVariants.{Number};
 ghost use Rattle.ps_token.specs.Lexing.{IsNumber};
-ghost use Rattle.ps_parse.specs.Inner.Reading.{WordsAhead, place_at, next_is, next_word, words_end, ReadsTo};
+ghost use Rattle.ps_parse.specs.Inner.Reading.{WordsAhead, place_at, next_is, next_word, words_end, IsTaken, ReadsTo};
 ghost use Rattle.ps_parse.specs.Kinds.{is_kind};
 ghost use Rattle.ps_parse.specs.Promises.{ReadsWhole};
 ghost use Rattle.ps_lines.specs.Steps.{and_then};
@@ -11,6 +11,7 @@ ghost use Rattle.ps_grammar.specs.Words.{words_of};
 ghost use Rattle.ps_parse.specs.Inner.Seen.{seen_word};
 ghost use Rattle.ps_parse.specs.Inner.Steps.{passed};
 ghost use Rattle.ps_parse.specs.Inner.Within.{AreWithin};
+ghost use Rattle.ps_parse.specs.Inner.Passed.{IsSpelledWord};
 ghost use Rattle.ps_parse.specs.Inner.Signed.{signs_of};
 ghost use Rattle.ps_grammar.specs.Numbers.{number_value};
 ghost use Rattle.ps_parse.specs.Inner.Sums.{sign_ahead};
@@ -42,7 +43,8 @@ impl<'a> Model for Cursor<'a> {
     ghost invariant = { λ c. AreWithin c.bytes.now c.tokens.now };
 }
 
-fn is_kind(kind: TokenKind, wanted: TokenKind) -> bool
+/// Whether the kinds are one.
+pub(crate) fn is_kind(kind: TokenKind, wanted: TokenKind) -> bool
     ensures { result ≡ is_kind kind wanted }
 {
     kind == wanted
@@ -153,6 +155,25 @@ impl<'a> Cursor<'a> {
             tokens: self.tokens,
             end: self.end,
         }
+    }
+
+    /// Takes the next word, if there is one.
+    pub(crate) fn take(&mut self) -> Option<Word<'a>>
+        ensures gives { IsTaken self.old self.new (option_map seen_word result) }
+        ensures spelled { IfSome result (λ word. IsSpelledWord (seen_word word)) }
+    {
+        if self.tokens.is_empty() {
+            return None;
+        }
+        let token = self.tokens[0];
+        let bytes = self.bytes;
+        let (_, rest) = self.tokens.split_at(1);
+        self.tokens = rest;
+        Some(Word {
+            kind: token.kind,
+            text: text_of(bytes, token),
+            place: token.place,
+        })
     }
 
     /// Whether the text ends here: `Grammar` at the next word where there is one.

@@ -151,9 +151,13 @@ fn value_rows<'b>(cursor: &mut Cursor<'b>) -> Result<u64, AllocError>
     }
 }
 
-// How many rows an item gives, as far as it is of the grammar.
+/// How many rows an item gives, as far as it is of the grammar.
 #[tactic(auto, unfolding(crate::specs::Inner::Items::item_rows, crate::specs::Inner::Steps::declared_value_at))]
-fn item_rows<'b>(alloc: Global, most: u32, cursor: &mut Cursor<'b>) -> Result<u64, AllocError>
+pub(crate) fn item_rows<'b>(
+    alloc: Global,
+    most: u32,
+    cursor: &mut Cursor<'b>,
+) -> Result<u64, AllocError>
     ensures is { IfOk result (λ rows. rows ≡ item_rows most cursor.old) }
     ensures few { IfOk result (λ rows. rows ≤ 2 * most + 2) }
 {

@@ -6,21 +6,28 @@
 #![tactic(auto)]
 
 mod blocks;
+mod check;
 mod conds;
 mod cursor;
 mod declared;
 mod items;
 pub mod laws;
+mod level;
+mod levels;
 mod parser;
+mod passed;
 mod read_refusal;
 mod reading;
 mod refusal_lines;
 mod scope;
 mod signs;
+mod spot;
 mod sums;
 mod word;
 pub mod worked;
 
+pub use check::first_cause;
 pub use read_refusal::ReadRefusal;
 pub use reading::read_program;
 pub use refusal_lines::refusal_line;
+pub use spot::Spot;

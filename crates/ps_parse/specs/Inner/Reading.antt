@@ -1,5 +1,5 @@
 -- Reading words from left to right, with the first refusal.
-use Rattle.std.specs.Prelude.{◌≡◌, ℕ, zero, suc, Bool, List, [], ◌∷◌, ◌++◌, Result, Ok, Err, if◌then◌else◌}
+use Rattle.std.specs.Prelude.{◌≡◌, ℕ, zero, suc, Bool, List, [], ◌∷◌, ◌++◌, Option, Some, None, Result, Ok, Err, if◌then◌else◌}
 use Rattle.ps_lines.specs.Steps.{Reading, ◌>>=◌}
 use Rattle.ps_token.specs.declared.place.Place.{Place}
 use Rattle.ps_token.specs.declared.token_kind.TokenKind.{TokenKind}
@@ -33,6 +33,11 @@ word_from k (w ∷ ws) end = if is_kind w.kind k then Ok (w, record { words = ws
 
 unfoldable pub next_word : TokenKind → ReadWords Word
 next_word k at = word_from k at.words at.end
+
+-- The first word is taken, or there is none.
+abbrev pub IsTaken : WordsAhead → WordsAhead → Option Word → Type 0
+IsTaken before after None = before.words ≡ []
+IsTaken before after (Some w) = before ≡ record { words = w ∷ after.words; end = after.end }
 
 -- A word of the kind, and then what is read.
 unfoldable pub after_word : {A : Type 0} → TokenKind → ReadWords A → ReadWords A

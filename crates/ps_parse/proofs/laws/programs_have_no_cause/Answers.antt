@@ -1,6 +1,5 @@
 use Rattle.ps_parse.proofs.OneAnswer.{program_is_text}
-use Rattle.ps_parse.proofs.OneRefusal.{program_of_text}
-use Rattle.ps_parse.proofs.ProgramCauses.{program_of_clean}
+use Rattle.ps_parse.proofs.ProgramsClean.{program_of_text, program_of_clean}
 use Rattle.ps_parse.proofs.laws.programs_have_no_cause.Goals as goal
 
 pub returns-clause-text : goal.returns-clause-text
