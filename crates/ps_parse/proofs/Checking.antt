@@ -6,8 +6,7 @@ use Rattle.ps_token.specs.declared.token_kind.TokenKind.TheVariants as kind
 use Rattle.ps_grammar.specs.Words.{Word}
 use Rattle.ps_parse.specs.Causes.{HasCauseOf, GivesRows, HasNoCause, IsCauseAt, IsClean, rows_passed, words_at}
 use Rattle.ps_parse.specs.Inner.Items.{item_rows}
-use Rattle.ps_parse.specs.Inner.Passed.{Blames, IsChecked, IsSpelledWord, MostRows, Tally, Tells, row_weight}
-use Rattle.ps_parse.specs.Parts.{IsSpot}
+use Rattle.ps_parse.specs.Inner.Passed.{Blames, IsChecked, IsLeastCause, IsSpelledWord, IsSpot, MostRows, Tally, Tells, row_weight}
 use Rattle.ps_parse.specs.Inner.Reading.{WordsAhead}
 use Rattle.ps_parse.specs.declared.read_refusal.ReadRefusal.{ReadRefusal}
 use Rattle.ps_parse.specs.declared.read_refusal.ReadRefusal.TheVariants as refusal
@@ -98,7 +97,7 @@ at_word words end t n rows at after w found h room e taken s f =
     }
 
 pub goes_spot : (words : List Word) (end : Place) (t : Tally) (n rows : ℕ) (at after : WordsAhead) (w : Word) (e : ReadRefusal) → Goes words end t at → length words ≤ n → rows ≡ item_rows n at → at ≡ record { words = w ∷ after.words; end = after.end } → IsSpelledWord w → Finding t w rows (Some e)
-    → IsSpot words end t.words e
+    → IsSpot words end (record { before = t.words; place = w.place; refusal = e })
 goes_spot words end t n rows at after w e h room counted taken s f =
     let here : At words end t w after (Some e) = at_word words end t n rows at after w (Some e) h room counted taken s f in
     record {
@@ -115,6 +114,7 @@ goes_spot words end t n rows at after w e h room counted taken s f =
         own = here.blames.cause;
       };
       before_is = here.checked.tells.words;
+      place_is = here.blames.place_is;
     }
 
 pub goes_on : (words : List Word) (end : Place) (t u : Tally) (n rows : ℕ) (at after : WordsAhead) (w : Word) → Goes words end t at → length words ≤ n → rows ≡ item_rows n at → at ≡ record { words = w ∷ after.words; end = after.end } → IsSpelledWord w → Finding t w rows None

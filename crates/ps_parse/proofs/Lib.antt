@@ -19,6 +19,7 @@ pub mod OneAnswer
 pub mod OneRefusal
 pub mod InParts
 pub mod Checking
+pub mod Answered
 pub mod Passing
 pub mod WordCauses
 pub mod Examples

@@ -15,7 +15,7 @@ use Rattle.ps_tree.specs.declared.limit_name.LimitName.TheVariants as limit
 use Rattle.ps_tree.specs.declared.program.Program.{Program}
 use Rattle.ps_grammar.specs.Programs.{IsProgram, IsProgramText}
 use Rattle.ps_grammar.specs.Words.{Word, words_of}
-use Rattle.ps_parse.specs.Causes.{AreRefused, HasCauseOf, IsCause, IsCauseAt, IsFaultIfSaid, opens_level, rank, words_at}
+use Rattle.ps_parse.specs.Causes.{AreRefused, HasCauseOf, HasNoCause, IsCause, IsCauseAt, IsFaultIfSaid, IsFirstCause, opens_level, rank, words_at}
 use Rattle.ps_parse.specs.Inner.Items.{program_in}
 use Rattle.ps_parse.specs.Kinds.{begins_with, is_kind, place_of_next}
 use Rattle.ps_parse.specs.Reads.{IsFirstGrammarFault, PassesGrammar, StandsInText, refusal_place}
@@ -94,26 +94,26 @@ passes e back (w ∷ ahead) c le = tt
 turned : {a b r s : List Word} → Same a b r s → Same b a s r
 turned h = record { back = sym h.back; ahead = sym h.ahead }
 
-both_caused : (words : List Word) (end : Place) (e f : ReadRefusal) (a : AreRefused words end e) (b : AreRefused words end f)
-    → IsCause a.first.back a.first.ahead e → IsCause b.first.back b.first.ahead f → e ≡ f
-both_caused words end e f a b c d = by_order (cases_lt (length a.first.back) (length b.first.back))
+pub one_cause : (words : List Word) (end : Place) (e f : ReadRefusal) (a : IsFirstCause words end e) (b : IsFirstCause words end f)
+    → IsCause a.back a.ahead e → IsCause b.back b.ahead f → e ≡ f
+one_cause words end e f a b c d = by_order (cases_lt (length a.back) (length b.back))
   where
-    same : words_at a.first.back a.first.ahead ≡ words_at b.first.back b.first.ahead
-    same = sym a.first.split ∙ b.first.split
+    same : words_at a.back a.ahead ≡ words_at b.back b.ahead
+    same = sym a.split ∙ b.split
 
-    at_one : Same a.first.back b.first.back a.first.ahead b.first.ahead → e ≡ f
+    at_one : Same a.back b.back a.ahead b.ahead → e ≡ f
     at_one h =
-        let there : IsCause a.first.back a.first.ahead f = cause_moved b.first.back a.first.back b.first.ahead a.first.ahead f (turned h) d in
-        let here : IsCause b.first.back b.first.ahead e = cause_moved a.first.back b.first.back a.first.ahead b.first.ahead e h c in
-        let ranks : rank e ≡ rank f = omega (arith, a.first.first_here f there, b.first.first_here e here) in
-        same_cause a.first.back a.first.ahead e f (place_of_next a.first.ahead end) c there ranks a.first.place_is (b.first.place_is ∙ ap (λ (ws : List Word). Some (place_of_next ws end)) (sym h.ahead))
+        let there : IsCause a.back a.ahead f = cause_moved b.back a.back b.ahead a.ahead f (turned h) d in
+        let here : IsCause b.back b.ahead e = cause_moved a.back b.back a.ahead b.ahead e h c in
+        let ranks : rank e ≡ rank f = omega (arith, a.first_here f there, b.first_here e here) in
+        same_cause a.back a.ahead e f (place_of_next a.ahead end) c there ranks a.place_is (b.place_is ∙ ap (λ (ws : List Word). Some (place_of_next ws end)) (sym h.ahead))
 
-    not_before : (length b.first.back ≡ length a.first.back) ⊎ (length b.first.back < length a.first.back) → e ≡ f
-    not_before (inl h) = at_one (same_spot a.first.back b.first.back a.first.ahead b.first.ahead (sym h) same)
-    not_before (inr h) = absurd (clean_before b.first.back a.first.back b.first.ahead a.first.ahead (sym same) h a.first.first f d)
+    not_before : (length b.back ≡ length a.back) ⊎ (length b.back < length a.back) → e ≡ f
+    not_before (inl h) = at_one (same_spot a.back b.back a.ahead b.ahead (sym h) same)
+    not_before (inr h) = absurd (clean_before b.back a.back b.ahead a.ahead (sym same) h a.first f d)
 
-    by_order : (length a.first.back < length b.first.back) ⊎ (length b.first.back ≤ length a.first.back) → e ≡ f
-    by_order (inl h) = absurd (clean_before a.first.back b.first.back a.first.ahead b.first.ahead same h b.first.first e c)
+    by_order : (length a.back < length b.back) ⊎ (length b.back ≤ length a.back) → e ≡ f
+    by_order (inl h) = absurd (clean_before a.back b.back a.ahead b.ahead same h b.first e c)
     by_order (inr h) = not_before (eq-or-lt_of_le h)
 
 -- where a fault of the grammar is the first refusal, none with a cause is
@@ -166,14 +166,14 @@ one_refusal_of_words words end e f up a b =
       ]
       | inr h ↦ elim (sort_of f) [
         | inl q ↦ absurd (fault_alone words end q.0 e up (as_fault words end f q.0 q.1 b) a (h a.first.back a.first.ahead a.first.cause))
-        | inr k ↦ both_caused words end e f a b (h a.first.back a.first.ahead a.first.cause) (k b.first.back b.first.ahead b.first.cause)
+        | inr k ↦ one_cause words end e f a.first b.first (h a.first.back a.first.ahead a.first.cause) (k b.first.back b.first.ahead b.first.cause)
       ]
     ]
 
 -- ---- programs and refusals
 
-pub not_both : (words : List Word) (end : Place) (p : Program) (e : ReadRefusal) → IsProgramText words p → AreRefused words end e → ⊥
-not_both words end p e is a =
+pub no_program_refused : (words : List Word) (end : Place) (p : Program) (e : ReadRefusal) → IsProgramText words p → AreRefused words end e → ⊥
+no_program_refused words end p e is a =
     elim (sort_of e) [
       | inl q ↦ no_program words end q.0 p (as_fault words end e q.0 q.1 a).fault is
       | inr h ↦ program_of_clean words p is a.first.back a.first.ahead a.first.split e (h a.first.back a.first.ahead a.first.cause)
@@ -195,7 +195,7 @@ one_refusal bytes e f a b =
 
 pub no_refused_program : (bytes : List ℕ) (p : Program) (e : ReadRefusal) → IsProgram bytes p → IsRefused bytes e → ⊥
 no_refused_program bytes p e is a =
-    not_both (words_of bytes a.tokens) (end_of bytes) p e (subst (λ (ts : List Token). IsProgramText (words_of bytes ts) p) (one_list bytes is.tokens a.tokens is.cut a.cut) is.is) a.are
+    no_program_refused (words_of bytes a.tokens) (end_of bytes) p e (subst (λ (ts : List Token). IsProgramText (words_of bytes ts) p) (one_list bytes is.tokens a.tokens is.cut a.cut) is.is) a.are
 
 pub answered : (bytes : List ℕ) (ts : List Token) → AreTokens bytes ts → IsAnswered bytes
 answered bytes ts cut = by_answer (program_in (words_of bytes ts) (end_of bytes)) refl

@@ -2,13 +2,14 @@
 use Rattle.std.proofs.Common.{◌≡◌, ◌⊎◌, inl, inr, ℕ, zero, suc, ◌+◌, ◌-◌, ◌<◌, ◌≤◌, Bool, true, false, List, [], ◌∷◌, ◌++◌, length, take, drop, refl, sym, ap, subst, ◌∙◌, arith}
 use Rattle.std.specs.Prelude.{◌==◌, if◌then◌else◌, slice_range}
 use Rattle.std.proofs.Math.Nat.{eq-or-lt_of_le}
-use Rattle.std.proofs.lemmas.List.{append_cancel_right, length-take}
+use Rattle.std.proofs.lemmas.List.{append-nil, append_cancel_right, length-take}
 use Rattle.ps_token.specs.declared.place.Place.{Place}
 use Rattle.ps_token.specs.declared.token.Token.{Token}
 use Rattle.ps_token.specs.Lexing.{AreTokens, AreUpTo, IsTokenOf, next_place, place_after, place_of, text_begin}
 use Rattle.ps_token.proofs.OneCut.{token_some}
 use Rattle.ps_grammar.specs.Words.{Word, words_of}
 use Rattle.ps_parse.specs.Causes.{IsCause, IsClean, HasNoCause, words_at}
+use Rattle.ps_parse.specs.Examples.{turned}
 use Rattle.ps_parse.specs.Kinds.{place_of_next}
 use Rattle.ps_parse.specs.Texts.{end_of}
 use Rattle.ps_parse.specs.declared.read_refusal.ReadRefusal.{ReadRefusal}
@@ -18,11 +19,11 @@ use Rattle.ps_parse.specs.declared.read_refusal.ReadRefusal.{ReadRefusal}
 abbrev pub IsBefore : Place → Place → Type 0
 IsBefore p q = (p.line < q.line) ⊎ ((p.line ≡ q.line) × (p.column < q.column))
 
-not_before_itself : (p : Place) → IsBefore p p → ⊥
+pub not_before_itself : (p : Place) → IsBefore p p → ⊥
 not_before_itself p (inl h) = absurd (omega (arith, h))
 not_before_itself p (inr h) = absurd (omega (arith, h.1))
 
-before_then : (p q r : Place) → IsBefore p q → IsBefore q r → IsBefore p r
+pub before_then : (p q r : Place) → IsBefore p q → IsBefore q r → IsBefore p r
 before_then p q r (inl h) (inl k) = inl (omega (arith, h, k))
 before_then p q r (inl h) (inr k) = inl (omega (arith, h, k.0))
 before_then p q r (inr h) (inl k) = inl (omega (arith, h.0, k))
@@ -120,11 +121,15 @@ spot_before : (w : Word) (tail rest : List Word) (end : Place) → Ascend (w ∷
 spot_before w [] rest end h = h.0
 spot_before w (v ∷ tail) rest end h = before_then w.place v.place _ h.0 (spot_before v tail rest end h.1)
 
+-- what follows the shorter of two fronts stands before what follows the longer one
+pub longer_before : (words : List Word) (end : Place) (a b r s : List Word) → Ascend words end → words ≡ a ++ r → Longer a b r s → IsBefore (place_of_next r end) (place_of_next s end)
+longer_before words end a b r s up split h =
+    let more : Ascend (h.word ∷ (h.tail ++ s)) end = subst (λ (ws : List Word). Ascend ws end) h.left (ascend_after a r end (subst (λ (ws : List Word). Ascend ws end) split up)) in
+    subst (λ (ws : List Word). IsBefore (place_of_next ws end) (place_of_next s end)) (sym h.left) (spot_before h.word h.tail s end more)
+
 not_later : (words : List Word) (end : Place) (a b r s : List Word) → Ascend words end → words ≡ a ++ r → place_of_next r end ≡ place_of_next s end → Longer a b r s → ⊥
 not_later words end a b r s up split place h =
-    let more : Ascend (h.word ∷ (h.tail ++ s)) end = subst (λ (ws : List Word). Ascend ws end) h.left (ascend_after a r end (subst (λ (ws : List Word). Ascend ws end) split up)) in
-    let same : h.word.place ≡ place_of_next s end = ap (λ (ws : List Word). place_of_next ws end) (sym h.left) ∙ place in
-    not_before_itself (place_of_next s end) (subst (λ (p : Place). IsBefore p (place_of_next s end)) same (spot_before h.word h.tail s end more))
+    not_before_itself (place_of_next s end) (subst (λ (p : Place). IsBefore p (place_of_next s end)) place (longer_before words end a b r s up split h))
 
 one_front : (words : List Word) (end : Place) (a b r s : List Word) → Ascend words end → words ≡ a ++ r → words ≡ b ++ s → place_of_next r end ≡ place_of_next s end → a ≡ b
 one_front words end a b r s up one two place =
@@ -153,6 +158,13 @@ length_at (w ∷ back) ahead = let h : length (words_at back (w ∷ ahead)) ≡ 
 
 pub length_passed : (back : List Word) → length (passed back) ≡ length back
 length_passed back = let h : length (words_at back []) ≡ length back + 0 = length_at back [] in omega (arith, h)
+
+turned_at : (back ws rest : List Word) → words_at (turned back ws) rest ≡ words_at back (ws ++ rest)
+turned_at back [] rest = refl
+turned_at back (w ∷ ws) rest = turned_at (w ∷ back) ws rest
+
+pub passed_turned : (ws : List Word) → passed (turned [] ws) ≡ ws
+passed_turned ws = turned_at [] ws [] ∙ append-nil ws
 
 -- two that stand at one place are at one spot
 pub one_spot : (words : List Word) (end : Place) (back ahead before rest : List Word) → Ascend words end → words ≡ words_at back ahead → words ≡ before ++ rest → place_of_next ahead end ≡ place_of_next rest end → passed back ≡ before
@@ -186,6 +198,24 @@ clean_before a (y ∷ b) r s same lt clean e c = by_order (λ h. clean_before a 
     by_order : (length a < length b → ⊥) → (length a ≡ length b) ⊎ (length a < length b) → ⊥
     by_order later (inl h) = clean.0 e (cause_moved a b r (y ∷ s) e (same_spot a b r (y ∷ s) h same) c)
     by_order later (inr h) = later h
+
+clean_moved : (a b r s : List Word) → Same a b r s → IsClean b s → IsClean a r
+clean_moved a b r s h c = subst (λ (ws : List Word). IsClean ws r) (sym h.back) (subst (λ (ws : List Word). IsClean b ws) (sym h.ahead) c)
+
+-- none stands at one that was passed before
+pub clean_front : (a r b s : List Word) → words_at a r ≡ words_at b s → length a ≤ length b → IsClean b s → IsClean a r
+clean_front [] r b s same le clean = tt
+clean_front (x ∷ a) r [] s same le clean = absurd (omega (arith, le))
+clean_front (x ∷ a) r (y ∷ b) s same le clean = by_order (λ h. clean_front (x ∷ a) r b (y ∷ s) same (omega (arith, h)) clean.1) (eq-or-lt_of_le le)
+  where
+    by_order : (length (x ∷ a) < length (y ∷ b) → IsClean (x ∷ a) r) → (length (x ∷ a) ≡ length (y ∷ b)) ⊎ (length (x ∷ a) < length (y ∷ b)) → IsClean (x ∷ a) r
+    by_order later (inl h) = clean_moved (x ∷ a) (y ∷ b) r s (same_spot (x ∷ a) (y ∷ b) r s h same) clean
+    by_order later (inr h) = later h
+
+-- none stands at any word that was passed where no word has one
+pub clean_in : (words : List Word) → HasNoCause words → (back ahead : List Word) → words ≡ words_at back ahead → IsClean back ahead
+clean_in words none [] ahead split = tt
+clean_in words none (w ∷ back) ahead split = (none back (w ∷ ahead) split, clean_in words none back (w ∷ ahead) split)
 
 -- Where the words that were passed are the whole text, and none has a cause, no word has one.
 pub no_cause_in : (words back : List Word) → words_at back [] ≡ words → IsClean back [] → HasNoCause words

@@ -10,3 +10,4 @@ pub mod Signed
 pub mod Steps
 pub mod Within
 pub mod Passed
+pub mod Decided

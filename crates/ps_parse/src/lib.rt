@@ -9,6 +9,7 @@ mod blocks;
 mod check;
 mod conds;
 mod cursor;
+mod deciding;
 mod declared;
 mod items;
 pub mod laws;
@@ -26,8 +27,6 @@ mod sums;
 mod word;
 pub mod worked;
 
-pub use check::first_cause;
 pub use read_refusal::ReadRefusal;
 pub use reading::read_program;
 pub use refusal_lines::refusal_line;
-pub use spot::Spot;

@@ -2,17 +2,20 @@
 
 ghost use Rattle.std.specs.Prelude.{◌≡◌, ◌+◌, ◌<◌, ◌^◌, length, IfOk, IfErr, Ok, Err};
 ghost use Rattle.ps_token.specs.declared.place.Place.{Place};
-ghost use Rattle.ps_token.specs.Lexing.{IsBadAt};
+ghost use Rattle.ps_token.specs.Lexing.{AreTokens, IsBadAt};
 ghost use Rattle.ps_tree.specs.declared.program.Program.{Program};
 ghost use Rattle.ps_parse.specs.declared.read_refusal.ReadRefusal.TheVariants as refusal;
 ghost use Rattle.ps_parse.specs.Inner.Within.{AreWithin};
 ghost use Rattle.ps_parse.specs.Promises.{ReadsWhole};
 ghost use Rattle.ps_grammar.specs.Words.{words_of};
-ghost use Rattle.ps_parse.specs.Inner.Items.{program_at, program_in};
+ghost use Rattle.ps_parse.specs.Inner.Decided.{AreAnswered};
+ghost use Rattle.ps_parse.specs.Inner.Items.{program_at};
 ghost use Rattle.ps_parse.specs.Texts.{end_of, uncut, TokenIsBad, GrammarIsFault, RefusalIsInText, RefusalIsFirst};
 ghost use Rattle.ps_grammar.specs.Programs.{IsProgram};
 
+use crate::check::first_cause;
 use crate::cursor::Cursor;
+use crate::deciding::decided;
 use crate::items::items;
 use crate::parser::Parser;
 use crate::read_refusal::ReadRefusal;
@@ -42,13 +45,15 @@ fn program<'b>(alloc: Global, most: u32, cursor: &mut Cursor<'b>) -> Result<Prog
 // The program of a text that has these tokens.
 fn program_of(alloc: Global, bytes: &[u8], list: &[Token]) -> Result<Program, ReadRefusal>
     requires room { length bytes.now + 1 < 2 ^ 32 }
+    requires cut { AreTokens bytes.now list.now }
     requires within { AreWithin bytes.now list.now }
     requires few { length list.now < 2 ^ 32 }
-    ensures { ReadsWhole (λ x. x) result
-        (program_in (words_of bytes.now list.now) (end_of bytes.now)) }
+    ensures { AreAnswered (words_of bytes.now list.now) (end_of bytes.now) result }
 {
     let mut cursor = Cursor::new(bytes, list, end_place(bytes));
-    program(alloc, list.len() as u32, &mut cursor)
+    let spot = first_cause(alloc, list.len() as u32, &mut cursor.fork())?;
+    let read = program(alloc, list.len() as u32, &mut cursor);
+    decided(spot, read)
 }
 
 fn uncut(end: TokenEnd) -> ReadRefusal

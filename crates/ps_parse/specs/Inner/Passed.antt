@@ -1,17 +1,20 @@
 -- What is kept of the words that were passed, to find causes of refusals.
-use Rattle.std.specs.Prelude.{◌≡◌, ◌≤◌, ℕ, Bool, true, false, ◌||◌, ◌&&◌, List, [], ◌∷◌, ◌++◌, length, Option, Some, None, nat_lt, if◌then◌else◌}
+use Rattle.std.specs.Prelude.{◌≡◌, ◌<◌, ◌≤◌, ℕ, ◌+◌, Bool, true, false, ◌||◌, ◌&&◌, List, [], ◌∷◌, ◌++◌, length, Option, Some, None, nat_lt, if◌then◌else◌}
 use Rattle.std.specs.Str.{bytes_eq}
 use Rattle.ps_token.specs.Lexing.{IsName, IsSpelled}
+use Rattle.ps_token.specs.declared.place.Place.{Place}
 use Rattle.ps_token.specs.declared.token_kind.TokenKind.{TokenKind}
 use Rattle.ps_token.specs.declared.token_kind.TokenKind.TheVariants as kind
 use Rattle.ps_grammar.specs.Declarations.{most_globals, most_locals}
 use Rattle.ps_grammar.specs.Words.{Word}
-use Rattle.ps_parse.specs.Causes.{GivesRows, IsCauseAt, IsClean, count_of, declared_in, levels, rank, rows_passed, words_at}
+use Rattle.ps_parse.specs.Causes.{GivesRows, HasNoCause, IsCauseAt, IsClean, count_of, declared_in, levels, rank, rows_passed, words_at}
 use Rattle.ps_parse.specs.Kinds.{is_kind}
+use Rattle.ps_parse.specs.Parts.{HasOwnCause}
 use Rattle.ps_parse.specs.Reads.{refusal_place}
 use Rattle.ps_parse.specs.declared.level.Level.{Level}
 use Rattle.ps_parse.specs.declared.level.Level.TheVariants as level
 use Rattle.ps_parse.specs.declared.read_refusal.ReadRefusal.{ReadRefusal}
+use Rattle.ps_parse.specs.declared.spot.Spot.{Spot}
 
 -- ---- kinds
 
@@ -137,3 +140,14 @@ pub record IsChecked (words : List Word) (t : Tally) (ahead : List Word) : Type 
   pub whole : words_at back ahead ≡ words
   pub clean : IsClean back ahead
   pub tells : Tells t back
+
+-- There stands the first word with a cause.
+pub record IsSpot (words : List Word) (end : Place) (spot : Spot) : Type 0 where
+  pub cause : HasOwnCause words end spot.refusal
+  pub before_is : spot.before ≡ length cause.first.back
+  pub place_is : refusal_place spot.refusal ≡ Some spot.place
+
+-- What is found in the words of a text: that none has a cause, or the first one that has.
+abbrev pub Finds : List Word → Place → Option Spot → Type 0
+Finds words end None = HasNoCause words
+Finds words end (Some spot) = IsSpot words end spot

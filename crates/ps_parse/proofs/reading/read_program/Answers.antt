@@ -3,6 +3,9 @@ use Rattle.ps_parse.proofs.TextLaws.{cut_found, cut_only, cut_not_bad, cut_token
 use Rattle.ps_parse.proofs.WordsWithin.{tokens_within, tokens_few}
 use Rattle.ps_parse.proofs.reading.read_program.Goals as goal
 
+pub program_of-requires-clause-cut : goal.program_of-requires-clause-cut
+program_of-requires-clause-cut c = rw c.deref.ensures.value c.in-Ok.ensures.tokens
+
 pub program_of-requires-clause-within : goal.program_of-requires-clause-within
 program_of-requires-clause-within c = rw c.deref.ensures.value (tokens_within c.args.bytes.now c.in-Ok.list.items c.in-Ok.ensures.tokens c.in-Ok.ensures.inside)
 

@@ -1,6 +1,6 @@
 use Rattle.std.proofs.Common.{length}
 use Rattle.ps_parse.proofs.Checking.{Goes}
-use Rattle.ps_parse.proofs.check.cause_ahead.Given as goal
+use Rattle.ps_parse.proofs.check.first_cause.Given as goal
 
 abbrev pub invariant-checking : goal.invariant-checking
 invariant-checking l = Goes l.fn.cursor.words l.fn.cursor.end l.passed l.cursor
