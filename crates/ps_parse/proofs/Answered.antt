@@ -1,12 +1,10 @@
 -- The answer that is decided is the one that words have.
-use Rattle.std.proofs.Common.{◌≡◌, ◌⊎◌, inl, inr, ℕ, ◌+◌, ◌<◌, ◌≤◌, Bool, true, false, not, ◌&&◌, ◌||◌, List, [], ◌∷◌, ◌++◌, length, Option, Some, None, Result, Ok, Err, refl, sym, ap, subst, ◌∙◌, arith, append_assoc, length-append, eq-eqb}
+use Rattle.std.proofs.Common.{◌≡◌, ◌⊎◌, inl, inr, ◌+◌, ◌<◌, ◌≤◌, Bool, true, false, not, ◌&&◌, ◌||◌, List, [], ◌∷◌, ◌++◌, length, Option, Some, None, Result, Ok, Err, refl, sym, ap, subst, ◌∙◌, arith, append_assoc, length-append, eq-eqb}
 use Rattle.std.specs.Prelude.{◌==◌, nat_lt, if◌then◌else◌}
 use Rattle.std.proofs.lemmas.Bool.{and_cases, and_parts, eqb-true, ltb-false, ltb-true, or_parts, true≢false}
-use Rattle.std.proofs.lemmas.List.{append-nil}
 use Rattle.ps_token.specs.declared.place.Place.{Place}
 use Rattle.ps_token.specs.declared.token_kind.TokenKind.TheVariants as kind
 use Rattle.ps_tree.specs.declared.program.Program.{Program}
-use Rattle.ps_grammar.specs.Programs.{IsProgramText}
 use Rattle.ps_grammar.specs.Words.{Word}
 use Rattle.ps_parse.specs.Causes.{AreRefused, HasNoCause, IsCause, IsClean, IsFirstCause, is_after_factor, rank, words_at}
 use Rattle.ps_parse.specs.Examples.{turned}
@@ -16,7 +14,7 @@ use Rattle.ps_parse.specs.Inner.Passed.{Finds, IsSpot}
 use Rattle.ps_parse.specs.Kinds.{begins_with, place_of_next}
 use Rattle.ps_parse.specs.Parts.{HasOwnCause, is_second_name}
 use Rattle.ps_parse.specs.Promises.{ReadsWhole}
-use Rattle.ps_parse.specs.Reads.{BeginAlike, IsFirstGrammarFault, IsText, PassesGrammar, refusal_place}
+use Rattle.ps_parse.specs.Reads.{BeginAlike, IsFirstGrammarFault, IsText, PassesGrammar}
 use Rattle.ps_parse.specs.declared.read_refusal.ReadRefusal.{ReadRefusal}
 use Rattle.ps_parse.specs.declared.read_refusal.ReadRefusal.TheVariants as refusal
 use Rattle.ps_parse.specs.declared.spot.Spot.{Spot}

@@ -6,7 +6,7 @@ use Rattle.ps_token.specs.declared.token_kind.TokenKind.TheVariants as kind
 use Rattle.ps_grammar.specs.Words.{Word}
 use Rattle.ps_parse.specs.Causes.{HasCauseOf, GivesRows, HasNoCause, IsCauseAt, IsClean, rows_passed, words_at}
 use Rattle.ps_parse.specs.Inner.Items.{item_rows}
-use Rattle.ps_parse.specs.Inner.Passed.{Blames, IsChecked, IsLeastCause, IsSpelledWord, IsSpot, MostRows, Tally, Tells, row_weight}
+use Rattle.ps_parse.specs.Inner.Passed.{Blames, IsChecked, IsSpelledWord, IsSpot, MostRows, Tally, Tells, row_weight}
 use Rattle.ps_parse.specs.Inner.Reading.{WordsAhead}
 use Rattle.ps_parse.specs.declared.read_refusal.ReadRefusal.{ReadRefusal}
 use Rattle.ps_parse.specs.declared.read_refusal.ReadRefusal.TheVariants as refusal

@@ -2,7 +2,8 @@
 //!
 //! Its definitions, in the order to read them: `Kinds` (of words), `Reads` (where no text of the grammar goes on), `Causes`
 //! (why each other refusal stands at a word, and what refuses words), `Texts` (both of bytes), `Promises` (what a call answers)
-//! and `Refusals` (the lines that tell refusals). `Inner` is for private clauses alone: a reading function for each rule.
+//! and `Refusals` (the lines that tell refusals). `Inner` is for private clauses alone: a reading function for each rule, and
+//! what is kept of words to find their causes.
 #![tactic(auto)]
 
 mod blocks;
