@@ -21,7 +21,7 @@ use Rattle.ps_parse.specs.declared.spot.Spot.{Spot}
 use Rattle.ps_parse.proofs.Guards.{alike_itself}
 use Rattle.ps_parse.proofs.InParts.{cause_refuses, fault_refuses}
 use Rattle.ps_parse.proofs.OneAnswer.{program_is_text}
-use Rattle.ps_parse.proofs.OneRefusal.{one_cause, refused_words}
+use Rattle.ps_parse.proofs.OneRefusal.{one_cause, refused_words, second_caused}
 use Rattle.ps_parse.proofs.ProgramCauses.{program_of_first}
 use Rattle.ps_parse.proofs.ProgramGuards.{program_of_found, program_of_grammar}
 use Rattle.ps_parse.proofs.Spots.{Ascend, Equal, IsBefore, Longer, before_then, clean_before, clean_front, clean_in, compare, length_passed, longer_before, not_before_itself, passed, passed_front, passed_turned, same_front}
@@ -66,10 +66,6 @@ at_place p q same = by_test (is_before p q) refl
     by_test false e = refl
 
 -- ---- second names of products
-
-second_caused : (back rest : List Word) (p : Place) → is_second_name back rest ≡ true → IsCause back rest (refusal.NotLinear p)
-second_caused back [] p h = true≢false (sym (and_parts _ _ h).1)
-second_caused back (w ∷ rest) p h = let k : (is_after_factor back ≡ true) × (begins_with kind.Name (w ∷ rest) ≡ true) = and_parts _ _ h in (one_kind w.kind kind.Name k.1, k.0)
 
 no_second : (back rest : List Word) (p : Place) → ¬ IsCause back rest (refusal.NotLinear p) → is_second_name back rest ≡ false
 no_second back rest p none = by_test (is_second_name back rest) refl
@@ -194,10 +190,10 @@ pub decides : (words : List Word) (end : Place) (spot : Option Spot) (read : Res
 decides words end None (Ok p) up none h = program_of_found words end p h
 decides words end None (Err (refusal.Memory e)) up none h = tt
 decides words end None (Err (refusal.Grammar p)) up none h = fault_alone words end p none (program_of_grammar words end p h)
-decides words end None (Err e) up none h = refused_words words end e h
+decides words end None (Err e) up none h = refused_words words end e (λ g. g) h
 decides words end (Some spot) (Ok p) up s h = answered_refusal words end spot.refusal (text_refused words end spot.refusal s.cause (program_is_text words p (program_of_found words end p h)))
 decides words end (Some spot) (Err (refusal.Memory e)) up s h = tt
 decides words end (Some spot) (Err (refusal.Grammar p)) up s h = answered_refusal words end (first_refusal p spot) (first_refuses words end p spot up (program_of_grammar words end p h) s)
 decides words end (Some spot) (Err e) up s h =
-    let first : IsFirstCause words end e = program_of_first words end e h in
-    answered_refusal words end spot.refusal (subst (AreRefused words end) (one_cause words end e spot.refusal first s.cause.first first.cause s.cause.own) (refused_words words end e h))
+    let first : IsFirstCause words end e = program_of_first words end e (λ g. g) h in
+    answered_refusal words end spot.refusal (subst (AreRefused words end) (one_cause words end e spot.refusal first s.cause.first first.cause s.cause.own) (refused_words words end e (λ g. g) h))

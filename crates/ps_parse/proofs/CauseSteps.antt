@@ -22,7 +22,8 @@ use Rattle.ps_parse.specs.Inner.Reading.{WordsAhead, ReadWords, word_from, next_
 use Rattle.ps_parse.specs.Kinds.{is_kind, begins_with, place_of_next}
 use Rattle.ps_lines.specs.Steps.{◌>>=◌}
 use Rattle.ps_parse.proofs.Steps.{one_kind, same_kind, Takes, takes_pieces, begins_piece, begins_pieces}
-use Rattle.ps_parse.proofs.Guards.{Keeps, keeps_bind, keeps_more}
+use Rattle.ps_parse.specs.Parts.{is_second_name}
+use Rattle.ps_parse.proofs.Guards.{IsGrammar, Keeps, keeps_bind, keeps_more}
 
 -- all the words of a text, and its end
 pub record Whole : Type 0 where
@@ -38,9 +39,34 @@ pub record In (t : Whole) (names : Names) (back : List Word) (at : WordsAhead) :
   pub known : (x : List ℕ) (v : Var) → variable_of_name names x ≡ Some v → Contains (declared_in back) x
   pub unknown : (x : List ℕ) → variable_of_name names x ≡ None → ¬ Contains (declared_in back) x
 
--- what a refusal promises
-abbrev pub Blamed : Whole → ReadRefusal → Type 0
-Blamed t e = IsFirstCause t.words t.end e
+-- The one refusal goes before the other at one place. Of a fault of the grammar nothing is said: a second name of a product
+-- is one for the reader.
+abbrev pub Leads : ReadRefusal → ReadRefusal → Type 0
+Leads (refusal.Grammar p) other = Unit {0}
+Leads e other = rank e ≤ rank other
+
+-- What a refusal promises: it stands at a word with its cause, no other cause there goes before it, and no word before has
+-- one.
+pub record Blamed (t : Whole) (e : ReadRefusal) : Type 0 where
+  pub back : List Word
+  pub ahead : List Word
+  pub split : t.words ≡ words_at back ahead
+  pub place_is : refusal_place e ≡ Some (place_of_next ahead t.end)
+  pub cause : HasCauseOf back ahead e
+  pub first_here : (other : ReadRefusal) → IsCause back ahead other → Leads e other
+  pub first : IsClean back ahead
+
+leads_so : (e other : ReadRefusal) → rank e ≤ rank other → Leads e other
+leads_so (refusal.Grammar p) other h = tt
+leads_so e other h = h
+
+-- but for a fault of the grammar it is the first cause
+pub first_blamed : (t : Whole) (e : ReadRefusal) → ¬ IsGrammar e → Blamed t e → IsFirstCause t.words t.end e
+first_blamed t e other b = record { back = b.back; ahead = b.ahead; split = b.split; place_is = b.place_is; cause = b.cause; first_here = λ f c. led e f other (b.first_here f c); first = b.first }
+  where
+    led : (e f : ReadRefusal) → ¬ IsGrammar e → Leads e f → rank e ≤ rank f
+    led (refusal.Grammar p) f other h = absurd (other tt)
+    led e f other h = h
 
 -- ---- words without a cause
 
@@ -216,25 +242,19 @@ blame {back = back} {ws = ws} e h place cause least = record {
   split = sym h.whole;
   place_is = place ∙ ap (λ (o : Place). Some (place_of_next ws o)) h.ends;
   cause = cause;
-  first_here = least;
+  first_here = λ other c. leads_so e other (least other c);
   first = h.clean;
 }
 
--- no second name of a product stands next
-abbrev pub Linear : List Word → List Word → Type 0
-Linear back ws = (is_after_factor back && begins_with kind.Name ws) ≡ false
-
-pub fresh_linear : {atomic : Bool} {back : List Word} (ws : List Word) → Fresh atomic back → Linear back ws
-fresh_linear ws f = ap (λ (b : Bool). b && begins_with kind.Name ws) f.factor
-
-pub least_grammar : (back ws : List Word) → Linear back ws → (other : ReadRefusal) → IsCause back ws other → 1 ≤ rank other
+-- a fault of the grammar goes before all but a second name of a product
+pub least_grammar : (back ws : List Word) → is_second_name back ws ≡ false → (other : ReadRefusal) → IsCause back ws other → 1 ≤ rank other
 least_grammar back [] l other h = absurd h
 least_grammar back (w ∷ ws) l (refusal.NotLinear p) h =
     absurd (true≢false (sym (ap (λ (b : Bool). b && is_kind w.kind kind.Name) h.1 ∙ same_kind w.kind kind.Name h.0) ∙ l))
 least_grammar back (w ∷ ws) l other h = omega arith
 
-pub grammar_blamed : {t : Whole} {names : Names} {back ws : List Word} {end : Place} → In t names back (record { words = ws; end = end }) → Linear back ws → Blamed t (refusal.Grammar (place_of_next ws end))
-grammar_blamed {back = back} {ws = ws} {end = end} h l = blame (refusal.Grammar (place_of_next ws end)) h refl tt (least_grammar back ws l)
+pub grammar_blamed : {t : Whole} {names : Names} {back ws : List Word} {end : Place} → In t names back (record { words = ws; end = end }) → Blamed t (refusal.Grammar (place_of_next ws end))
+grammar_blamed {back = back} {ws = ws} h = record { back = back; ahead = ws; split = sym h.whole; place_is = ap (λ (o : Place). Some (place_of_next ws o)) h.ends; cause = tt; first_here = λ other c. tt; first = h.clean }
 
 -- at a word that is neither a name nor `while`, only limits have a cause
 pub least_limit : (back : List Word) (w : Word) (ws : List Word) (k : TokenKind) → w.kind ≡ k → (is_kind k kind.Name || is_kind k kind.While) ≡ false → (other : ReadRefusal) → IsCauseAt back w ws other → 5 ≤ rank other
@@ -266,9 +286,6 @@ least_unknown back w ws l other h = omega arith
 pub unknown_blamed : {t : Whole} {names : Names} {back : List Word} {w : Word} {ws : List Word} {end : Place} → In t names back (record { words = w ∷ ws; end = end }) → w.kind ≡ kind.Name → is_declaration back ≡ false → is_after_factor back ≡ false → ¬ Contains (declared_in back) w.text → Blamed t (refusal.UnknownName w.place)
 unknown_blamed {back = back} {w = w} {ws = ws} h e outside l none = blame (refusal.UnknownName w.place) h refl (e, outside, none) (least_unknown back w ws l)
 
-pub linear_blamed : {t : Whole} {names : Names} {back : List Word} {w : Word} {ws : List Word} {end : Place} → In t names back (record { words = w ∷ ws; end = end }) → w.kind ≡ kind.Name → is_after_factor back ≡ true → Blamed t (refusal.NotLinear w.place)
-linear_blamed {w = w} h e l = blame (refusal.NotLinear w.place) h refl (e, l) (λ other c. omega arith)
-
 -- ---- laws
 
 -- one step, and then another
@@ -284,17 +301,17 @@ unfolding after_word
 after_keeps k read at Q Q' R h n = then_keeps _ _ Q Q' R h n
 
 -- a word of the kind stands next
-pub found_word : {t : Whole} {names : Names} {back : List Word} {at : WordsAhead} (k : TokenKind) → In t names back at → Linear back at.words
+pub found_word : {t : Whole} {names : Names} {back : List Word} {at : WordsAhead} (k : TokenKind) → In t names back at
     → Keeps (next_word k at) (λ y. (y.0.kind ≡ k) × In t names back (record { words = y.0 ∷ y.1.words; end = y.1.end })) (Blamed t)
 unfolding next_word
-found_word {t = t} {names = names} {back = back} {at = at} k h l = by_words at.words at.end h l
+found_word {t = t} {names = names} {back = back} {at = at} k h = by_words at.words at.end h
   where
-    by_words : (ws : List Word) (end : Place) → In t names back (record { words = ws; end = end }) → Linear back ws → Keeps (word_from k ws end) (λ y. (y.0.kind ≡ k) × In t names back (record { words = y.0 ∷ y.1.words; end = y.1.end })) (Blamed t)
-    by_words [] end h l = record { is = grammar_blamed h l }
-    by_words (w ∷ ws) end h l =
-        if_keeps (is_kind w.kind k) _ _ _ _ (λ e. record { is = (one_kind w.kind k e, h) }) (λ e. record { is = grammar_blamed h l })
+    by_words : (ws : List Word) (end : Place) → In t names back (record { words = ws; end = end }) → Keeps (word_from k ws end) (λ y. (y.0.kind ≡ k) × In t names back (record { words = y.0 ∷ y.1.words; end = y.1.end })) (Blamed t)
+    by_words [] end h = record { is = grammar_blamed h }
+    by_words (w ∷ ws) end h =
+        if_keeps (is_kind w.kind k) _ _ _ _ (λ e. record { is = (one_kind w.kind k e, h) }) (λ e. record { is = grammar_blamed h })
 
 -- the same, and it is passed
-pub word_keeps : {t : Whole} {names : Names} {back : List Word} {at : WordsAhead} (k : TokenKind) → In t names back at → Linear back at.words → is_declaration back ≡ false → ((w : Word) (ahead : List Word) → w.kind ≡ k → Allows back w ahead)
+pub word_keeps : {t : Whole} {names : Names} {back : List Word} {at : WordsAhead} (k : TokenKind) → In t names back at → is_declaration back ≡ false → ((w : Word) (ahead : List Word) → w.kind ≡ k → Allows back w ahead)
     → Keeps (next_word k at) (λ y. (y.0.kind ≡ k) × In t names (y.0 ∷ back) y.1) (Blamed t)
-word_keeps k h l outside allows = keeps_more _ _ _ _ _ (found_word k h l) (λ y p. (p.0, stepped p.1 outside (allows y.0 y.1.words p.0))) (λ e b. b)
+word_keeps k h outside allows = keeps_more _ _ _ _ _ (found_word k h) (λ y p. (p.0, stepped p.1 outside (allows y.0 y.1.words p.0))) (λ e b. b)

@@ -23,7 +23,7 @@ use Rattle.ps_lines.specs.Steps.{◌>>=◌}
 use Rattle.ps_parse.proofs.Steps.{one_kind}
 use Rattle.ps_parse.proofs.Guards.{Keeps, keeps_end, keeps_more}
 use Rattle.ps_parse.proofs.SumGuards.{all_signs}
-use Rattle.ps_parse.proofs.CauseSteps.{Whole, In, Blamed, opens_item, has_causes, plain, opening, Fresh, joins, fresh_word, fresh_star, level_word, fresh_linear, depth_blamed, then_keeps, if_keeps, after_keeps, found_word, word_keeps}
+use Rattle.ps_parse.proofs.CauseSteps.{Whole, In, Blamed, opens_item, has_causes, plain, opening, Fresh, joins, fresh_word, fresh_star, level_word, depth_blamed, then_keeps, if_keeps, after_keeps, found_word, word_keeps}
 use Rattle.ps_parse.proofs.OpenLevels.{Settles, settled_again}
 use Rattle.ps_parse.proofs.SumCauses.{Past, LevelsAre, past_as, mark_keeps, while_keeps, relation_keeps}
 
@@ -34,7 +34,7 @@ pub opening_keeps : {t : Whole} {names : Names} {back : List Word} {at : WordsAh
     → In t names back at → Fresh after back → levels back ≡ ls → Keeps (next_word k at) (Past t names (LevelsAre (levels_with after k ls))) (Blamed t)
 opening_keeps {back = back} {at = at} {after = after} {ls = ls} k c j n few h f o =
     let room : length (levels back) < most_levels = subst (λ (xs : List Level). length xs < most_levels) (sym o) few in
-    keeps_more _ _ _ _ _ (word_keeps k h (fresh_linear at.words f) f.declaration (λ w ahead e. opening back w ahead k c room e)) (λ y p. record {
+    keeps_more _ _ _ _ _ (word_keeps k h f.declaration (λ w ahead e. opening back w ahead k c room e)) (λ y p. record {
       back = y.0 ∷ back;
       here = p.1;
       fresh = subst (λ (b : Bool). Fresh b (y.0 ∷ back)) n (fresh_word k back j p.0);
@@ -46,7 +46,7 @@ pub full_keeps : {A : Type 0} {t : Whole} {names : Names} {back : List Word} {at
     → In t names back at → Fresh after back → levels back ≡ ls → Keeps (next_word k at >>= λ w. Err (Limit w.0.place limit.Depth)) Q (Blamed t)
 full_keeps {back = back} {at = at} Q k c l many h f o =
     let full : most_levels ≤ length (levels back) = subst (λ (xs : List Level). most_levels ≤ length xs) (sym o) (omega (arith, many)) in
-    then_keeps _ _ _ _ _ (found_word k h (fresh_linear at.words f)) (λ w p. record { is = depth_blamed k p.1 p.0 c l full })
+    then_keeps _ _ _ _ _ (found_word k h) (λ w p. record { is = depth_blamed k p.1 p.0 c l full })
 
 -- ---- conditions
 
@@ -133,7 +133,7 @@ test_keeps : {t : Whole} {names : Names} {back : List Word} {at : WordsAhead} {l
 unfolding test_at
 test_keeps {back = back} {at = at} {ls = ls} n more room calm h f o apart =
     if_keeps (next_is kind.Star at) _ _ _ _
-    (λ on. then_keeps _ _ _ _ _ (word_keeps kind.Star h (fresh_linear at.words f) f.declaration (λ w ahead e. plain back w ahead kind.Star refl e)) (λ w p.
+    (λ on. then_keeps _ _ _ _ _ (word_keeps kind.Star h f.declaration (λ w ahead e. plain back w ahead kind.Star refl e)) (λ w p.
     keeps_end _ _ _ (record { back = w.0 ∷ back; here = p.1; fresh = fresh_star back apart p.0; so = ap without_negations (level_word w.0 kind.Star back false ls p.0 f.atomic o) ∙ calm })))
     (λ off. then_keeps _ _ _ _ _ (cond_keeps n more room calm h f o) (λ c p. keeps_end _ _ _ (past_as _ _ p (λ b e. e))))
 
@@ -143,7 +143,7 @@ unfolding parens_at
 parens_keeps n zero room calm h f o = full_keeps _ kind.OpenParen refl refl (omega (arith, room)) h f o
 parens_keeps {names = names} {back = back} {at = at} {ls = ls} n (suc more) room calm h f o =
     let few : length (levels back) < most_levels = subst (λ (xs : List Level). length xs < most_levels) (sym o) (omega (arith, room)) in
-    then_keeps _ _ _ _ _ (word_keeps kind.OpenParen h (fresh_linear at.words f) f.declaration (λ w ahead e. opening back w ahead kind.OpenParen refl few e)) (λ w p.
+    then_keeps _ _ _ _ _ (word_keeps kind.OpenParen h f.declaration (λ w ahead e. opening back w ahead kind.OpenParen refl few e)) (λ w p.
     then_keeps _ _ _ _ _ (test_keeps n more (omega (arith, room)) refl p.1 (fresh_word kind.OpenParen back refl p.0) (level_word w.0 kind.OpenParen back false ls p.0 f.atomic o) (ap (λ (j : TokenKind). is_kind j kind.Name) p.0)) (λ x q.
     then_keeps _ _ _ _ _ (mark_keeps kind.CloseParen refl refl refl q.here q.fresh refl) (λ v r.
     keeps_end _ _ _ (past_as _ _ r (λ b e. e ∙ ap (λ (xs : List Level). without_negations (closed xs)) q.so ∙ calm)))))

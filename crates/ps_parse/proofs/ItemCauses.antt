@@ -31,7 +31,7 @@ use Rattle.ps_parse.proofs.ItemRows.{Tallies, item_tallies}
 use Rattle.ps_parse.proofs.Weights.{weight, count_of_weight}
 use Rattle.ps_parse.proofs.RowLaws.{rows_given, rows_counted}
 use Rattle.ps_parse.proofs.NamesDeclared.{Knows, knows_none, knows_global, knows_local, contains_named, named_contains, contains_known, not_contains}
-use Rattle.ps_parse.proofs.CauseSteps.{Whole, In, Blamed, opens_item, Allows, no_cause, kind_clash, test_clash, marked, has_causes, stepped, Fresh, joins, fresh_word, level_word, blame, fresh_linear, least_limit, then_keeps, if_keeps, after_keeps, found_word}
+use Rattle.ps_parse.proofs.CauseSteps.{Whole, In, Blamed, opens_item, Allows, no_cause, kind_clash, test_clash, marked, has_causes, stepped, Fresh, joins, fresh_word, level_word, blame, least_limit, then_keeps, if_keeps, after_keeps, found_word}
 use Rattle.ps_parse.proofs.SumCauses.{Past, LevelsAre, mark_keeps, while_keeps, relation_keeps}
 
 -- ---- between two words
@@ -184,7 +184,7 @@ new_keeps : (t : Whole) (d : Declared) (count most : ℕ) (what : LimitName) (ba
     → Keeps (new_name_at d count most what at) (IsNamed t (names_of d) back) (Blamed t)
 unfolding new_name_at
 new_keeps t d count most what back at h full room =
-    then_keeps _ _ _ _ _ (found_word kind.Name h.inside (ap (λ (b : Bool). b && begins_with kind.Name at.words) h.factor)) (λ w p.
+    then_keeps _ _ _ _ _ (found_word kind.Name h.inside) (λ w p.
     by_tests w p.0 p.1 (is_some_variable (variable_of_name (names_of d) w.0.text)) (nat_le most count) refl refl)
   where
     by_tests : (w : Word × WordsAhead) → w.0.kind ≡ kind.Name → In t (names_of d) back (record { words = w.0 ∷ w.1.words; end = w.1.end }) → (a b : Bool) → is_some_variable (variable_of_name (names_of d) w.0.text) ≡ a → nat_le most count ≡ b
@@ -245,7 +245,7 @@ item_word : {t : Whole} {names : Names} {back : List Word} {at : WordsAhead} (k 
     → Keeps (next_word k at) (λ y. (y.0.kind ≡ k) × In t names (y.0 ∷ back) y.1) (Blamed t)
 unfolding next_word
 item_word {back = back} {at = at} k h s fit =
-    keeps_more _ _ _ _ _ (keeps_found _ _ _ _ (found_word k s.inside (fresh_linear at.words s.fresh)) (word_is k at.words at.end))
+    keeps_more _ _ _ _ _ (keeps_found _ _ _ _ (found_word k s.inside) (word_is k at.words at.end))
     (λ y p. (p.0.0, stepped p.0.1 s.fresh.declaration (item_allows back y.0 y.1.words k h (subst (RowsFit back) p.1 fit) p.0.0)))
     (λ e b. b)
 

@@ -21,7 +21,7 @@ use Rattle.ps_parse.specs.Inner.Reading.{WordsAhead, ReadWords, next_is, next_wo
 use Rattle.ps_parse.specs.Kinds.{begins_with, place_of_next}
 use Rattle.ps_parse.proofs.Steps.{one_kind}
 use Rattle.ps_parse.proofs.Guards.{Keeps, keeps_end, keeps_more}
-use Rattle.ps_parse.proofs.CauseSteps.{Whole, In, Blamed, plain, looping, Fresh, fresh_word, level_word, fresh_linear, grammar_blamed, loop_blamed, then_keeps, if_keeps, after_keeps, word_keeps}
+use Rattle.ps_parse.proofs.CauseSteps.{Whole, In, Blamed, plain, looping, Fresh, fresh_word, level_word, grammar_blamed, loop_blamed, then_keeps, if_keeps, after_keeps, word_keeps}
 use Rattle.ps_parse.proofs.OpenLevels.{Settles, Matches, matches_block, matches_atomic, settled_block}
 use Rattle.ps_parse.proofs.SumCauses.{Past, LevelsAre, past_as, mark_keeps, while_keeps, variable_keeps, sum_keeps}
 use Rattle.ps_parse.proofs.CondCauses.{opening_keeps, full_keeps, cond_keeps, parens_keeps}
@@ -84,7 +84,7 @@ skip_keeps t names ls calm back at h f o =
 atomic_keeps : (t : Whole) (names : Names) (ls : List Level) (read : ReadWords (List Stmt)) → LeavesOpen t names ls true read → LeavesOpen t names ls false (atomic_at read)
 unfolding atomic_at
 atomic_keeps t names ls read law back at h f o =
-    then_keeps _ _ _ _ _ (after_keeps kind.Atomic read _ _ _ _ (word_keeps kind.Atomic h (fresh_linear at.words f) f.declaration (λ w ahead e. plain back w ahead kind.Atomic refl e)) (λ w p.
+    then_keeps _ _ _ _ _ (after_keeps kind.Atomic read _ _ _ _ (word_keeps kind.Atomic h f.declaration (λ w ahead e. plain back w ahead kind.Atomic refl e)) (λ w p.
     law (w.0 ∷ back) w.1 p.1 (fresh_word kind.Atomic back refl p.0) (level_word w.0 kind.Atomic back false ls p.0 f.atomic o))) (λ b q.
     keeps_end _ _ _ (past_as _ _ q (λ b e. e)))
 
@@ -113,7 +113,7 @@ while_stmt_keeps t names ls true read n more room calm within law back at h f o 
     by_words (w ∷ ws) end here next = loop_blamed here (one_kind w.kind kind.While next) (subst (λ (xs : List Level). Contains xs level.AtomicBlock) (sym o) within)
 while_stmt_keeps t names ls false read n more room calm within law back at h f o on =
     let out : ¬ Contains (levels back) level.AtomicBlock = subst (λ (xs : List Level). ¬ Contains xs level.AtomicBlock) (sym o) within in
-    then_keeps _ _ _ _ _ (after_keeps kind.While (parens_at (Some names) n more) _ _ _ _ (word_keeps kind.While h (fresh_linear at.words f) f.declaration (λ w ahead e. looping back w ahead out e)) (λ w p.
+    then_keeps _ _ _ _ _ (after_keeps kind.While (parens_at (Some names) n more) _ _ _ _ (word_keeps kind.While h f.declaration (λ w ahead e. looping back w ahead out e)) (λ w p.
     parens_keeps n more room calm p.1 (fresh_word kind.While back refl p.0) (level_word w.0 kind.While back false ls p.0 f.atomic o))) (λ x p.
     then_keeps _ _ _ _ _ (law p.back x.1 p.here p.fresh p.so) (λ y q.
     keeps_end _ _ _ (past_as _ _ q (λ b e. e))))
@@ -134,7 +134,7 @@ kind_keeps t names ls inside read n more room calm within law back at h f o =
     if_keeps (next_is kind.Atomic at) _ _ _ _ (λ on. atomic_keeps t names ls (read true) (law true true (matches_atomic ls)) back at h f o) (λ off.
     if_keeps (next_is kind.If at) _ _ _ _ (λ on. if_stmt_keeps t names ls (read inside) n more room calm (law inside false (matches_block inside ls within)) back at h f o) (λ off.
     if_keeps (next_is kind.While at) _ _ _ _ (λ on. while_stmt_keeps t names ls inside (read inside) n more room calm within (law inside false (matches_block inside ls within)) back at h f o on) (λ off.
-    record { is = grammar_blamed h (fresh_linear at.words f) }))))))))
+    record { is = grammar_blamed h }))))))))
 
 stmt_keeps : (t : Whole) (names : Names) (ls : List Level) (inside : Bool) (read : Bool → ReadWords (List Stmt)) (n more : ℕ) → length ls + more ≡ most_levels → without_negations ls ≡ ls → Matches inside ls → BlocksKeep t names ls read
     → LeavesOpen t names ls false (stmt_at read inside (Some names) n more)

@@ -22,7 +22,7 @@ use Rattle.ps_parse.specs.Kinds.{is_kind, begins_with, place_of_next}
 use Rattle.ps_parse.proofs.Steps.{one_kind, same_kind}
 use Rattle.ps_parse.proofs.Guards.{Keeps, keeps_end, keeps_more}
 use Rattle.ps_parse.proofs.SumGuards.{AreSigns}
-use Rattle.ps_parse.proofs.CauseSteps.{Whole, In, Blamed, has_causes, plain, naming, stepped, Fresh, joins, fresh_word, fresh_star, level_word, fresh_linear, grammar_blamed, unknown_blamed, linear_blamed, then_keeps, if_keeps, after_keeps, found_word, word_keeps}
+use Rattle.ps_parse.proofs.CauseSteps.{Whole, In, Blamed, has_causes, plain, naming, stepped, Fresh, joins, fresh_word, fresh_star, level_word, grammar_blamed, unknown_blamed, then_keeps, if_keeps, after_keeps, found_word, word_keeps}
 
 -- ---- what was passed
 
@@ -45,7 +45,7 @@ past_as z Q p f = record { back = p.back; here = p.here; fresh = p.fresh; so = f
 pub mark_keeps : {t : Whole} {names : Names} {back : List Word} {at : WordsAhead} {after : Bool} {ls : List Level} (k : TokenKind) → has_causes k ≡ false → joins k ≡ false → is_kind k kind.Atomic ≡ false → In t names back at → Fresh after back → levels back ≡ ls
     → Keeps (next_word k at) (Past t names (LevelsAre (levels_with after k ls))) (Blamed t)
 mark_keeps {names = names} {back = back} {at = at} {after = after} {ls = ls} k c j n h f o =
-    keeps_more _ _ _ _ _ (word_keeps k h (fresh_linear at.words f) f.declaration (λ w ahead e. plain back w ahead k c e)) (λ y p. record {
+    keeps_more _ _ _ _ _ (word_keeps k h f.declaration (λ w ahead e. plain back w ahead k c e)) (λ y p. record {
       back = y.0 ∷ back;
       here = p.1;
       fresh = subst (λ (b : Bool). Fresh b (y.0 ∷ back)) n (fresh_word k back j p.0);
@@ -72,7 +72,7 @@ pub variable_keeps : {t : Whole} {names : Names} {back : List Word} {at : WordsA
     → Keeps (variable_at (Some names) at) (Past t names (λ b. (levels b ≡ ls) × (begins_with kind.Name b ≡ true))) (Blamed t)
 unfolding variable_at
 variable_keeps {t = t} {names = names} {back = back} {at = at} {after = after} {ls = ls} h f o =
-    then_keeps _ _ _ _ _ (found_word kind.Name h (fresh_linear at.words f)) (λ w p.
+    then_keeps _ _ _ _ _ (found_word kind.Name h) (λ w p.
     then_keeps _ _ _ _ _ (by_test w.0 w.1 p.0 p.1 (variable_in (Some names) w.0.text) refl) (λ v known.
     keeps_end _ _ _ (record {
       back = w.0 ∷ back;
@@ -87,26 +87,21 @@ variable_keeps {t = t} {names = names} {back = back} {at = at} {after = after} {
     by_test w next e here (Some v) u = record { is = here.known w.text v u }
 
 -- the number after a name and `*`
-factor_keeps : {t : Whole} {names : Names} {back : List Word} {at : WordsAhead} {ls : List Level} → In t names back at → is_after_factor back ≡ true → is_declaration back ≡ false → begins_with kind.Atomic back ≡ false → levels back ≡ ls
+factor_keeps : {t : Whole} {names : Names} {back : List Word} {at : WordsAhead} {ls : List Level} → In t names back at → is_declaration back ≡ false → begins_with kind.Atomic back ≡ false → levels back ≡ ls
     → Keeps (factor_at at) (Past t names (LevelsAre ls)) (Blamed t)
 unfolding factor_at
-factor_keeps {t = t} {names = names} {back = back} {at = at} {ls = ls} h l d a o =
-    if_keeps _ _ _ _ _ (λ on. by_words at.words at.end h on)
-    (λ off. then_keeps _ _ _ _ _ (word_keeps kind.Number h (and_right _ _ off) d (λ w ahead e. plain back w ahead kind.Number refl e)) (λ w p.
-    keeps_end _ _ _ (record { back = w.0 ∷ back; here = p.1; fresh = fresh_word kind.Number back refl p.0; so = level_word w.0 kind.Number back false ls p.0 a o })))
-  where
-    by_words : {B : Type 0} {Q : B → Type 0} (ws : List Word) (end : Place) → In t names back (record { words = ws; end = end }) → begins_with kind.Name ws ≡ true → Keeps {A = B} (Err (NotLinear (place_of_next ws end))) Q (Blamed t)
-    by_words [] end here on = absurd (true≢false (sym on))
-    by_words (w ∷ ws) end here on = record { is = linear_blamed here (one_kind w.kind kind.Name on) l }
+factor_keeps {back = back} {ls = ls} h d a o =
+    then_keeps _ _ _ _ _ (word_keeps kind.Number h d (λ w ahead e. plain back w ahead kind.Number refl e)) (λ w p.
+    keeps_end _ _ _ (record { back = w.0 ∷ back; here = p.1; fresh = fresh_word kind.Number back refl p.0; so = level_word w.0 kind.Number back false ls p.0 a o }))
 
 number_product_keeps : {t : Whole} {names : Names} {back : List Word} {at : WordsAhead} {after : Bool} {ls : List Level} → In t names back at → Fresh after back → levels back ≡ ls → Keeps (number_product_at (Some names) at) (Past t names (LevelsAre ls)) (Blamed t)
 unfolding number_product_at
 number_product_keeps {names = names} {back = back} {at = at} {after = after} {ls = ls} h f o =
-    then_keeps _ _ _ _ _ (word_keeps kind.Number h (fresh_linear at.words f) f.declaration (λ w ahead e. plain back w ahead kind.Number refl e)) (λ n p.
+    then_keeps _ _ _ _ _ (word_keeps kind.Number h f.declaration (λ w ahead e. plain back w ahead kind.Number refl e)) (λ n p.
     let g : Fresh false (n.0 ∷ back) = fresh_word kind.Number back refl p.0 in
     let q : levels (n.0 ∷ back) ≡ ls = level_word n.0 kind.Number back after ls p.0 f.atomic o in
     if_keeps (next_is kind.Star n.1) _ _ _ _ (λ on.
-    then_keeps _ _ _ _ _ (after_keeps kind.Star _ _ _ _ _ (word_keeps kind.Star p.1 (fresh_linear n.1.words g) g.declaration (λ w ahead e. plain (n.0 ∷ back) w ahead kind.Star refl e)) (λ s r.
+    then_keeps _ _ _ _ _ (after_keeps kind.Star _ _ _ _ _ (word_keeps kind.Star p.1 g.declaration (λ w ahead e. plain (n.0 ∷ back) w ahead kind.Star refl e)) (λ s r.
     variable_keeps r.1 (fresh_star (n.0 ∷ back) (ap (λ (j : TokenKind). is_kind j kind.Name) p.0) r.0) (level_word s.0 kind.Star (n.0 ∷ back) false ls r.0 g.atomic q))) (λ x r.
     keeps_end _ _ _ (past_as _ _ r (λ b s. s.0))))
     (λ off. keeps_end _ _ _ (record { back = n.0 ∷ back; here = p.1; fresh = g; so = q })))
@@ -116,9 +111,8 @@ unfolding name_product_at
 name_product_keeps {names = names} {ls = ls} h f o =
     then_keeps _ _ _ _ _ (variable_keeps h f o) (λ x p.
     if_keeps (next_is kind.Star x.1) _ _ _ _ (λ on.
-    then_keeps _ _ _ _ _ (after_keeps kind.Star _ _ _ _ _ (word_keeps kind.Star p.here (fresh_linear x.1.words p.fresh) p.fresh.declaration (λ w ahead e. plain p.back w ahead kind.Star refl e)) (λ s r.
+    then_keeps _ _ _ _ _ (after_keeps kind.Star _ _ _ _ _ (word_keeps kind.Star p.here p.fresh.declaration (λ w ahead e. plain p.back w ahead kind.Star refl e)) (λ s r.
     factor_keeps r.1
-    (ap (λ (j : TokenKind). is_kind j kind.Star && begins_with kind.Name p.back) r.0 ∙ p.so.1)
     (ap (λ (j : TokenKind). is_kind j kind.Global || is_kind j kind.Local) r.0)
     (ap (λ (j : TokenKind). is_kind j kind.Atomic) r.0)
     (level_word s.0 kind.Star p.back false ls r.0 p.fresh.atomic p.so.0))) (λ n r.
@@ -170,11 +164,11 @@ unfolding sign_ahead
 sign_keeps {t = t} {names = names} {back = back} {at = at} {ls = ls} of are h f o = by_words at.words at.end h
   where
     by_sign : (w : Word) (ws : List Word) (end : Place) → In t names back (record { words = w ∷ ws; end = end }) → (x : Option Sign) → of w.kind ≡ x → Keeps (ok_or x (Grammar w.place)) (λ s. w.kind ≡ sign_kind s) (Blamed t)
-    by_sign w ws end here None e = record { is = grammar_blamed here (fresh_linear (w ∷ ws) f) }
+    by_sign w ws end here None e = record { is = grammar_blamed here }
     by_sign w ws end here (Some s) e = record { is = are.kinds w.kind s e }
 
     by_words : (ws : List Word) (end : Place) → In t names back (record { words = ws; end = end }) → Keeps (sign_from of ws end) (Past t names (LevelsAre ls)) (Blamed t)
-    by_words [] end here = record { is = grammar_blamed here (fresh_linear [] f) }
+    by_words [] end here = record { is = grammar_blamed here }
     by_words (w ∷ ws) end here =
         then_keeps _ _ _ _ _ (by_sign w ws end here (of w.kind) refl) (λ s e.
         let c : (has_causes (sign_kind s) ≡ false) × (joins (sign_kind s) ≡ false) × (is_kind (sign_kind s) kind.Atomic ≡ false) = sign_plain s in

@@ -135,12 +135,7 @@ digits_guards n = word_guards n kind.Number NumberPiece (λ t. t) number_sort nu
 
 pub factor_guards : (n : ℕ) → Guards n factor_at number_piece Always Always (λ d ps. number_value d) Any
 unfolding factor_at
-factor_guards n =
-    choosing_guards number_piece Always Always (λ d ps. number_value d) Any (next_test kind.Name) (λ d. d) (λ d h. tt) (λ d. d) (λ d h. tt)
-    (λ d ok. inr (record { text = d; same = refl; fine = tt; tells = λ rest h. refl })) (λ d rest h. tt) (λ d rest h. tt)
-    (refusing_guards (next_is kind.Name) n (λ at. NotLinear (place_at at)) number_piece Always Always (λ d ps. number_value d) Any (λ at g. g) (λ at. refl) (λ at e. record { example = number_example; next = λ g. absurd g })
-    (λ at e d tail fit h. true≢false (sym e ∙ begins_pieces kind.Name at.words ∙ ap (begins_piece kind.Name) h)))
-    (digits_guards n)
+factor_guards n = digits_guards n
 
 abbrev with_variable : ℤ → Option Var → ℤ × Option Var
 with_variable d o = (d, o)

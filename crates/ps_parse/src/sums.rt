@@ -3,11 +3,11 @@
 ghost use Rattle.std.specs.Prelude.{◌≡◌, ℤ, neg_ℤ, [], ◌∷◌, Option, Some, None, ◌≤ℤ◌, ◌<ℤ◌, pos};
 ghost use Rattle.ps_term.specs.declared.var.Var.{Var};
 ghost use Rattle.ps_token.specs.declared.token_kind.TokenKind.TheVariants as kind;
-ghost use Rattle.ps_parse.specs.Inner.Reading.{ReadsTo, with_front, words_while, place_at, next_is};
+ghost use Rattle.ps_parse.specs.Inner.Reading.{ReadsTo, with_front, words_while, next_is};
 ghost use Rattle.ps_parse.specs.Inner.Variables.{variable_at};
 ghost use Rattle.ps_parse.specs.Inner.Scoped.{names_in};
 ghost use Rattle.ps_parse.specs.Inner.Signed.{signs_of};
-ghost use Rattle.ps_parse.specs.Inner.Sums.{factor_at, number_product_at, name_product_at, product_at, first_product_at, further_product_at, adds, sum_at, sign_ahead, sign_of, relation_at};
+ghost use Rattle.ps_parse.specs.Inner.Sums.{number_product_at, name_product_at, product_at, first_product_at, further_product_at, adds, sum_at, sign_ahead, sign_of, relation_at};
 ghost use Rattle.ps_grammar.specs.Numbers.{signed};
 
 use crate::cursor::Cursor;
@@ -18,17 +18,6 @@ use ps_term::Var;
 use ps_token::TokenKind;
 use ps_tree::{Relation, Sign, Sum};
 use sqlite_items::Items;
-
-// The number in a product after a name: a second name there isn't linear.
-#[tactic(auto, unfolding(crate::specs::Inner::Sums::factor_at))]
-fn factor<'b>(cursor: &mut Cursor<'b>) -> Result<i64, ReadRefusal>
-    ensures { ReadsTo (λ x. x) result cursor.new (factor_at cursor.old) }
-{
-    if cursor.next_is(TokenKind::Name) {
-        return Err(ReadRefusal::NotLinear(cursor.place()));
-    }
-    cursor.number()
-}
 
 // Whether a sum goes on.
 fn adds<'b>(cursor: &Cursor<'b>) -> bool
@@ -67,7 +56,7 @@ impl<'a> Parser<'a> {
     }
 
     // A name, and the number that follows it and `*`.
-    #[tactic(auto, unfolding(crate::specs::Inner::Sums::name_product_at, crate::specs::Inner::Reading::after_word, ps_lines::specs::Steps::and_then))]
+    #[tactic(auto, unfolding(crate::specs::Inner::Sums::name_product_at, crate::specs::Inner::Sums::factor_at, crate::specs::Inner::Reading::after_word, ps_lines::specs::Steps::and_then))]
     fn name_product<'b>(&self, cursor: &mut Cursor<'b>) -> Result<(i64, Option<Var>), ReadRefusal>
         ensures { ReadsTo (λ x. x) result cursor.new
             (name_product_at (names_in self.now.scope) cursor.old) }
@@ -77,7 +66,7 @@ impl<'a> Parser<'a> {
             return Ok((1, Some(variable)));
         }
         cursor.word(TokenKind::Star)?;
-        let number = factor(cursor)?;
+        let number = cursor.number()?;
         Ok((number, Some(variable)))
     }
 

@@ -5,23 +5,21 @@ use Rattle.ps_token.specs.declared.token_kind.TokenKind.TheVariants as kind
 use Rattle.ps_token.specs.declared.place.Place.{Place}
 use Rattle.ps_term.specs.declared.var.Var.{Var}
 use Rattle.ps_parse.specs.declared.read_refusal.ReadRefusal.{ReadRefusal}
-use Rattle.ps_parse.specs.declared.read_refusal.ReadRefusal.TheVariants.{Grammar, NotLinear}
+use Rattle.ps_parse.specs.declared.read_refusal.ReadRefusal.TheVariants.{Grammar}
 use Rattle.ps_tree.specs.declared.relation.Relation.{Relation}
 use Rattle.ps_tree.specs.declared.relation.Sign.{Sign}
 use Rattle.ps_tree.specs.declared.relation.Sign.TheVariants as sign
 use Rattle.ps_tree.specs.declared.sum.Sum.{Sum}
 use Rattle.ps_grammar.specs.Names.{Names}
 use Rattle.ps_parse.specs.Inner.Variables.{variable_at}
-use Rattle.ps_parse.specs.Inner.Reading.{WordsAhead, ReadWords, after_word, next_is, place_at, words_while, next_word}
+use Rattle.ps_parse.specs.Inner.Reading.{WordsAhead, ReadWords, after_word, next_is, words_while, next_word}
 use Rattle.ps_lines.specs.Steps.{◌>>=◌}
 use Rattle.ps_grammar.specs.Words.{Word}
 use Rattle.ps_grammar.specs.Numbers.{number_value, signed}
 
--- The number in a product after a name: a second name there isn't linear.
+-- The number in a product after a name.
 unfoldable pub factor_at : ReadWords ℤ
-factor_at at =
-    if next_is kind.Name at then Err (NotLinear (place_at at))
-    else (next_word kind.Number at >>= λ w. Ok (number_value w.0.text, w.1))
+factor_at at = next_word kind.Number at >>= λ w. Ok (number_value w.0.text, w.1)
 
 -- A number, and the name that follows it and `*`.
 unfoldable pub number_product_at : Option Names → ReadWords (ℤ × Option Var)
