@@ -3,15 +3,14 @@ use Rattle.std.proofs.Common.{◌≡◌, ◌⊎◌, inl, inr, ◌+◌, ◌<◌, 
 use Rattle.std.specs.Prelude.{◌==◌, nat_lt, if◌then◌else◌}
 use Rattle.std.proofs.lemmas.Bool.{and_cases, and_parts, eqb-true, ltb-false, ltb-true, or_parts, true≢false}
 use Rattle.ps_token.specs.declared.place.Place.{Place}
-use Rattle.ps_token.specs.declared.token_kind.TokenKind.TheVariants as kind
 use Rattle.ps_tree.specs.declared.program.Program.{Program}
 use Rattle.ps_grammar.specs.Words.{Word}
-use Rattle.ps_parse.specs.Causes.{AreRefused, HasNoCause, IsCause, IsClean, IsFirstCause, is_after_factor, rank, words_at}
+use Rattle.ps_parse.specs.Causes.{AreRefused, HasNoCause, IsCause, IsClean, IsFirstCause, rank, words_at}
 use Rattle.ps_parse.specs.Examples.{turned}
 use Rattle.ps_parse.specs.Inner.Decided.{AreAnswered, decided, first_refusal, goes_first, is_before, is_second}
 use Rattle.ps_parse.specs.Inner.Items.{program_in}
 use Rattle.ps_parse.specs.Inner.Passed.{Finds, IsSpot}
-use Rattle.ps_parse.specs.Kinds.{begins_with, place_of_next}
+use Rattle.ps_parse.specs.Kinds.{place_of_next}
 use Rattle.ps_parse.specs.Parts.{HasOwnCause, is_second_name}
 use Rattle.ps_parse.specs.Promises.{ReadsWhole}
 use Rattle.ps_parse.specs.Reads.{BeginAlike, IsFirstGrammarFault, IsText, PassesGrammar}
@@ -25,7 +24,6 @@ use Rattle.ps_parse.proofs.OneRefusal.{one_cause, refused_words, second_caused}
 use Rattle.ps_parse.proofs.ProgramCauses.{program_of_first}
 use Rattle.ps_parse.proofs.ProgramGuards.{program_of_found, program_of_grammar}
 use Rattle.ps_parse.proofs.Spots.{Ascend, Equal, IsBefore, Longer, before_then, clean_before, clean_front, clean_in, compare, length_passed, longer_before, not_before_itself, passed, passed_front, passed_turned, same_front}
-use Rattle.ps_parse.proofs.Steps.{one_kind}
 
 -- ---- places
 

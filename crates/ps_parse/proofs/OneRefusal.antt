@@ -1,6 +1,6 @@
 -- A text is a program or is refused, in one way, and never both; and a text of the grammar is a program where no word of it
 -- has a cause of a refusal.
-use Rattle.std.proofs.Common.{◌≡◌, ◌⊎◌, inl, inr, ℕ, ◌+◌, ◌<◌, ◌≤◌, Bool, true, false, ◌&&◌, List, [], ◌∷◌, ◌++◌, length, Some, Result, Ok, Err, refl, sym, ap, subst, ◌∙◌, arith, length-append}
+use Rattle.std.proofs.Common.{◌≡◌, ◌⊎◌, inl, inr, ℕ, ◌+◌, ◌<◌, ◌≤◌, Bool, true, false, List, [], ◌∷◌, ◌++◌, length, Some, Result, Ok, Err, refl, sym, ap, subst, ◌∙◌, arith, length-append}
 use Rattle.std.specs.Prelude.{if◌then◌else◌, nat_eq}
 use Rattle.std.proofs.Math.Nat.{eq-or-lt_of_le}
 use Rattle.std.proofs.lemmas.Bool.{and_parts, cases_lt, cond-true, true≢false}
@@ -15,7 +15,7 @@ use Rattle.ps_tree.specs.declared.limit_name.LimitName.TheVariants as limit
 use Rattle.ps_tree.specs.declared.program.Program.{Program}
 use Rattle.ps_grammar.specs.Programs.{IsProgram, IsProgramText}
 use Rattle.ps_grammar.specs.Words.{Word, words_of}
-use Rattle.ps_parse.specs.Causes.{AreRefused, HasCauseOf, HasNoCause, IsCause, IsCauseAt, IsFaultIfSaid, IsFirstCause, is_after_factor, opens_level, rank, words_at}
+use Rattle.ps_parse.specs.Causes.{AreRefused, HasCauseOf, IsCause, IsCauseAt, IsFaultIfSaid, IsFirstCause, is_after_factor, opens_level, rank, words_at}
 use Rattle.ps_parse.specs.Inner.Items.{program_in}
 use Rattle.ps_parse.specs.Kinds.{begins_with, is_kind, place_of_next}
 use Rattle.ps_parse.specs.Parts.{is_second_name}
@@ -203,19 +203,25 @@ fault_words words end p h = by_test (is_second_name b.back b.ahead) refl
     s = program_of_refused words end (refusal.Grammar p) h
 
     by_test : (t : Bool) → is_second_name b.back b.ahead ≡ t → (f : ReadRefusal) × AreRefused words end f
-    by_test true e = (refusal.NotLinear p, record {
-      first = record { back = b.back; ahead = b.ahead; split = b.split; place_is = b.place_is; cause = caused b.back b.ahead (second_caused b.back b.ahead p e); first_here = λ other c. omega arith; first = b.first };
-      in_text = record { before = s.before; rest = s.rest; split = s.split; place_is = s.place_is; others = s.others; goes_on = s.goes_on; next = λ g. absurd g };
-      fault = tt;
-    })
+    by_test true e = (
+      refusal.NotLinear p,
+      record {
+        first = record { back = b.back; ahead = b.ahead; split = b.split; place_is = b.place_is; cause = caused b.back b.ahead (second_caused b.back b.ahead p e); first_here = λ other c. omega arith; first = b.first };
+        in_text = record { before = s.before; rest = s.rest; split = s.split; place_is = s.place_is; others = s.others; goes_on = s.goes_on; next = λ g. absurd g };
+        fault = tt;
+      },
+    )
       where
         caused : (back ahead : List Word) → IsCause back ahead (refusal.NotLinear p) → HasCauseOf back ahead (refusal.NotLinear p)
         caused back ahead c = c
-    by_test false e = (refusal.Grammar p, record {
-      first = record { back = b.back; ahead = b.ahead; split = b.split; place_is = b.place_is; cause = tt; first_here = least_grammar b.back b.ahead e; first = b.first };
-      in_text = s;
-      fault = program_of_grammar words end p h;
-    })
+    by_test false e = (
+      refusal.Grammar p,
+      record {
+        first = record { back = b.back; ahead = b.ahead; split = b.split; place_is = b.place_is; cause = tt; first_here = least_grammar b.back b.ahead e; first = b.first };
+        in_text = s;
+        fault = program_of_grammar words end p h;
+      },
+    )
 
 -- Words that are not read are refused by something.
 some_refusal : (words : List Word) (end : Place) (e : ReadRefusal) → program_in words end ≡ Err e → (f : ReadRefusal) × AreRefused words end f

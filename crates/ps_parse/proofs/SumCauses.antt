@@ -1,25 +1,24 @@
 -- The laws of causes of refusals of sums and relations: they leave open what was open, and each word that they pass has no
 -- cause of a refusal.
-use Rattle.std.proofs.Common.{◌≡◌, ℕ, zero, suc, Bool, true, false, ◌&&◌, ◌||◌, List, [], ◌∷◌, Option, Some, None, Err, refl, sym, ap, subst, ◌∙◌}
+use Rattle.std.proofs.Common.{◌≡◌, ℕ, zero, suc, Bool, true, false, ◌||◌, List, [], ◌∷◌, Option, Some, None, refl, ap, subst, ◌∙◌}
 use Rattle.std.specs.Prelude.{Contains, ok_or}
-use Rattle.std.proofs.lemmas.Bool.{and_right, true≢false}
 use Rattle.ps_token.specs.declared.place.Place.{Place}
 use Rattle.ps_token.specs.declared.token_kind.TokenKind.{TokenKind}
 use Rattle.ps_token.specs.declared.token_kind.TokenKind.TheVariants as kind
 use Rattle.ps_term.specs.declared.var.Var.{Var}
-use Rattle.ps_parse.specs.declared.read_refusal.ReadRefusal.TheVariants.{Grammar, NotLinear, UnknownName}
+use Rattle.ps_parse.specs.declared.read_refusal.ReadRefusal.TheVariants.{Grammar, UnknownName}
 use Rattle.ps_tree.specs.declared.relation.Sign.{Sign}
 use Rattle.ps_tree.specs.declared.relation.Sign.TheVariants as sign
 use Rattle.ps_parse.specs.declared.level.Level.{Level}
-use Rattle.ps_parse.specs.Causes.{declared_in, is_declaration, is_after_factor, levels, levels_with}
+use Rattle.ps_parse.specs.Causes.{declared_in, is_declaration, levels, levels_with}
 use Rattle.ps_grammar.specs.Names.{Names}
 use Rattle.ps_parse.specs.Inner.Variables.{variable_in, variable_at}
 use Rattle.ps_grammar.specs.Spelling.{sign_kind}
 use Rattle.ps_parse.specs.Inner.Sums.{factor_at, number_product_at, name_product_at, product_at, first_product_at, further_product_at, adds, sum_at, sign_from, sign_ahead, relation_at}
 use Rattle.ps_grammar.specs.Words.{Word}
 use Rattle.ps_parse.specs.Inner.Reading.{WordsAhead, ReadWords, next_is, next_word, after_word, words_while}
-use Rattle.ps_parse.specs.Kinds.{is_kind, begins_with, place_of_next}
-use Rattle.ps_parse.proofs.Steps.{one_kind, same_kind}
+use Rattle.ps_parse.specs.Kinds.{is_kind, begins_with}
+use Rattle.ps_parse.proofs.Steps.{same_kind}
 use Rattle.ps_parse.proofs.Guards.{Keeps, keeps_end, keeps_more}
 use Rattle.ps_parse.proofs.SumGuards.{AreSigns}
 use Rattle.ps_parse.proofs.CauseSteps.{Whole, In, Blamed, has_causes, plain, naming, stepped, Fresh, joins, fresh_word, fresh_star, level_word, grammar_blamed, unknown_blamed, then_keeps, if_keeps, after_keeps, found_word, word_keeps}

@@ -2,7 +2,6 @@
 use Rattle.std.proofs.Common.{◌≡◌, ◌≢◌, ℕ, ℤ, pos, Bool, true, false, ◌&&◌, ◌||◌, ◌⊎◌, inl, inr, List, [], ◌∷◌, ◌++◌, map, drop, Option, Some, None, Result, Ok, refl, sym, ap, subst, ◌∙◌, arith, append_assoc}
 use Rattle.std.specs.Prelude.{ok_or, ◌↔◌, if◌then◌else◌}
 use Rattle.std.specs.List.{flat_map, AllByRecursion}
-use Rattle.std.proofs.lemmas.Bool.{true≢false}
 use Rattle.std.proofs.lemmas.Option.{none-some}
 use Rattle.ps_token.specs.declared.place.Place.{Place}
 use Rattle.ps_token.specs.declared.token_kind.TokenKind.{TokenKind}
@@ -10,14 +9,14 @@ use Rattle.ps_token.specs.declared.token_kind.TokenKind.TheVariants as kind
 use Rattle.ps_term.specs.declared.var.Var.{Var}
 use Rattle.ps_term.specs.declared.var.Var.TheVariants.{Global}
 use Rattle.ps_parse.specs.declared.read_refusal.ReadRefusal.{ReadRefusal}
-use Rattle.ps_parse.specs.declared.read_refusal.ReadRefusal.TheVariants.{Grammar, NotLinear, UnknownName}
+use Rattle.ps_parse.specs.declared.read_refusal.ReadRefusal.TheVariants.{Grammar, UnknownName}
 use Rattle.ps_tree.specs.declared.relation.Relation.{Relation}
 use Rattle.ps_tree.specs.declared.relation.Sign.{Sign}
 use Rattle.ps_tree.specs.declared.relation.Sign.TheVariants as sign
 use Rattle.ps_tree.specs.declared.sum.Sum.{Sum}
 use Rattle.ps_grammar.specs.Grammar.{ProductText, number, name, number_name, name_number, SumText, RelationText}
 use Rattle.ps_grammar.specs.Words.{Word}
-use Rattle.ps_parse.specs.Inner.Reading.{WordsAhead, ReadWords, next_is, place_at, next_word, after_word}
+use Rattle.ps_parse.specs.Inner.Reading.{WordsAhead, ReadWords, next_is, next_word, after_word}
 use Rattle.ps_lines.specs.Steps.{◌>>=◌}
 use Rattle.ps_grammar.specs.Names.{Names, variable_of_name}
 use Rattle.ps_parse.specs.Inner.Variables.{variable_in, variable_at}
@@ -28,9 +27,9 @@ use Rattle.ps_parse.specs.Inner.Sums.{factor_at, number_product_at, name_product
 use Rattle.ps_parse.specs.Kinds.{is_kind}
 use Rattle.ps_grammar.specs.Spelling.{Piece, NamePiece, NumberPiece, Mark, piece_of_kind, pieces, product_pieces, minus_pieces, plus_or_minus, further_pieces, sum_pieces, sign_kind, relation_pieces}
 use Rattle.ps_parse.specs.Reads.{PassesGrammar, refusal_place}
-use Rattle.ps_parse.proofs.Steps.{same_kind, kind_of, kind_of_piece, begins_piece, begins_pieces, Not, Always, next_test, either_test, IsMark, mapped, both, three_is, pair_up, of_pair, bind_same, bind_bind, bind_end}
+use Rattle.ps_parse.proofs.Steps.{same_kind, kind_of, kind_of_piece, begins_piece, Not, Always, next_test, either_test, IsMark, mapped, both, three_is, pair_up, of_pair, bind_same, bind_bind, bind_end}
 use Rattle.ps_parse.proofs.Guards.{IsGrammar, Keeps, keeps_bind, keeps_end, first_alike, none_alike, Any, Stood, Made, Guards, Example, stood_here, example_of, pieces_are, name_sort, number_sort, one_piece, word_law, word_guards, word_is, unfit_word}
-use Rattle.ps_parse.proofs.GuardSteps.{guards_same, guards_as, mapped_guards, refusing_guards, nothing_guards, Joins, any_joins, both_guards, after_guards, OfSort, choosing_guards, choice_guards}
+use Rattle.ps_parse.proofs.GuardSteps.{guards_same, guards_as, mapped_guards, nothing_guards, Joins, any_joins, both_guards, after_guards, OfSort, choice_guards}
 use Rattle.ps_parse.proofs.GuardLoops.{GoesOn, list_trees, more_joins, while_guards}
 
 -- ---- names
