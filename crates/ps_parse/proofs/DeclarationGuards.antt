@@ -1,66 +1,27 @@
--- The laws of declarations, apart from how many rows hold at the start.
-use Rattle.std.proofs.Common.{◌≡◌, ◌≢◌, ℕ, suc, ◌<◌, ◌≤◌, ℤ, Bool, true, false, ◌⊎◌, inl, inr, List, [], ◌∷◌, ◌++◌, length, Option, Some, None, refl, ap, subst, ◌∙◌, sym, arith}
-use Rattle.std.specs.Prelude.{nat_le}
-use Rattle.std.specs.List.{flat_map, AllByRecursion}
-use Rattle.std.proofs.lemmas.Bool.{leb-false, leb-true, true≢false}
+-- The laws of declarations, whose rows aren't counted.
+use Rattle.std.proofs.Common.{◌≡◌, ◌≢◌, ℕ, suc, ℤ, Bool, true, false, ◌⊎◌, inl, inr, List, [], ◌∷◌, ◌++◌, Option, Some, None, refl, ap, ◌∙◌, sym, arith}
+use Rattle.std.specs.List.{flat_map}
 use Rattle.std.proofs.lemmas.List.Elements.{All-from_recursion, All-weaker, recursion_from_All}
-use Rattle.ps_term.specs.declared.var.Var.{Var}
 use Rattle.ps_token.specs.declared.place.Place.{Place}
 use Rattle.ps_token.specs.declared.token_kind.TokenKind.TheVariants as kind
-use Rattle.ps_tree.specs.declared.limit_name.LimitName.{LimitName}
-use Rattle.ps_tree.specs.declared.limit_name.LimitName.TheVariants as limit
 use Rattle.ps_tree.specs.declared.relation.Relation.{Relation}
 use Rattle.ps_tree.specs.declared.relation.Sign.TheVariants as sign
-use Rattle.ps_parse.specs.declared.read_refusal.ReadRefusal.{ReadRefusal}
-use Rattle.ps_parse.specs.declared.read_refusal.ReadRefusal.TheVariants.{Limit, Twice}
-use Rattle.ps_grammar.specs.Declarations.{Declared, most_globals, most_locals, names_of}
-use Rattle.ps_grammar.specs.Fits.{RelationFits, IsNew}
+use Rattle.ps_grammar.specs.Declarations.{Declared, names_of}
 use Rattle.ps_grammar.specs.Grammar.{RelationText, ValueText, ItemText, global, local, init}
-use Rattle.ps_grammar.specs.Names.{variable_of_name}
 use Rattle.ps_grammar.specs.Numbers.{number_value, signed}
 use Rattle.ps_grammar.specs.Spelling.{Piece, NumberPiece, NamePiece, Mark, minus_pieces, relation_pieces, value_pieces, more_relations, item_pieces}
 use Rattle.ps_grammar.specs.Trees.{relation_tree, declared_value, with_item}
-use Rattle.ps_grammar.specs.Words.{Word}
-use Rattle.ps_parse.specs.Inner.Items.{is_some_variable, refused_name, new_name_at, signed_number_ahead, declared_value_ahead, global_at, local_at, init_at, counted_item_at, with_rows}
-use Rattle.ps_parse.specs.Inner.Reading.{WordsAhead, next_word, after_word}
+use Rattle.ps_parse.specs.Inner.Items.{name_at, signed_number_ahead, declared_value_ahead, global_at, local_at, init_at, item_at}
+use Rattle.ps_parse.specs.Inner.Reading.{next_word, after_word}
 use Rattle.ps_parse.specs.Inner.Sums.{init_sign_of, relation_at}
-use Rattle.ps_parse.specs.Reads.{HasInitSigns, refusal_place}
+use Rattle.ps_parse.specs.Reads.{HasInitSigns}
 use Rattle.ps_parse.proofs.Steps.{begins_piece, Always, next_test, bind_bind}
-use Rattle.ps_parse.proofs.Guards.{IsGrammar, Keeps, keeps_bind, keeps_end, pieces_are, Any, Then, Stood, Made, Guards, Example, example_of, name_sort, number_sort, IsWord, word_law, word_guards, word_is, unfit_word}
+use Rattle.ps_parse.proofs.Guards.{Any, Then, Guards, Example, example_of, name_sort, number_sort, word_guards}
 use Rattle.ps_parse.proofs.GuardSteps.{guards_same, guards_as, guards_so, mapped_guards, Joins, any_joins, both_guards, both_guards_more, after_guards, after_guards_more, OfSort, choice_guards}
 use Rattle.ps_parse.proofs.GuardLoops.{GoesOn, Ends, while_guards}
-use Rattle.ps_parse.proofs.SumGuards.{name_piece, name_example, number_example, opt_pieces, OptFits, opt_tree, OptEnds, opt_guards, init_signs, every_init_sign, no_init_sign, SignIn, relation_guards, relation_text, relation_example, NoSum, no_sum}
-use Rattle.ps_parse.proofs.CondGuards.{listed, relation_known}
+use Rattle.ps_parse.proofs.SumGuards.{name_piece, name_example, number_example, opt_pieces, opt_tree, OptEnds, opt_guards, init_signs, every_init_sign, no_init_sign, SignIn, relation_guards, relation_example, NoSum, no_sum}
+use Rattle.ps_parse.proofs.CondGuards.{listed}
 use Rattle.ps_parse.proofs.StmtGuards.{ended_guards}
-
--- ---- a new name
-
-abbrev NewFits : Declared → ℕ → ℕ → List ℕ → Type 0
-NewFits d count most x = IsNew d x × (count < most)
-
-not_declared : (o : Option Var) → is_some_variable o ≡ false → o ≡ None
-not_declared None h = refl
-not_declared (Some v) h = absurd cc
-
-new_guards : (n : ℕ) (d : Declared) (count most : ℕ) (what : LimitName) → Guards n (new_name_at d count most what) name_piece Always (NewFits d count most) (λ x ps. x) Any
-unfolding new_name_at
-new_guards n d count most what = record {
-  stuck = λ at room.
-      keeps_bind _ _ _ _ _ _ (word_law kind.Name NamePiece (λ t. t) (NewFits d count most) name_sort at)
-      (λ w p. by_tests at w p (is_some_variable (variable_of_name (names_of d) w.0.text)) (nat_le most count) refl refl)
-      (λ e q. q);
-}
-  where
-    at_name : (at : WordsAhead) (w : Word × WordsAhead) (e : ReadRefusal) → IsWord NamePiece (λ t. t) at w → refusal_place e ≡ Some w.0.place → (IsGrammar e → ⊥) → (NewFits d count most w.0.text → ⊥) → Stood name_piece Always (NewFits d count most) Any at e
-    at_name at w e p is other unfit =
-        unfit_word NamePiece (λ t. t) at w e p is other p.went.text tt [] (pieces_are p.went.front [] (name_piece p.went.text) [] p.went.spelled refl)
-        (λ c tail ok fit stop h. unfit (subst (NewFits d count most) (word_is kind.Name NamePiece (λ t. t) name_sort at w p c tail h) fit))
-
-    by_tests : (at : WordsAhead) (w : Word × WordsAhead) → IsWord NamePiece (λ t. t) at w → (t u : Bool) → is_some_variable (variable_of_name (names_of d) w.0.text) ≡ t → nat_le most count ≡ u
-        → Keeps (refused_name t u what w) (Made name_piece Always (NewFits d count most) (λ x ps. x) Any at) (Stood name_piece Always (NewFits d count most) Any at)
-    by_tests at w p true u a b = record { is = at_name at w (Twice w.0.place) p refl (λ g. g) (λ fit. true≢false (sym a ∙ ap is_some_variable fit.0)) }
-    by_tests at w p false true a b = record { is = at_name at w (Limit w.0.place what) p refl (λ g. g) (λ fit. let le : most ≤ count = leb-true most count b in absurd (omega (arith, le, fit.1))) }
-    by_tests at w p false false a b = keeps_end _ _ _ (record { went = p.went; fit = subst (NewFits d count most) (sym p.text) (not_declared _ a, leb-false most count b); is = sym p.text })
 
 -- ---- values
 
@@ -74,10 +35,10 @@ minus_sort : (negative : Bool) (digits : List ℕ) → OfSort (begins_piece kind
 minus_sort true digits = inl (record { text = digits; same = refl; fine = tt; tells = λ rest h. refl })
 minus_sort false digits = inr (record { text = digits; same = refl; fine = tt; tells = λ rest h. refl })
 
-number_guards : (n : ℕ) → Guards n signed_number_ahead number_pieces Always Always (λ v ps. value_number v) Any
+number_guards : (n : ℕ) → Guards n signed_number_ahead number_pieces Always (λ v ps. value_number v) Any
 unfolding signed_number_ahead after_word
 number_guards n =
-    choice_guards number_pieces Always Always (λ v ps. value_number v) Any (next_test kind.Minus) (λ d. record { negative = true; digits = d }) (λ d h. tt) (λ d. record { negative = false; digits = d }) (λ d h. tt)
+    choice_guards number_pieces Always (λ v ps. value_number v) Any (next_test kind.Minus) (λ d. record { negative = true; digits = d }) (λ d h. tt) (λ d. record { negative = false; digits = d }) (λ d h. tt)
     (λ v ok. minus_sort v.negative v.digits) (λ d rest h. tt) (λ d rest h. tt)
     (guards_same _ (λ at. sym (bind_bind (next_word kind.Minus at) _ _)) (after_guards kind.Minus (λ u. refl) number_example (word_guards n kind.Number NumberPiece (λ t. t) number_sort (λ d. (signed true (number_value d, None)).0))))
     (word_guards n kind.Number NumberPiece (λ t. t) number_sort number_value)
@@ -90,24 +51,18 @@ value_said : (v : Option ValueText) (ps : List Place) → opt_tree (λ w qs. val
 value_said None ps = refl
 value_said (Some v) ps = refl
 
-value_unfit : (v : Option ValueText) → OptFits (λ (w : ValueText). Unit {0}) v
-value_unfit None = tt
-value_unfit (Some v) = tt
-
-pub value_guards : (n : ℕ) → Guards n declared_value_ahead value_pieces Always Always (λ v ps. declared_value v) (OptEnds kind.Equal)
+pub value_guards : (n : ℕ) → Guards n declared_value_ahead value_pieces Always (λ v ps. declared_value v) (OptEnds kind.Equal)
 unfolding declared_value_ahead
 value_guards n =
     guards_as (λ c. c) (λ c. c)
-    (record { back = λ c. refl; spelled = value_spelled; fine = λ c h. tt; unfine = λ c h. tt; fit = λ c h. tt; unfit = λ v h. value_unfit v; said = value_said; stops = λ c rest h. h })
+    (record { back = λ c. refl; spelled = value_spelled; fine = λ c h. tt; unfine = λ c h. tt; said = value_said; stops = λ c rest h. h })
     (opt_guards kind.Equal (λ u. refl) (example_of (record { negative = false; digits = [] }) tt refl) (number_guards n))
 
 -- ---- declarations
 
--- An item fits, its rows and its signs apart.
-abbrev pub NamesFit : Declared → ItemText → Type 0
-NamesFit d (global x v) = IsNew d x × (length d.globals < most_globals)
-NamesFit d (local x) = IsNew d x × (length d.locals < most_locals)
-NamesFit d (init r rs) = AllByRecursion (RelationFits (names_of d)) (r ∷ rs)
+-- the same declarations with so many rows
+abbrev pub with_rows : ℕ → Declared → Declared
+with_rows rows d = record { globals = d.globals; locals = d.locals; inits = d.inits; rows = rows }
 
 -- what is declared after an item, its rows not counted
 abbrev pub declared_tree : Declared → ItemText → List Place → Declared
@@ -126,16 +81,19 @@ pub value_ends : (v : Option ValueText) (rest : List Piece) → OptEnds kind.Equ
 value_ends None rest = refl
 value_ends (Some v) rest = tt
 
-global_guards : (n : ℕ) (d : Declared) → Guards n (global_at d) (λ (c : List ℕ × Option ValueText). item_pieces (global c.0 c.1)) Always (λ c. NamesFit d (global c.0 c.1)) (λ c. declared_tree d (global c.0 c.1)) Any
+name_guards : (n : ℕ) → Guards n name_at name_piece Always (λ x ps. x) Any
+name_guards n = word_guards n kind.Name NamePiece (λ t. t) name_sort (λ x. x)
+
+global_guards : (n : ℕ) (d : Declared) → Guards n (global_at d) (λ (c : List ℕ × Option ValueText). item_pieces (global c.0 c.1)) Always (λ c. declared_tree d (global c.0 c.1)) Any
 unfolding global_at
 global_guards n d =
-    guards_so Always (λ c. NamesFit d (global c.0 c.1)) Any (λ c h. tt) (λ c h. (tt, tt)) (λ c h. h.0) (λ c h. (h, tt)) (λ c rest h. h)
-    (both_guards (with_global d) any_joins (example_of None tt refl) (after_guards kind.Global (λ u. refl) name_example (new_guards n d (length d.globals) most_globals limit.Globals)) (ended_guards value_ends (value_guards n)))
+    guards_so Always Any (λ c h. tt) (λ c h. (tt, tt)) (λ c rest h. h)
+    (both_guards (with_global d) any_joins (example_of None tt refl) (after_guards kind.Global (λ u. refl) name_example (name_guards n)) (ended_guards value_ends (value_guards n)))
 
-local_guards : (n : ℕ) (d : Declared) → Guards n (local_at d) (λ x. item_pieces (local x)) Always (λ x. NamesFit d (local x)) (λ x. declared_tree d (local x)) Any
+local_guards : (n : ℕ) (d : Declared) → Guards n (local_at d) (λ x. item_pieces (local x)) Always (λ x. declared_tree d (local x)) Any
 unfolding local_at
 local_guards n d =
-    mapped_guards (with_local d) (after_guards kind.Local (λ u. refl) (example_of [] tt refl) (ended_guards (λ c rest. tt) (new_guards n d (length d.locals) most_locals limit.Locals)))
+    mapped_guards (with_local d) (after_guards kind.Local (λ u. refl) (example_of [] tt refl) (ended_guards (λ c rest. tt) (name_guards n)))
 
 abbrev InitOk : RelationText → Type 0
 InitOk r = SignIn init_sign_of r.sign
@@ -143,10 +101,8 @@ InitOk r = SignIn init_sign_of r.sign
 init_example : Example relation_pieces InitOk
 init_example = relation_example init_sign_of refl
 
-init_relation : (n : ℕ) (d : Declared) → Guards n (relation_at init_sign_of (Some (names_of d)) n) relation_pieces InitOk (RelationFits (names_of d)) (λ r ps. relation_tree (names_of d) r) (Then NoSum)
-init_relation n d =
-    guards_so InitOk (RelationFits (names_of d)) (Then NoSum) (λ r h. h) (λ r h. h) (λ r h. (relation_known (names_of d) r).0 h) (λ r h. (relation_known (names_of d) r).1 h) (λ r rest h. no_sum r.right rest h)
-    (relation_guards n (Some (names_of d)) init_sign_of init_signs refl)
+init_relation : (n : ℕ) (d : Declared) → Guards n (relation_at init_sign_of (names_of d) n) relation_pieces InitOk (λ r ps. relation_tree (names_of d) r) (Then NoSum)
+init_relation n d = guards_so InitOk (Then NoSum) (λ r h. h) (λ r h. h) (λ r rest h. no_sum r.right rest h) (relation_guards n (names_of d) init_sign_of init_signs refl)
 
 abbrev and_pieces : RelationText → List Piece
 and_pieces r = Mark kind.And ∷ relation_pieces r
@@ -172,7 +128,7 @@ init_joins = record { first = λ c rest h. relations_join c.1 rest; second = λ 
 abbrev pub Allowed : RelationText → Type 0
 Allowed r = r.sign ≢ sign.NotEqual
 
-init_guards : (n : ℕ) (d : Declared) → Guards (suc n) (init_at d n) (λ (c : RelationText × List RelationText). item_pieces (init c.0 c.1)) (λ c. HasInitSigns (init c.0 c.1)) (λ c. NamesFit d (init c.0 c.1)) (λ c. declared_tree d (init c.0 c.1)) Any
+init_guards : (n : ℕ) (d : Declared) → Guards (suc n) (init_at d n) (λ (c : RelationText × List RelationText). item_pieces (init c.0 c.1)) (λ c. HasInitSigns (init c.0 c.1)) (λ c. declared_tree d (init c.0 c.1)) Any
 unfolding init_at
 init_guards n d =
     guards_as (λ c. c) (λ c. c)
@@ -181,8 +137,6 @@ init_guards n d =
       spelled = λ c. ap (λ (ps : List Piece). Mark kind.Init ∷ (relation_pieces c.0 ++ (ps ++ Mark kind.Semicolon ∷ []))) (more_is c.1);
       fine = λ c h. All-weaker InitOk Allowed (λ r f. no_init_sign r.sign f) (c.0 ∷ c.1) (All-from_recursion InitOk (c.0 ∷ c.1) h);
       unfine = λ c h. recursion_from_All InitOk (c.0 ∷ c.1) (All-weaker Allowed InitOk (λ r f. every_init_sign r.sign f) (c.0 ∷ c.1) h);
-      fit = λ c h. h;
-      unfit = λ c h. h;
       said = λ c ps. ap (with_inits d (relation_tree (names_of d) c.0)) (listed and_pieces (relation_tree (names_of d)) c.1 _);
       stops = λ c rest h. h;
     })
@@ -210,11 +164,8 @@ local_sort (global x v) ok = absurd ok
 local_sort (local x) ok = inl (record { text = x; same = refl; fine = tt; tells = λ rest h. refl })
 local_sort (init r rs) ok = inr (record { text = (r, rs); same = refl; fine = ok; tells = λ rest h. refl })
 
-pub counted_guards : (n : ℕ) (d : Declared) → Guards (suc n) (counted_item_at d n) item_pieces HasInitSigns (NamesFit d) (declared_tree d) Any
-unfolding counted_item_at
-counted_guards n d =
-    choice_guards item_pieces HasInitSigns (NamesFit d) (declared_tree d) Any (next_test kind.Global) (λ c. global c.0 c.1) (λ c h. tt) (λ i. i) not_global global_sort (λ c rest h. tt) (λ i rest h. tt) (global_guards (suc n) d)
-    (choice_guards item_pieces NotGlobal (NamesFit d) (declared_tree d) Any (next_test kind.Local) local (λ c h. tt) (λ c. init c.0 c.1) (λ c h. h) local_sort (λ x rest h. tt) (λ c rest h. tt) (local_guards (suc n) d) (init_guards n d))
-
-pub init_item_okay : HasInitSigns (init relation_text [])
-init_item_okay = All-from_recursion Allowed (relation_text ∷ []) (no_init_sign sign.Less refl, tt)
+pub item_guards : (n : ℕ) (d : Declared) → Guards (suc n) (item_at d n) item_pieces HasInitSigns (declared_tree d) Any
+unfolding item_at
+item_guards n d =
+    choice_guards item_pieces HasInitSigns (declared_tree d) Any (next_test kind.Global) (λ c. global c.0 c.1) (λ c h. tt) (λ i. i) not_global global_sort (λ c rest h. tt) (λ i rest h. tt) (global_guards (suc n) d)
+    (choice_guards item_pieces NotGlobal (declared_tree d) Any (next_test kind.Local) local (λ c h. tt) (λ c. init c.0 c.1) (λ c h. h) local_sort (λ x rest h. tt) (λ c rest h. tt) (local_guards (suc n) d) (init_guards n d))

@@ -11,7 +11,7 @@ use Rattle.ps_grammar.specs.Names.{Names}
 use Rattle.ps_parse.specs.Inner.Blocks.{ended_at}
 use Rattle.ps_parse.specs.Inner.Sums.{relation_at, init_sign_of}
 use Rattle.ps_parse.specs.Inner.Steps.{passed, rows_then, relations_at}
-use Rattle.ps_grammar.specs.Declarations.{Declared, rows_of_sign}
+use Rattle.ps_grammar.specs.Declarations.{Declared, names_of, nothing_declared, rows_of_sign}
 use Rattle.ps_parse.specs.Inner.Items.{item_at, items_at, has_item, rows_from, rows_counted_on}
 use Rattle.ps_parse.proofs.Repeated.{refuses_same}
 
@@ -53,7 +53,7 @@ rows_of r = rows_of_sign r.sign
 
 -- the rows of the next relation and of what follows
 abbrev pub NextRows : ℕ → WordsAhead → Option ℕ → WordsAhead → Type 0
-NextRows n at rows next = (rest : WordsAhead → ℕ) → rows_counted_on (λ (r : Relation). rows_of_sign r.sign) rest (relation_at init_sign_of None n at) ≡ rows_then rows (rest next)
+NextRows n at rows next = (rest : WordsAhead → ℕ) → rows_counted_on (λ (r : Relation). rows_of_sign r.sign) rest (relation_at init_sign_of (names_of nothing_declared) n at) ≡ rows_then rows (rest next)
 
 -- the rows counted so far, in a loop that may go on `left` times
 pub record Counts (n left rows : ℕ) (at : WordsAhead) (total : ℕ) : Type 0 where
@@ -66,7 +66,7 @@ counts_all n i rows at total h le =
     let one : rows_from n (n - i) at ≡ 0 = rw k refl in
     omega (arith, one, h.same)
 
-step : (n i : ℕ) (at : WordsAhead) → i < n → rows_from n (n - i) at ≡ rows_counted_on (λ (r : Relation). rows_of_sign r.sign) (λ next. passed (rows_from n (n - (i + 1))) (next_word kind.And next)) (relation_at init_sign_of None n at)
+step : (n i : ℕ) (at : WordsAhead) → i < n → rows_from n (n - i) at ≡ rows_counted_on (λ (r : Relation). rows_of_sign r.sign) (λ next. passed (rows_from n (n - (i + 1))) (next_word kind.And next)) (relation_at init_sign_of (names_of nothing_declared) n at)
 unfolding rows_from
 step n i at lt = let k : n - i ≡ suc (n - (i + 1)) = omega arith in rw k refl
 
@@ -100,13 +100,13 @@ unended {A = A} front list after r (Ok x) e stop =
     rw (same, stop) refl
 unended front list after r (Err f) e stop = absurd cc
 
-pub relations_unended : (scope : Option Names) (n : ℕ) (at first next after : WordsAhead) (w : Word) (x : Relation) (front list : List Relation) (r : ReadRefusal)
+pub relations_unended : (names : Names) (n : ℕ) (at first next after : WordsAhead) (w : Word) (x : Relation) (front list : List Relation) (r : ReadRefusal)
     → next_word kind.Init at ≡ Ok (w, first)
-    → relation_at init_sign_of scope n first ≡ Ok (x, next)
-    → with_front front (words_while (next_is kind.And) (after_word kind.And (relation_at init_sign_of scope n)) n next) ≡ Ok (list, after)
-    → Refuses r (next_word kind.Semicolon after) → Refuses r (relations_at scope n at)
+    → relation_at init_sign_of names n first ≡ Ok (x, next)
+    → with_front front (words_while (next_is kind.And) (after_word kind.And (relation_at init_sign_of names n)) n next) ≡ Ok (list, after)
+    → Refuses r (next_word kind.Semicolon after) → Refuses r (relations_at names n at)
 unfolding relations_at ended_at after_word and_then
-relations_unended scope n at first next after w x front list r init one more =
-    refuses_same r (next_word kind.Semicolon after) (relations_at scope n at) (λ stop.
-    let left = unended front list after r (words_while (next_is kind.And) (after_word kind.And (relation_at init_sign_of scope n)) n next) more stop in
+relations_unended names n at first next after w x front list r init one more =
+    refuses_same r (next_word kind.Semicolon after) (relations_at names n at) (λ stop.
+    let left = unended front list after r (words_while (next_is kind.And) (after_word kind.And (relation_at init_sign_of names n)) n next) more stop in
     rw (init, one, left) refl)

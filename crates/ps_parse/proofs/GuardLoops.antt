@@ -10,7 +10,7 @@ use Rattle.ps_parse.specs.Inner.Reading.{WordsAhead, ReadWords, words_while}
 use Rattle.ps_lines.specs.Steps.{◌>>=◌}
 use Rattle.ps_grammar.specs.Spelling.{Piece, pieces}
 use Rattle.ps_parse.proofs.Steps.{places, Alike, IsTest}
-use Rattle.ps_parse.proofs.Guards.{Keeps, keeps_bind, keeps_end, told, Against, Went, Stood, Made, Guards, went_places, went_as, stood_as, example_of}
+use Rattle.ps_parse.proofs.Guards.{Keeps, keeps_bind, keeps_end, told, Went, Stood, Made, Guards, went_places, went_as, stood_as, example_of}
 use Rattle.ps_parse.proofs.GuardSteps.{room_left, pair_pieces, Both, Joins, went_then, stood_then, stood_first}
 
 -- A repetition goes on where a text begins, which is of a word at least, and a text may follow another.
@@ -54,15 +54,15 @@ turn_only spell follows test e r (d ∷ ds) ps tail fine stop alike h =
     let one : ((d, ds) ≡ r.text) × (ps ≡ tail) = r.only (d, ds) ps tail fine stop alike h in
     (ap (λ c. cons c) one.0, one.1)
 
-turn_none : {C : Type 0} {goes : WordsAhead → Bool} {begins : List Piece → Bool} {okay : C → Type 0} {at : WordsAhead} {f : ReadRefusal} (spell : C → List Piece) (fits : List C → Type 0) (follows : C → List Piece → Type 0) → IsTest goes begins → goes at ≡ true
-    → (r : Stood (pair_pieces spell (flat_map spell)) (Both okay (AllByRecursion okay)) (λ c. fits (cons c)) (λ c. Ends begins follows (cons c)) at f) → (cs : List C) (ps tail : List Piece)
-    → AllByRecursion okay cs → Against f (fits cs) ps r.rest → Ends begins follows cs tail → Alike (pieces r.rest) ps → pieces r.front ++ ps ≡ flat_map spell cs ++ tail → ⊥
-turn_none {at = at} spell fits follows test e r [] ps tail fine against stop alike h = true≢false (sym e ∙ told test at r.front r.rest ps tail r.split alike h ∙ stop)
-turn_none spell fits follows test e r (d ∷ ds) ps tail fine against stop alike h = r.none (d, ds) ps tail fine against stop alike h
+turn_none : {C : Type 0} {goes : WordsAhead → Bool} {begins : List Piece → Bool} {okay : C → Type 0} {at : WordsAhead} {f : ReadRefusal} (spell : C → List Piece) (follows : C → List Piece → Type 0) → IsTest goes begins → goes at ≡ true
+    → (r : Stood (pair_pieces spell (flat_map spell)) (Both okay (AllByRecursion okay)) (λ c. Ends begins follows (cons c)) at f) → (cs : List C) (ps tail : List Piece)
+    → AllByRecursion okay cs → Ends begins follows cs tail → Alike (pieces r.rest) ps → pieces r.front ++ ps ≡ flat_map spell cs ++ tail → ⊥
+turn_none {at = at} spell follows test e r [] ps tail fine stop alike h = true≢false (sym e ∙ told test at r.front r.rest ps tail r.split alike h ∙ stop)
+turn_none spell follows test e r (d ∷ ds) ps tail fine stop alike h = r.none (d, ds) ps tail fine stop alike h
 
-turn_stood : {C : Type 0} {goes : WordsAhead → Bool} {begins : List Piece → Bool} {okay : C → Type 0} {at : WordsAhead} {f : ReadRefusal} (spell : C → List Piece) (fits : List C → Type 0) (follows : C → List Piece → Type 0) → IsTest goes begins → goes at ≡ true
-    → Stood (pair_pieces spell (flat_map spell)) (Both okay (AllByRecursion okay)) (λ c. fits (cons c)) (λ c. Ends begins follows (cons c)) at f → Stood (flat_map spell) (AllByRecursion okay) fits (Ends begins follows) at f
-turn_stood {begins = begins} {okay = okay} spell fits follows test e r = stood_as (flat_map spell) (AllByRecursion okay) fits (Ends begins follows) (λ c. cons c) (λ c. refl) (λ c h. h) r (turn_none spell fits follows test e r)
+turn_stood : {C : Type 0} {goes : WordsAhead → Bool} {begins : List Piece → Bool} {okay : C → Type 0} {at : WordsAhead} {f : ReadRefusal} (spell : C → List Piece) (follows : C → List Piece → Type 0) → IsTest goes begins → goes at ≡ true
+    → Stood (pair_pieces spell (flat_map spell)) (Both okay (AllByRecursion okay)) (λ c. Ends begins follows (cons c)) at f → Stood (flat_map spell) (AllByRecursion okay) (Ends begins follows) at f
+turn_stood {begins = begins} {okay = okay} spell follows test e r = stood_as (flat_map spell) (AllByRecursion okay) (Ends begins follows) (λ c. cons c) (λ c. refl) (λ c h. h) r (turn_none spell follows test e r)
 
 -- after the first turn, what the others do
 abbrev pub turn_goes : {C : Type 0} {goes : WordsAhead → Bool} {begins : List Piece → Bool} {spell : C → List Piece} {okay : C → Type 0} {follows : C → List Piece → Type 0} {at mid after : WordsAhead} → IsTest goes begins → GoesOn begins spell follows → goes at ≡ true
@@ -70,14 +70,14 @@ abbrev pub turn_goes : {C : Type 0} {goes : WordsAhead → Bool} {begins : List 
 turn_goes {begins = begins} {spell = spell} {okay = okay} {follows = follows} test on e p q =
     went_as (flat_map spell) (AllByRecursion okay) (Ends begins follows) (λ c. cons c) (λ c. refl) (λ c h. h) (went_then (more_joins on) p q) (turn_only spell follows test e (went_then (more_joins on) p q))
 
-pub turn_ends : {C : Type 0} {goes : WordsAhead → Bool} {begins : List Piece → Bool} {spell : C → List Piece} {okay : C → Type 0} {follows : C → List Piece → Type 0} {at mid : WordsAhead} {f : ReadRefusal} (fits fits' : List C → Type 0) → IsTest goes begins → GoesOn begins spell follows → goes at ≡ true
-    → (p : Went spell okay follows at mid) → ((c : C × List C) → c.0 ≡ p.text → fits (cons c) → fits' c.1) → Stood (flat_map spell) (AllByRecursion okay) fits' (Ends begins follows) mid f → Stood (flat_map spell) (AllByRecursion okay) fits (Ends begins follows) at f
-turn_ends {spell = spell} {follows = follows} fits fits' test on e p later q = turn_stood spell fits follows test e (stood_then (λ c. fits (cons c)) (more_joins on) p later q)
+pub turn_ends : {C : Type 0} {goes : WordsAhead → Bool} {begins : List Piece → Bool} {spell : C → List Piece} {okay : C → Type 0} {follows : C → List Piece → Type 0} {at mid : WordsAhead} {f : ReadRefusal} → IsTest goes begins → GoesOn begins spell follows → goes at ≡ true
+    → Went spell okay follows at mid → Stood (flat_map spell) (AllByRecursion okay) (Ends begins follows) mid f → Stood (flat_map spell) (AllByRecursion okay) (Ends begins follows) at f
+turn_ends {spell = spell} {follows = follows} test on e p q = turn_stood spell follows test e (stood_then (more_joins on) p q)
 
 -- the first turn is refused
-pub turn_fails : {C : Type 0} {goes : WordsAhead → Bool} {begins : List Piece → Bool} {spell : C → List Piece} {okay fits : C → Type 0} {follows : C → List Piece → Type 0} {at : WordsAhead} {f : ReadRefusal} (fits' : List C → Type 0) → IsTest goes begins → GoesOn begins spell follows → goes at ≡ true
-    → ((c : C × List C) → fits' (cons c) → fits c.0) → Stood spell okay fits follows at f → Stood (flat_map spell) (AllByRecursion okay) fits' (Ends begins follows) at f
-turn_fails {spell = spell} {follows = follows} fits' test on e sooner q = turn_stood spell fits' follows test e (stood_first (λ c. fits' (cons c)) (more_joins on) (example_of [] tt refl) sooner q)
+pub turn_fails : {C : Type 0} {goes : WordsAhead → Bool} {begins : List Piece → Bool} {spell : C → List Piece} {okay : C → Type 0} {follows : C → List Piece → Type 0} {at : WordsAhead} {f : ReadRefusal} → IsTest goes begins → GoesOn begins spell follows → goes at ≡ true
+    → Stood spell okay follows at f → Stood (flat_map spell) (AllByRecursion okay) (Ends begins follows) at f
+turn_fails {spell = spell} {follows = follows} test on e q = turn_stood spell follows test e (stood_first (more_joins on) (example_of [] tt refl) q)
 
 pub none_begins : {C : Type 0} {goes : WordsAhead → Bool} {begins : List Piece → Bool} {spell : C → List Piece} {follows : C → List Piece → Type 0} (okay : C → Type 0) (at : WordsAhead) → IsTest goes begins → GoesOn begins spell follows → goes at ≡ false
     → (cs : List C) (ps tail : List Piece) → AllByRecursion okay cs → Ends begins follows cs tail → Alike (pieces at.words) ps → ps ≡ flat_map spell cs ++ tail → (cs ≡ []) × (ps ≡ tail)
@@ -90,28 +90,27 @@ abbrev pub turn_stops : {C : Type 0} {goes : WordsAhead → Bool} {begins : List
     → Went (flat_map spell) (AllByRecursion okay) (Ends begins follows) at at
 turn_stops {spell = spell} {okay = okay} {follows = follows} at test on e = record { text = []; fine = tt; front = []; split = refl; ends = refl; spelled = refl; only = none_begins okay at test on e }
 
-while_stuck : {C A : Type 0} {n : ℕ} {read : ReadWords A} {goes : WordsAhead → Bool} {begins : List Piece → Bool} {spell : C → List Piece} {okay fits : C → Type 0} {tree : C → List Place → A} {follows : C → List Piece → Type 0}
-    → IsTest goes begins → GoesOn begins spell follows → Guards n read spell okay fits tree follows → (m l : ℕ) → l ≤ m → l ≤ n → (at : WordsAhead) → length at.words < l
-    → Keeps (words_while goes read m at) (Made (flat_map spell) (AllByRecursion okay) (AllByRecursion fits) (list_trees spell tree) (Ends begins follows) at) (Stood (flat_map spell) (AllByRecursion okay) (AllByRecursion fits) (Ends begins follows) at)
+while_stuck : {C A : Type 0} {n : ℕ} {read : ReadWords A} {goes : WordsAhead → Bool} {begins : List Piece → Bool} {spell : C → List Piece} {okay : C → Type 0} {tree : C → List Place → A} {follows : C → List Piece → Type 0}
+    → IsTest goes begins → GoesOn begins spell follows → Guards n read spell okay tree follows → (m l : ℕ) → l ≤ m → l ≤ n → (at : WordsAhead) → length at.words < l
+    → Keeps (words_while goes read m at) (Made (flat_map spell) (AllByRecursion okay) (list_trees spell tree) (Ends begins follows) at) (Stood (flat_map spell) (AllByRecursion okay) (Ends begins follows) at)
 unfolding words_while
 while_stuck test on g zero l a b at room = absurd (omega (arith, a, room))
-while_stuck {A = A} {read = read} {goes = goes} {begins = begins} {spell = spell} {okay = okay} {fits = fits} {tree = tree} {follows = follows} test on g (suc m) l a b at room =
+while_stuck {A = A} {read = read} {goes = goes} {begins = begins} {spell = spell} {okay = okay} {tree = tree} {follows = follows} test on g (suc m) l a b at room =
     by_test (goes at) refl (λ mid short. while_stuck test on g m (l - 1) (omega (arith, a)) (omega (arith, b)) mid short)
   where
-    by_test : (t : Bool) → goes at ≡ t → ((mid : WordsAhead) → length mid.words < l - 1 → Keeps (words_while goes read m mid) (Made (flat_map spell) (AllByRecursion okay) (AllByRecursion fits) (list_trees spell tree) (Ends begins follows) mid) (Stood (flat_map spell) (AllByRecursion okay) (AllByRecursion fits) (Ends begins follows) mid))
-        → Keeps {A = List A × WordsAhead} (if t then (read at >>= λ x. words_while goes read m x.1 >>= λ xs. Ok (x.0 ∷ xs.0, xs.1)) else Ok ([], at)) (Made (flat_map spell) (AllByRecursion okay) (AllByRecursion fits) (list_trees spell tree) (Ends begins follows) at) (Stood (flat_map spell) (AllByRecursion okay) (AllByRecursion fits) (Ends begins follows) at)
+    by_test : (t : Bool) → goes at ≡ t → ((mid : WordsAhead) → length mid.words < l - 1 → Keeps (words_while goes read m mid) (Made (flat_map spell) (AllByRecursion okay) (list_trees spell tree) (Ends begins follows) mid) (Stood (flat_map spell) (AllByRecursion okay) (Ends begins follows) mid))
+        → Keeps {A = List A × WordsAhead} (if t then (read at >>= λ x. words_while goes read m x.1 >>= λ xs. Ok (x.0 ∷ xs.0, xs.1)) else Ok ([], at)) (Made (flat_map spell) (AllByRecursion okay) (list_trees spell tree) (Ends begins follows) at) (Stood (flat_map spell) (AllByRecursion okay) (Ends begins follows) at)
     by_test true e more =
         keeps_bind _ _ _ _ _ _ (g.stuck at (omega (arith, room, b)))
         (λ x p. keeps_bind _ _ _ _ _ _ (more x.1 (room_left l (l - 1) at.words p.went.front x.1.words (spell p.went.text) room p.went.split p.went.spelled (omega (arith, on.some p.went.text, room))))
         (λ y q. keeps_end _ _ _ (record {
           went = turn_goes test on e p.went q.went;
-          fit = (p.fit, q.fit);
           is = ap (λ (a : A). a ∷ y.0) p.is ∙ ap (λ (as' : List A). tree p.went.text (places at.words) ∷ as') (q.is ∙ ap (list_trees spell tree q.went.text) (went_places p.went));
         }))
-        (λ f q. turn_ends (AllByRecursion fits) (AllByRecursion fits) test on e p.went (λ c s h. h.1) q))
-        (λ f q. turn_fails (AllByRecursion fits) test on e (λ c h. h.0) q)
-    by_test false e more = keeps_end _ _ _ (record { went = turn_stops at test on e; fit = tt; is = refl })
+        (λ f q. turn_ends test on e p.went q))
+        (λ f q. turn_fails test on e q)
+    by_test false e more = keeps_end _ _ _ (record { went = turn_stops at test on e; is = refl })
 
-pub while_guards : {C A : Type 0} {n : ℕ} {read : ReadWords A} {goes : WordsAhead → Bool} {begins : List Piece → Bool} {spell : C → List Piece} {okay fits : C → Type 0} {tree : C → List Place → A} {follows : C → List Piece → Type 0}
-    → IsTest goes begins → GoesOn begins spell follows → Guards n read spell okay fits tree follows → Guards n (words_while goes read n) (flat_map spell) (AllByRecursion okay) (AllByRecursion fits) (list_trees spell tree) (Ends begins follows)
+pub while_guards : {C A : Type 0} {n : ℕ} {read : ReadWords A} {goes : WordsAhead → Bool} {begins : List Piece → Bool} {spell : C → List Piece} {okay : C → Type 0} {tree : C → List Place → A} {follows : C → List Piece → Type 0}
+    → IsTest goes begins → GoesOn begins spell follows → Guards n read spell okay tree follows → Guards n (words_while goes read n) (flat_map spell) (AllByRecursion okay) (list_trees spell tree) (Ends begins follows)
 while_guards {n = n} test on g = record { stuck = λ at room. while_stuck test on g n n (omega arith) (omega arith) at room }

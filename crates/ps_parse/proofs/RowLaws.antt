@@ -6,30 +6,27 @@ use Rattle.std.specs.List.{AllByRecursion}
 use Rattle.std.proofs.lemmas.Bool.{cond-true, cond-false, or_parts, true≢false}
 use Rattle.std.proofs.lemmas.List.{append-nil, length-map}
 use Rattle.std.proofs.lemmas.List.Elements.{All-from_recursion, recursion_from_All}
-use Rattle.ps_token.specs.declared.place.Place.{Place}
 use Rattle.ps_token.specs.declared.token_kind.TokenKind.{TokenKind}
 use Rattle.ps_token.specs.declared.token_kind.TokenKind.TheVariants as kind
 use Rattle.ps_parse.specs.declared.read_refusal.ReadRefusal.{ReadRefusal}
 use Rattle.ps_tree.specs.declared.relation.Relation.{Relation}
 use Rattle.ps_tree.specs.declared.relation.Sign.TheVariants as sign
 use Rattle.ps_parse.specs.Causes.{last_of, last_product, is_alone, relation_goes_on, BeginsGlobal, BeginsInit, GivesRows}
-use Rattle.ps_parse.specs.Reads.{HasInitSigns}
-use Rattle.ps_grammar.specs.Grammar.{ProductText, number, name, number_name, name_number, SumText, RelationText, ValueText, ItemText, global, local, init}
-use Rattle.ps_grammar.specs.Declarations.{rows_of_sign, rows_of_value}
+use Rattle.ps_grammar.specs.Grammar.{ProductText, number, name, number_name, name_number, SumText, RelationText, ValueText}
+use Rattle.ps_grammar.specs.Declarations.{names_of, nothing_declared, rows_of_sign, rows_of_value}
 use Rattle.ps_parse.specs.Inner.Items.{rows_counted_on, rows_from, declared_value_ahead, item_rows}
-use Rattle.ps_grammar.specs.Spelling.{Piece, NumberPiece, NamePiece, Mark, piece_of_kind, pieces, product_pieces, minus_pieces, plus_or_minus, further_pieces, sum_pieces, sign_kind, relation_pieces, value_pieces, more_relations, item_pieces}
+use Rattle.ps_grammar.specs.Spelling.{Piece, NumberPiece, NamePiece, Mark, piece_of_kind, pieces, product_pieces, minus_pieces, plus_or_minus, further_pieces, sum_pieces, sign_kind, relation_pieces, value_pieces, more_relations}
 use Rattle.ps_parse.specs.Inner.Sums.{init_sign_of, relation_at}
 use Rattle.ps_grammar.specs.Trees.{declared_value, rows_of_relations}
 use Rattle.ps_grammar.specs.Words.{Word}
-use Rattle.ps_parse.specs.Inner.Reading.{WordsAhead, next_is, word_from, next_word, after_word}
+use Rattle.ps_parse.specs.Inner.Reading.{WordsAhead, next_is, next_word, after_word}
 use Rattle.ps_parse.specs.Kinds.{begins_with}
-use Rattle.ps_parse.proofs.Steps.{one_kind, Takes, takes_then, takes_so, takes_pieces, begins_piece, begins_pieces, Not, Always, Finds, Gets, found_bind, found_more, gets_bind, Alike, IsMark}
+use Rattle.ps_parse.proofs.Steps.{one_kind, Takes, takes_then, takes_so, takes_pieces, begins_piece, begins_pieces, Finds, Gets, found_bind, found_more, gets_bind, Alike, IsMark}
 use Rattle.ps_parse.proofs.Guards.{Went, again_of, found_of, keeps_finds, took, name_sort, word_law, word_again, mark_again, mark_found}
-use Rattle.ps_parse.proofs.SumGuards.{SignedText, further_piece, begins_adding, carries, no_both, init_signs, every_init_sign, no_init_sign, SignIn, relation_guards, RelationEnds, all_known}
+use Rattle.ps_parse.proofs.SumGuards.{SignedText, further_piece, begins_adding, carries, no_both, init_signs, every_init_sign, no_init_sign, SignIn, relation_guards, RelationEnds}
 use Rattle.ps_parse.proofs.DeclarationGuards.{value_guards}
-use Rattle.ps_parse.proofs.Weights.{rows_of_item}
 
--- ---- what is counted is at least what the words give, and no more where no `&&` follows
+-- ---- what is counted is at least what the words give
 
 length_pieces : (ws : List Word) → length ws ≡ length (pieces ws)
 length_pieces ws = sym (length-map ws (λ (w : Word). piece_of_kind w.kind w.text))
@@ -37,42 +34,23 @@ length_pieces ws = sym (length-map ws (λ (w : Word). piece_of_kind w.kind w.tex
 next_pieces : (k : TokenKind) (at : WordsAhead) (ps : List Piece) → pieces at.words ≡ ps → next_is k at ≡ begins_piece k ps
 next_pieces k at ps h = begins_pieces k at.words ∙ ap (begins_piece k) h
 
--- a word of another kind ends the count
-misses : (k : TokenKind) (rest : WordsAhead → ℕ) (ws : List Word) (end : Place) → begins_with k ws ≡ false → rows_counted_on (λ (w : Word). 0) rest (word_from k ws end) ≡ 0
-misses k rest [] end e = refl
-misses k rest (w ∷ ws) end e = ap (rows_counted_on (λ (w : Word). 0) rest) (cond-false _ _ _ e)
-
-no_more : (k : TokenKind) (rest : WordsAhead → ℕ) (at : WordsAhead) → next_is k at ≡ false → rows_counted_on (λ (w : Word). 0) rest (next_word k at) ≡ 0
-unfolding next_word
-no_more k rest at e = misses k rest at.words at.end e
-
 -- no relation has `!=`
 abbrev Signed : List RelationText → Type 0
 Signed rs = AllByRecursion (λ (r : RelationText). r.sign ≢ sign.NotEqual) rs
 
--- so many rows and perhaps more, but none where no `&&` follows
-record Walked (rows least : ℕ) (rest : List Piece) : Type 0 where
-  pub more : ℕ
-  pub is : rows ≡ least + more
-  pub none : Not kind.And rest → more ≡ 0
-
 rows_walk : (n : ℕ) (r : RelationText) (rs : List RelationText) (m : ℕ) (at : WordsAhead) (rest : List Piece) → length (r ∷ rs) ≤ m → length at.words < n → Signed (r ∷ rs) → pieces at.words ≡ relation_pieces r ++ (more_relations rs ++ rest) → RelationEnds (last_of r rs) rest
-    → Walked (rows_from n m at) (rows_of_relations (r ∷ rs)) rest
+    → rows_of_relations (r ∷ rs) ≤ rows_from n m at
 unfolding rows_from
 rows_walk n r rs zero at rest le room signs h stop = absurd (omega (arith, le))
 rows_walk n r [] (suc m) at rest le room signs h stop =
-    let g = again_of (relation_guards n None init_sign_of init_signs refl) at r rest room (every_init_sign r.sign signs.0) (all_known r) h stop in
-    let all : rows_counted_on (λ (r : Relation). rows_of_sign r.sign) (λ next. rows_counted_on (λ (w : Word). 0) (rows_from n m) (next_word kind.And next)) (relation_at init_sign_of None n at) ≡ rows_of_sign g.value.0.sign + rows_counted_on (λ (w : Word). 0) (rows_from n m) (next_word kind.And g.value.1) =
+    let g = again_of (relation_guards n (names_of nothing_declared) init_sign_of init_signs refl) at r rest room (every_init_sign r.sign signs.0) h stop in
+    let all : rows_counted_on (λ (r : Relation). rows_of_sign r.sign) (λ next. rows_counted_on (λ (w : Word). 0) (rows_from n m) (next_word kind.And next)) (relation_at init_sign_of (names_of nothing_declared) n at) ≡ rows_of_sign g.value.0.sign + rows_counted_on (λ (w : Word). 0) (rows_from n m) (next_word kind.And g.value.1) =
     ap (rows_counted_on (λ (r : Relation). rows_of_sign r.sign) (λ next. rows_counted_on (λ (w : Word). 0) (rows_from n m) (next_word kind.And next))) g.ok in
     let same : rows_of_sign g.value.0.sign ≡ rows_of_sign r.sign = ap (λ (x : Relation). rows_of_sign x.sign) g.is.0 in
-    record {
-      more = rows_counted_on (λ (w : Word). 0) (rows_from n m) (next_word kind.And g.value.1);
-      is = omega (arith, all, same);
-      none = λ ends. no_more kind.And (rows_from n m) g.value.1 (next_pieces kind.And g.value.1 rest g.is.1 ∙ ends);
-    }
+    omega (arith, all, same)
 rows_walk n r (s ∷ rs) (suc m) at rest le room signs h stop =
-    let g = again_of (relation_guards n None init_sign_of init_signs refl) at r (more_relations (s ∷ rs) ++ rest) room (every_init_sign r.sign signs.0) (all_known r) h (refl, no_both (is_alone (last_product r.right))) in
-    let all : rows_counted_on (λ (r : Relation). rows_of_sign r.sign) (λ next. rows_counted_on (λ (w : Word). 0) (rows_from n m) (next_word kind.And next)) (relation_at init_sign_of None n at) ≡ rows_of_sign g.value.0.sign + rows_counted_on (λ (w : Word). 0) (rows_from n m) (next_word kind.And g.value.1) =
+    let g = again_of (relation_guards n (names_of nothing_declared) init_sign_of init_signs refl) at r (more_relations (s ∷ rs) ++ rest) room (every_init_sign r.sign signs.0) h (refl, no_both (is_alone (last_product r.right))) in
+    let all : rows_counted_on (λ (r : Relation). rows_of_sign r.sign) (λ next. rows_counted_on (λ (w : Word). 0) (rows_from n m) (next_word kind.And next)) (relation_at init_sign_of (names_of nothing_declared) n at) ≡ rows_of_sign g.value.0.sign + rows_counted_on (λ (w : Word). 0) (rows_from n m) (next_word kind.And g.value.1) =
     ap (rows_counted_on (λ (r : Relation). rows_of_sign r.sign) (λ next. rows_counted_on (λ (w : Word). 0) (rows_from n m) (next_word kind.And next))) g.ok in
     let same : rows_of_sign g.value.0.sign ≡ rows_of_sign r.sign = ap (λ (x : Relation). rows_of_sign x.sign) g.is.0 in
     let next : pieces g.value.1.words ≡ Mark kind.And ∷ (relation_pieces s ++ (more_relations rs ++ rest)) = g.is.1 ∙ ap (λ (ps : List Piece). Mark kind.And ∷ ps) (append_assoc (relation_pieces s) (more_relations rs) rest) in
@@ -82,9 +60,9 @@ rows_walk n r (s ∷ rs) (suc m) at rest le room signs h stop =
     let two : length (pieces g.value.1.words) ≡ length (more_relations (s ∷ rs) ++ rest) = ap (λ (ps : List Piece). length ps) g.is.1 in
     let three : length (pieces g.value.1.words) ≡ suc (length (relation_pieces s ++ (more_relations rs ++ rest))) = ap (λ (ps : List Piece). length ps) next in
     let four : length (pieces w.value.1.words) ≡ length (relation_pieces s ++ (more_relations rs ++ rest)) = ap (λ (ps : List Piece). length ps) w.is in
-    let deeper : Walked (rows_from n m w.value.1) (rows_of_relations (s ∷ rs)) rest =
+    let deeper : rows_of_relations (s ∷ rs) ≤ rows_from n m w.value.1 =
     rows_walk n s rs m w.value.1 rest (omega (arith, le)) (omega (arith, room, length_pieces at.words, length_pieces w.value.1.words, one, two, three, four)) signs.1 w.is stop in
-    record { more = deeper.more; is = omega (arith, all, same, more, deeper.is); none = deeper.none }
+    omega (arith, all, same, more, deeper)
 
 few_relations : (rs : List RelationText) → length rs ≤ length (more_relations rs)
 few_relations [] = omega arith
@@ -93,7 +71,7 @@ few_relations (r ∷ rs) =
     omega (arith, h, length-append (relation_pieces r) (more_relations rs))
 
 init_walk : (n : ℕ) (at : WordsAhead) (r : RelationText) (rs : List RelationText) (rest : List Piece) → length at.words ≤ n → Signed (r ∷ rs) → pieces at.words ≡ Mark kind.Init ∷ (relation_pieces r ++ (more_relations rs ++ rest)) → RelationEnds (last_of r rs) rest
-    → Walked (rows_counted_on (λ (w : Word). 0) (rows_from n n) (next_word kind.Init at)) (rows_of_relations (r ∷ rs)) rest
+    → rows_of_relations (r ∷ rs) ≤ rows_counted_on (λ (w : Word). 0) (rows_from n n) (next_word kind.Init at)
 init_walk n at r rs rest room signs h stop =
     let w = mark_again kind.Init (λ t. refl) at (relation_pieces r ++ (more_relations rs ++ rest)) h in
     let all : rows_counted_on (λ (w : Word). 0) (rows_from n n) (next_word kind.Init at) ≡ 0 + rows_from n n w.value.1 = ap (rows_counted_on (λ (w : Word). 0) (rows_from n n)) w.ok in
@@ -101,9 +79,9 @@ init_walk n at r rs rest room signs h stop =
     let two : length (pieces w.value.1.words) ≡ length (relation_pieces r ++ (more_relations rs ++ rest)) = ap (λ (ps : List Piece). length ps) w.is in
     let three : length (relation_pieces r ++ (more_relations rs ++ rest)) ≡ length (relation_pieces r) + length (more_relations rs ++ rest) = length-append (relation_pieces r) (more_relations rs ++ rest) in
     let four : length (more_relations rs ++ rest) ≡ length (more_relations rs) + length rest = length-append (more_relations rs) rest in
-    let walk : Walked (rows_from n n w.value.1) (rows_of_relations (r ∷ rs)) rest =
+    let walk : rows_of_relations (r ∷ rs) ≤ rows_from n n w.value.1 =
     rows_walk n r rs n w.value.1 rest (omega (arith, room, length_pieces at.words, one, three, four, few_relations rs)) (omega (arith, room, length_pieces at.words, length_pieces w.value.1.words, one, two)) signs w.is stop in
-    record { more = walk.more; is = omega (arith, all, walk.is); none = walk.none }
+    omega (arith, all, walk)
 
 -- the value of a global
 global_again : (at : WordsAhead) (x : List ℕ) (v : Option ValueText) (rest : List Piece) → pieces at.words ≡ Mark kind.Global ∷ NamePiece x ∷ (value_pieces v ++ rest) → (begins_piece kind.Equal (value_pieces v ++ rest) ≡ begins_piece kind.Equal (value_pieces v))
@@ -115,8 +93,8 @@ global_again at x v rest h stop =
     by_value u.1 v q stop))
   where
     by_value : (at : WordsAhead) (v : Option ValueText) → pieces at.words ≡ value_pieces v ++ rest → (begins_piece kind.Equal (value_pieces v ++ rest) ≡ begins_piece kind.Equal (value_pieces v)) → Gets (declared_value_ahead at) (λ y. y.0 ≡ declared_value v)
-    by_value at None q stop = let g = again_of (value_guards (suc (length at.words))) at None rest (omega arith) tt tt q stop in record { value = g.value; ok = g.ok; is = g.is.0 }
-    by_value at (Some v) q stop = let g = again_of (value_guards (suc (length at.words))) at (Some v) rest (omega arith) tt tt q tt in record { value = g.value; ok = g.ok; is = g.is.0 }
+    by_value at None q stop = let g = again_of (value_guards (suc (length at.words))) at None rest (omega arith) tt q stop in record { value = g.value; ok = g.ok; is = g.is.0 }
+    by_value at (Some v) q stop = let g = again_of (value_guards (suc (length at.words))) at (Some v) rest (omega arith) tt q tt in record { value = g.value; ok = g.ok; is = g.is.0 }
 
 global_rows : (at : WordsAhead) (x : List ℕ) (v : Option ValueText) (rest : List Piece) → pieces at.words ≡ Mark kind.Global ∷ NamePiece x ∷ (value_pieces v ++ rest) → (begins_piece kind.Equal (value_pieces v ++ rest) ≡ begins_piece kind.Equal (value_pieces v))
     → rows_counted_on rows_of_value (λ _. 0) (after_word kind.Global (after_word kind.Name declared_value_ahead) at) ≡ rows_of_value (declared_value v)
@@ -125,32 +103,6 @@ global_rows at x v rest h stop =
     let all : rows_counted_on rows_of_value (λ _. 0) (after_word kind.Global (after_word kind.Name declared_value_ahead) at) ≡ rows_of_value g.value.0 + 0 = ap (rows_counted_on rows_of_value (λ _. 0)) g.ok in
     let same : rows_of_value g.value.0 ≡ rows_of_value (declared_value v) = ap rows_of_value g.is in
     omega (arith, all, same)
-
-value_apart : (v : Option ValueText) (rest : List Piece) → begins_piece kind.Equal (value_pieces v ++ (Mark kind.Semicolon ∷ rest)) ≡ begins_piece kind.Equal (value_pieces v)
-value_apart None rest = refl
-value_apart (Some v) rest = refl
-
-relations_join : (r : RelationText) (rs : List RelationText) (rest : List Piece) → RelationEnds (last_of r rs) (Mark kind.Semicolon ∷ rest)
-relations_join r rs rest = (refl, no_both (is_alone (last_product (last_of r rs).right)))
-
-init_split : (r : RelationText) (rs : List RelationText) (rest : List Piece) → (relation_pieces r ++ (more_relations rs ++ Mark kind.Semicolon ∷ [])) ++ rest ≡ relation_pieces r ++ (more_relations rs ++ (Mark kind.Semicolon ∷ rest))
-init_split r rs rest =
-    append_assoc (relation_pieces r) (more_relations rs ++ Mark kind.Semicolon ∷ []) rest
-    ∙ ap (λ (ps : List Piece). relation_pieces r ++ ps) (append_assoc (more_relations rs) (Mark kind.Semicolon ∷ []) rest)
-
--- The rows that are counted of an item are its own.
-pub item_rows_again : (n : ℕ) (at : WordsAhead) (i : ItemText) (rest : List Piece) → length at.words ≤ n → HasInitSigns i → pieces at.words ≡ item_pieces i ++ rest → item_rows n at ≡ rows_of_item i
-unfolding item_rows
-item_rows_again n at (global x v) rest room signs h =
-    cond-true _ _ _ (next_pieces kind.Global at _ h)
-    ∙ global_rows at x v (Mark kind.Semicolon ∷ rest) (h ∙ ap (λ (ps : List Piece). Mark kind.Global ∷ NamePiece x ∷ ps) (append_assoc (value_pieces v) (Mark kind.Semicolon ∷ []) rest)) (value_apart v rest)
-item_rows_again n at (local x) rest room signs h = cond-false _ _ _ (next_pieces kind.Global at _ h) ∙ cond-false _ _ _ (next_pieces kind.Init at _ h)
-item_rows_again n at (init r rs) rest room signs h =
-    let walk : Walked (rows_counted_on (λ (w : Word). 0) (rows_from n n) (next_word kind.Init at)) (rows_of_relations (r ∷ rs)) (Mark kind.Semicolon ∷ rest) =
-    init_walk n at r rs (Mark kind.Semicolon ∷ rest) room (recursion_from_All (λ (s : RelationText). s.sign ≢ sign.NotEqual) (r ∷ rs) signs) (h ∙ ap (λ (ps : List Piece). Mark kind.Init ∷ ps) (init_split r rs rest)) (relations_join r rs rest) in
-    let none : walk.more ≡ 0 = walk.none refl in
-    let same : rows_counted_on (λ (w : Word). 0) (rows_from n n) (next_word kind.Init at) ≡ rows_of_relations (r ∷ rs) = omega (arith, walk.is, none) in
-    cond-false _ _ _ (next_pieces kind.Global at _ h) ∙ (cond-true _ _ _ (next_pieces kind.Init at _ h) ∙ same)
 
 -- ---- a relation that is read is whole
 
@@ -265,9 +217,9 @@ record IsRelation (before : List Word) (y : Relation × WordsAhead) : Type 0 whe
   pub allowed : text.sign ≢ sign.NotEqual
   pub whole : relation_goes_on text y.1.words ≡ false
 
-relation_found : (n : ℕ) (at : WordsAhead) → length at.words < n → Finds (relation_at init_sign_of None n at) (IsRelation at.words)
+relation_found : (n : ℕ) (at : WordsAhead) → length at.words < n → Finds (relation_at init_sign_of (names_of nothing_declared) n at) (IsRelation at.words)
 relation_found n at room =
-    found_more _ _ _ (found_of (relation_guards n None init_sign_of init_signs refl) at room)
+    found_more _ _ _ (found_of (relation_guards n (names_of nothing_declared) init_sign_of init_signs refl) at room)
     (λ y p. record { text = p.went.text; taken = took p.went; same = ap (λ (x : Relation). x.sign) p.is; allowed = no_init_sign p.went.text.sign p.went.fine; whole = whole p.went })
 
 -- ---- the rows of relations
@@ -350,7 +302,7 @@ global_found : (at : WordsAhead) → Finds (after_word kind.Global (after_word k
 unfolding after_word
 global_found at =
     found_bind _ _ _ _ (mark_found kind.Global (λ t. refl) at) (λ w p.
-    found_bind _ _ _ _ (keeps_finds _ _ _ (word_law kind.Name NamePiece (λ t. t) Always name_sort w.1)) (λ u q.
+    found_bind _ _ _ _ (keeps_finds _ _ _ (word_law kind.Name NamePiece (λ t. t) name_sort w.1)) (λ u q.
     found_more _ _ _ (found_of (value_guards (suc (length u.1.words))) u.1 (omega arith)) (λ y r. record { named = q.went.text; value = r.went.text; taken = takes_then p (takes_then (took q.went) (took r.went)); is = r.is })))
 
 -- where any rows were counted, the words give them
@@ -426,7 +378,7 @@ rows_counted n at rows room (inr h) =
     let ahead : pieces at.words ≡ Mark kind.Init ∷ (relation_pieces i.first ++ (more_relations i.further ++ pieces i.rest)) =
     takes_pieces (record { front = i.front; split = i.split; spelled = i.spelled }) ∙ ap (λ (ps : List Piece). Mark kind.Init ∷ ps) (append_assoc (relation_pieces i.first) (more_relations i.further) (pieces i.rest)) in
     let whole : carries_on (last_of i.first i.further) (pieces i.rest) ≡ false = sym (of_pieces (last_of i.first i.further) i.rest) ∙ i.whole in
-    let walk : Walked (rows_counted_on (λ (w : Word). 0) (rows_from n n) (next_word kind.Init at)) (rows_of_relations (i.first ∷ i.further)) (pieces i.rest) =
+    let walk : rows_of_relations (i.first ∷ i.further) ≤ rows_counted_on (λ (w : Word). 0) (rows_from n n) (next_word kind.Init at) =
     init_walk n at i.first i.further (pieces i.rest) room (recursion_from_All (λ (s : RelationText). s.sign ≢ sign.NotEqual) (i.first ∷ i.further) i.signs) ahead (or_parts _ _ whole) in
     least_false rows (next_is kind.Global at) _ _ (next_pieces kind.Global at _ ahead)
-    (least_true rows (next_is kind.Init at) _ _ (next_pieces kind.Init at _ ahead) (omega (arith, walk.is, h.1)))
+    (least_true rows (next_is kind.Init at) _ _ (next_pieces kind.Init at _ ahead) (omega (arith, walk, h.1)))

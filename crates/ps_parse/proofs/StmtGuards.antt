@@ -1,19 +1,15 @@
 -- The laws of statements and blocks.
-use Rattle.std.proofs.Common.{◌≡◌, ℕ, zero, suc, ◌+◌, ◌-◌, ◌≤◌, Bool, true, false, ◌⊎◌, inl, inr, List, [], ◌∷◌, ◌++◌, length, drop, Option, Some, None, refl, sym, ap, subst, ◌∙◌, arith, append_assoc, length-append}
-use Rattle.std.specs.Prelude.{◌↔◌, not}
-use Rattle.std.specs.List.{flat_map, AllByRecursion}
-use Rattle.std.proofs.lemmas.Bool.{true≢false}
+use Rattle.std.proofs.Common.{◌≡◌, ℕ, zero, suc, ◌+◌, ◌≤◌, Bool, true, false, ◌⊎◌, inl, inr, List, [], ◌∷◌, ◌++◌, length, drop, Option, Some, None, refl, sym, ap, ◌∙◌, arith, append_assoc, length-append}
+use Rattle.std.specs.Prelude.{not}
+use Rattle.std.specs.List.{flat_map}
 use Rattle.std.proofs.lemmas.List.{append-nil, drop-drop}
 use Rattle.ps_token.specs.declared.place.Place.{Place}
 use Rattle.ps_token.specs.declared.token_kind.TokenKind.{TokenKind}
 use Rattle.ps_token.specs.declared.token_kind.TokenKind.TheVariants as kind
 use Rattle.ps_tree.specs.declared.cond.Cond.{Cond}
-use Rattle.ps_tree.specs.declared.limit_name.LimitName.TheVariants as limit
 use Rattle.ps_tree.specs.declared.stmt.Stmt.{Stmt}
 use Rattle.ps_tree.specs.declared.stmt.StmtKind.{StmtKind}
 use Rattle.ps_tree.specs.declared.stmt.StmtKind.TheVariants as stmt
-use Rattle.ps_parse.specs.declared.read_refusal.ReadRefusal.TheVariants.{Limit, LoopInAtomic}
-use Rattle.ps_grammar.specs.Fits.{CondFits, TestFits, StmtFits, RestFits, IsKnownName}
 use Rattle.ps_grammar.specs.Grammar.{SumText, TestText, either, StmtText, assign, havoc, assume, assert, skip, atomic, if_then, if_else, while_do, BlockText, block_end, block_more}
 use Rattle.ps_grammar.specs.Names.{Names}
 use Rattle.ps_grammar.specs.Spelling.{Piece, Mark, pieces, cond_pieces, test_pieces, stmt_pieces, rest_pieces, block_pieces}
@@ -21,58 +17,54 @@ use Rattle.ps_grammar.specs.Trees.{cond_tree, test_tree, place_of_first, stmt_tr
 use Rattle.ps_grammar.specs.Words.{Word}
 use Rattle.ps_parse.specs.Inner.Blocks.{assign_at, ended_at, havoc_at, cond_stmt_at, skip_at, atomic_at, else_at, if_at, while_stmt_at, kind_at, stmt_at, has_more, block_at}
 use Rattle.ps_parse.specs.Inner.Conds.{parens_at}
-use Rattle.ps_parse.specs.Inner.Reading.{ReadWords, next_is, place_at, next_word, after_word}
+use Rattle.ps_parse.specs.Inner.Reading.{ReadWords, next_word, after_word}
 use Rattle.ps_parse.specs.Kinds.{is_kind, place_of_next}
 use Rattle.ps_parse.proofs.Steps.{places, begins_piece, Not, Always, IsTest, next_test, IsMark, of_pair, pair_up, three_is, bind_bind}
-use Rattle.ps_parse.proofs.Guards.{keeps_bind, keeps_end, pieces_both, Any, Then, Guards, GuardsWhere, guards_where, Example, example_of, resumed_mark}
-use Rattle.ps_parse.proofs.GuardSteps.{guards_same, guards_as, guards_so, mapped_guards, refusing_guards, nothing_guards, any_joins, both_guards, after_guards, alone_guards, word_refused_guards, closed_guards, OfSort, choice_guards, last_guards}
+use Rattle.ps_parse.proofs.Guards.{keeps_bind, keeps_end, pieces_both, Any, Then, Guards, none_guards, Example, example_of}
+use Rattle.ps_parse.proofs.GuardSteps.{guards_same, guards_as, guards_so, mapped_guards, nothing_guards, any_joins, both_guards, after_guards, after_guards_more, alone_guards, closed_guards, OfSort, choice_guards, last_guards}
 use Rattle.ps_parse.proofs.GuardLoops.{GoesOn, Ends, list_trees, while_guards}
 use Rattle.ps_parse.proofs.SumGuards.{all_always, variable_guards, sum_guards, sum_text, no_sum}
-use Rattle.ps_parse.proofs.CondGuards.{sum_known, one_less, cond_text, cond_guards, parens_guards, test_example}
+use Rattle.ps_parse.proofs.CondGuards.{cond_text, cond_guards, parens_guards, test_example}
 
 -- ---- simple statements
 
-pub ended_guards : {C A : Type 0} {n : ℕ} {read : ReadWords A} {spell : C → List Piece} {okay fits : C → Type 0} {tree : C → List Place → A} {follows : C → List Piece → Type 0} → ((c : C) (rest : List Piece) → follows c (Mark kind.Semicolon ∷ rest)) → Guards n read spell okay fits tree follows
-    → Guards n (ended_at read) (λ c. spell c ++ Mark kind.Semicolon ∷ []) okay fits tree Any
+pub ended_guards : {C A : Type 0} {n : ℕ} {read : ReadWords A} {spell : C → List Piece} {okay : C → Type 0} {tree : C → List Place → A} {follows : C → List Piece → Type 0} → ((c : C) (rest : List Piece) → follows c (Mark kind.Semicolon ∷ rest)) → Guards n read spell okay tree follows
+    → Guards n (ended_at read) (λ c. spell c ++ Mark kind.Semicolon ∷ []) okay tree Any
 unfolding ended_at
 ended_guards ends g = closed_guards kind.Semicolon (λ u. refl) ends g
 
-assign_guards : (n : ℕ) (names : Names) → Guards n (assign_at (Some names) n) (λ (c : List ℕ × SumText). stmt_pieces (assign c.0 c.1)) Always (λ c. StmtFits names 0 false (assign c.0 c.1)) (λ c ps. stmt_tree names (assign c.0 c.1) ps) Any
+assign_guards : (n : ℕ) (names : Names) → Guards n (assign_at names n) (λ (c : List ℕ × SumText). stmt_pieces (assign c.0 c.1)) Always (λ c ps. stmt_tree names (assign c.0 c.1) ps) Any
 unfolding assign_at
 assign_guards n names =
-    guards_as (λ c. c) (λ c. c)
-    (record { back = λ c. refl; spelled = λ c. refl; fine = λ c h. tt; unfine = λ c h. (tt, tt); fit = λ c h. (h.0, (sum_known names c.1).0 h.1); unfit = λ c h. (h.0, (sum_known names c.1).1 h.1); said = λ c ps. refl; stops = λ c rest h. h })
-    (both_guards stmt.Assign any_joins (example_of sum_text tt refl) (variable_guards n (Some names)) (after_guards kind.Becomes (λ u. refl) (example_of sum_text tt refl) (ended_guards (λ s rest. no_sum s (Mark kind.Semicolon ∷ rest) (refl, refl)) (sum_guards n (Some names)))))
+    guards_so Always Any (λ c h. tt) (λ c h. (tt, tt)) (λ c rest h. h)
+    (both_guards stmt.Assign any_joins (example_of sum_text tt refl) (variable_guards n names) (after_guards kind.Becomes (λ u. refl) (example_of sum_text tt refl) (ended_guards (λ s rest. no_sum s (Mark kind.Semicolon ∷ rest) (refl, refl)) (sum_guards n names))))
 
-havoc_guards : (n : ℕ) (names : Names) → Guards n (havoc_at (Some names)) (λ x. stmt_pieces (havoc x)) Always (IsKnownName names) (λ x ps. stmt_tree names (havoc x) ps) Any
+havoc_guards : (n : ℕ) (names : Names) → Guards n (havoc_at names) (λ x. stmt_pieces (havoc x)) Always (λ x ps. stmt_tree names (havoc x) ps) Any
 unfolding havoc_at
-havoc_guards n names = mapped_guards stmt.Havoc (after_guards kind.Havoc (λ u. refl) (example_of [] tt refl) (ended_guards (λ c rest. tt) (variable_guards n (Some names))))
+havoc_guards n names = mapped_guards stmt.Havoc (after_guards kind.Havoc (λ u. refl) (example_of [] tt refl) (ended_guards (λ c rest. tt) (variable_guards n names)))
 
-cond_stmt_guards : (n : ℕ) (names : Names) (levels : ℕ) (word : TokenKind) (of : Cond → StmtKind) → IsMark word
-    → Guards n (cond_stmt_at word of (Some names) n levels) (λ c. Mark word ∷ (cond_pieces c ++ Mark kind.Semicolon ∷ [])) Always (CondFits names levels) (λ c ps. of (cond_tree names c)) Any
+cond_stmt_guards : (n : ℕ) (names : Names) (word : TokenKind) (of : Cond → StmtKind) → IsMark word
+    → Guards n (cond_stmt_at word of names n) (λ c. Mark word ∷ (cond_pieces c ++ Mark kind.Semicolon ∷ [])) Always (λ c ps. of (cond_tree names c)) Any
 unfolding cond_stmt_at
-cond_stmt_guards n names levels word of marked = mapped_guards of (after_guards word marked (example_of cond_text tt refl) (ended_guards (λ c rest. (refl, (refl, (refl, refl)))) (cond_guards n names levels)))
+cond_stmt_guards n names word of marked = mapped_guards of (after_guards word marked (example_of cond_text tt refl) (ended_guards (λ c rest. (refl, (refl, (refl, refl)))) (cond_guards n names)))
 
-skip_guards : (n : ℕ) → Guards n skip_at (λ (u : Unit {0}). stmt_pieces skip) Always Always (λ u ps. stmt.Skip) Any
+skip_guards : (n : ℕ) → Guards n skip_at (λ (u : Unit {0}). stmt_pieces skip) Always (λ u ps. stmt.Skip) Any
 unfolding skip_at after_word
 skip_guards n = guards_same _ (λ at. sym (bind_bind (next_word kind.Skip at) _ _)) (after_guards kind.Skip (λ u. refl) (example_of tt tt refl) (alone_guards n kind.Semicolon (λ u. refl) stmt.Skip))
 
 -- ---- statements with blocks
 
-abbrev pub BlockFits : Names → ℕ → Bool → BlockText → Type 0
-BlockFits names levels inside b = (1 ≤ levels) × RestFits names (levels - 1) inside b
-
-abbrev BlockGuards : ℕ → Names → ℕ → Bool → ReadWords (List Stmt) → Type 0
-BlockGuards n names levels inside block = Guards n block block_pieces Always (BlockFits names levels inside) (λ b ps. block_trees names b (drop 1 ps)) Any
+abbrev BlockGuards : ℕ → Names → ReadWords (List Stmt) → Type 0
+BlockGuards n names block = Guards n block block_pieces Always (λ b ps. block_trees names b (drop 1 ps)) Any
 
 pub block_example : Example block_pieces Always
 block_example = example_of block_end tt refl
 
-atomic_guards : (n : ℕ) (names : Names) (levels : ℕ) (block : ReadWords (List Stmt)) → BlockGuards n names levels true block → Guards n (atomic_at block) (λ b. stmt_pieces (atomic b)) Always (BlockFits names levels true) (λ b ps. stmt_tree names (atomic b) ps) Any
+atomic_guards : (n : ℕ) (names : Names) (block : ReadWords (List Stmt)) → BlockGuards n names block → Guards n (atomic_at block) (λ b. stmt_pieces (atomic b)) Always (λ b ps. stmt_tree names (atomic b) ps) Any
 unfolding atomic_at
-atomic_guards n names levels block g =
+atomic_guards n names block g =
     guards_as (λ c. c) (λ c. c)
-    (record { back = λ c. refl; spelled = λ c. refl; fine = λ c h. h; unfine = λ c h. h; fit = λ c h. h; unfit = λ c h. h; said = λ b ps. ap (λ (qs : List Place). stmt.Atomic (block_trees names b qs)) (drop-drop 1 1 ps); stops = λ c rest h. h })
+    (record { back = λ c. refl; spelled = λ c. refl; fine = λ c h. h; unfine = λ c h. h; said = λ b ps. ap (λ (qs : List Place). stmt.Atomic (block_trees names b qs)) (drop-drop 1 1 ps); stops = λ c rest h. h })
     (mapped_guards stmt.Atomic (after_guards kind.Atomic (λ u. refl) block_example g))
 
 abbrev while_pieces : TestText × BlockText → List Piece
@@ -86,35 +78,24 @@ held_place k ps =
     let e : suc k + 1 ≡ k + 2 = omega arith in
     drop-drop 1 (suc k) ps ∙ ap (λ (m : ℕ). drop m ps) e
 
-while_stmt_guards : (n : ℕ) (names : Names) (levels : ℕ) (inside : Bool) (block : ReadWords (List Stmt)) → BlockGuards n names levels inside block
-    → GuardsWhere (next_is kind.While) n (while_stmt_at inside block (Some names) n levels) while_pieces Always (λ c. StmtFits names levels inside (while_do c.0 c.1)) (λ c ps. stmt_tree names (while_do c.0 c.1) ps) Any
-unfolding while_stmt_at while_example
-while_stmt_guards n names levels true block g =
-    refusing_guards (next_is kind.While) n (λ at. LoopInAtomic (place_at at)) while_pieces Always _ _ Any (λ at g. g) (λ at. refl)
-    (λ at e. resumed_mark kind.While (λ u. refl) at.words (LoopInAtomic (place_at at)) e while_example refl) (λ at e c tail fit h. true≢false fit.0)
-while_stmt_guards n names levels false block g =
-    guards_where (next_is kind.While)
-    (guards_as (λ c. c) (λ c. c)
+while_stmt_guards : (n : ℕ) (names : Names) (block : ReadWords (List Stmt)) → BlockGuards n names block → Guards n (while_stmt_at block names n) while_pieces Always (λ c ps. stmt_tree names (while_do c.0 c.1) ps) Any
+unfolding while_stmt_at
+while_stmt_guards n names block g =
+    guards_as (λ c. c) (λ c. c)
     (record {
       back = λ c. refl;
       spelled = λ c. refl;
       fine = λ c h. tt;
       unfine = λ c h. (tt, tt);
-      fit = λ c h. (refl, h.0, h.1.0, h.1.1);
-      unfit = λ c h. (h.1, (h.2, h.3));
       said = λ c ps. ap (λ (qs : List Place). stmt.While (test_tree names c.0) (block_trees names c.1 qs)) (held_place (length (test_pieces c.0)) ps);
       stops = λ c rest h. h;
     })
-    (both_guards stmt.While any_joins block_example (after_guards kind.While (λ u. refl) test_example (parens_guards n names levels)) g))
+    (both_guards stmt.While any_joins block_example (after_guards kind.While (λ u. refl) test_example (parens_guards n names)) g)
 
 -- `else` and a block, or nothing
 abbrev else_pieces : Option BlockText → List Piece
 else_pieces None = []
 else_pieces (Some b) = Mark kind.Else ∷ block_pieces b
-
-abbrev ElseFits : Names → ℕ → Bool → Option BlockText → Type 0
-ElseFits names levels inside None = Unit {0}
-ElseFits names levels inside (Some b) = BlockFits names levels inside b
 
 abbrev else_tree : Names → Option BlockText → List Place → List Stmt
 else_tree names None ps = []
@@ -124,10 +105,10 @@ else_sort : (o : Option BlockText) → Always o → OfSort (begins_piece kind.El
 else_sort None ok = inr (record { text = tt; same = refl; fine = tt; tells = λ rest h. h })
 else_sort (Some b) ok = inl (record { text = b; same = refl; fine = tt; tells = λ rest h. refl })
 
-else_guards : (n : ℕ) (names : Names) (levels : ℕ) (inside : Bool) (block : ReadWords (List Stmt)) → BlockGuards n names levels inside block → Guards n (else_at block) else_pieces Always (ElseFits names levels inside) (else_tree names) (Then (Not kind.Else))
+else_guards : (n : ℕ) (names : Names) (block : ReadWords (List Stmt)) → BlockGuards n names block → Guards n (else_at block) else_pieces Always (else_tree names) (Then (Not kind.Else))
 unfolding else_at
-else_guards n names levels inside block g =
-    choice_guards else_pieces Always (ElseFits names levels inside) (else_tree names) (Then (Not kind.Else)) (next_test kind.Else) (λ b. Some b) (λ b h. tt) (λ (u : Unit {0}). None) (λ u h. tt) else_sort (λ b rest h. tt) (λ u rest h. tt)
+else_guards n names block g =
+    choice_guards else_pieces Always (else_tree names) (Then (Not kind.Else)) (next_test kind.Else) (λ b. Some b) (λ b h. tt) (λ (u : Unit {0}). None) (λ u h. tt) else_sort (λ b rest h. tt) (λ u rest h. tt)
     (after_guards kind.Else (λ u. refl) block_example g) (nothing_guards n [] Any)
 
 abbrev IfText : Type 0
@@ -144,10 +125,6 @@ if_spelled : (t : TestText) (b : BlockText) (o : Option BlockText) → (Mark kin
 if_spelled t b None = ap (λ (ps : List Piece). (Mark kind.If ∷ test_pieces t) ++ ps) (append-nil (block_pieces b))
 if_spelled t b (Some c) = refl
 
-if_fits : (names : Names) (levels : ℕ) (inside : Bool) (t : TestText) (b : BlockText) (o : Option BlockText) → (TestFits names levels t × (BlockFits names levels inside b × ElseFits names levels inside o)) ↔ StmtFits names levels inside (if_text t b o)
-if_fits names levels inside t b None = (λ h. (h.0, h.1.0.0, h.1.0.1), λ h. (h.0, ((h.1, h.2), tt)))
-if_fits names levels inside t b (Some c) = (λ h. (h.0, h.1.0.0, h.1.0.1, h.1.1.1), λ h. (h.0, ((h.1, h.2), (h.1, h.3))))
-
 failed_place : (j k : ℕ) (ps : List Place) → drop 1 (drop 1 (drop (suc j) (drop (suc k) ps))) ≡ drop (j + (k + 4)) ps
 failed_place j k ps =
     let e : suc k + suc j + 1 + 1 ≡ j + (k + 4) = omega arith in
@@ -160,24 +137,21 @@ if_said names t b (Some c) ps =
     ap (λ (qs : List Place). stmt.If (test_tree names t) (block_trees names b qs) (block_trees names c (drop 1 (drop 1 (drop (length (block_pieces b)) (drop (suc (length (test_pieces t))) ps)))))) (held_place (length (test_pieces t)) ps)
     ∙ ap (λ (qs : List Place). stmt.If (test_tree names t) (block_trees names b (drop (length (test_pieces t) + 2) ps)) (block_trees names c qs)) (failed_place (length (rest_pieces b)) (length (test_pieces t)) ps)
 
-if_guards : (n : ℕ) (names : Names) (levels : ℕ) (inside : Bool) (block : ReadWords (List Stmt)) → BlockGuards n names levels inside block
-    → Guards n (if_at block (Some names) n levels) (λ c. stmt_pieces (if_of c)) Always (λ c. StmtFits names levels inside (if_of c)) (λ c ps. stmt_tree names (if_of c) ps) (Then (Not kind.Else))
+if_guards : (n : ℕ) (names : Names) (block : ReadWords (List Stmt)) → BlockGuards n names block → Guards n (if_at block names n) (λ c. stmt_pieces (if_of c)) Always (λ c ps. stmt_tree names (if_of c) ps) (Then (Not kind.Else))
 unfolding if_at
-if_guards n names levels inside block g =
+if_guards n names block g =
     guards_as (λ c. c) (λ c. c)
     (record {
       back = λ c. refl;
       spelled = λ c. if_spelled c.0 c.1.0 c.1.1;
       fine = λ c h. tt;
       unfine = λ c h. (tt, (tt, tt));
-      fit = λ c h. (if_fits names levels inside c.0 c.1.0 c.1.1).0 h;
-      unfit = λ c h. (if_fits names levels inside c.0 c.1.0 c.1.1).1 h;
       said = λ c ps. if_said names c.0 c.1.0 c.1.1 ps;
       stops = λ c rest h. h;
     })
-    (guards_same _ (three_is stmt.If (after_word kind.If (parens_at (Some names) n levels)) block (else_at block))
-    (both_guards (of_pair stmt.If) any_joins (example_of (block_end, None) (tt, tt) refl) (after_guards kind.If (λ u. refl) test_example (parens_guards n names levels))
-    (both_guards pair_up any_joins (example_of None tt refl) g (else_guards n names levels inside block g))))
+    (guards_same _ (three_is stmt.If (after_word kind.If (parens_at names n)) block (else_at block))
+    (both_guards (of_pair stmt.If) any_joins (example_of (block_end, None) (tt, tt) refl) (after_guards kind.If (λ u. refl) test_example (parens_guards n names))
+    (both_guards pair_up any_joins (example_of None tt refl) g (else_guards n names block g))))
 
 -- ---- which statement
 
@@ -249,21 +223,18 @@ if_order : (t : TestText) (b : BlockText) (o : Option BlockText) → Later 6 (if
 if_order t b None = omega arith
 if_order t b (Some c) = omega arith
 
-kind_guards : (n : ℕ) (names : Names) (levels : ℕ) (block : Bool → ReadWords (List Stmt)) → ((inside : Bool) → BlockGuards n names levels inside (block inside)) → (inside : Bool) → Guards n (kind_at block inside (Some names) n levels) stmt_pieces Always (StmtFits names levels inside) (stmt_tree names) (Then (Not kind.Else))
+kind_guards : (n : ℕ) (names : Names) (block : ReadWords (List Stmt)) → BlockGuards n names block → Guards n (kind_at block names n) stmt_pieces Always (stmt_tree names) (Then (Not kind.Else))
 unfolding kind_at
-kind_guards n names levels block g inside =
-    guards_so Always Fits (Then (Not kind.Else)) (λ s h. tt) (λ s h. omega arith) (λ s h. h) (λ s h. h) (λ s rest h. h)
-    (choice_guards stmt_pieces (Later 0) Fits (stmt_tree names) (Then (Not kind.Else)) (next_test kind.Name) (λ c. assign c.0 c.1) (λ c h. omega arith) (λ s. s) (λ s h. omega arith) sort_assign (λ c rest h. tt) (λ s rest h. h) (assign_guards n names)
-    (choice_guards stmt_pieces (Later 1) Fits (stmt_tree names) (Then (Not kind.Else)) (next_test kind.Havoc) havoc (λ c h. omega arith) (λ s. s) (λ s h. omega (arith, h)) sort_havoc (λ c rest h. tt) (λ s rest h. h) (havoc_guards n names)
-    (choice_guards stmt_pieces (Later 2) Fits (stmt_tree names) (Then (Not kind.Else)) (next_test kind.Assume) assume (λ c h. omega arith) (λ s. s) (λ s h. omega (arith, h)) sort_assume (λ c rest h. tt) (λ s rest h. h) (cond_stmt_guards n names levels kind.Assume stmt.Assume (λ u. refl))
-    (choice_guards stmt_pieces (Later 3) Fits (stmt_tree names) (Then (Not kind.Else)) (next_test kind.Assert) assert (λ c h. omega arith) (λ s. s) (λ s h. omega (arith, h)) sort_assert (λ c rest h. tt) (λ s rest h. h) (cond_stmt_guards n names levels kind.Assert stmt.Assert (λ u. refl))
-    (choice_guards stmt_pieces (Later 4) Fits (stmt_tree names) (Then (Not kind.Else)) (next_test kind.Skip) (λ (u : Unit {0}). skip) (λ c h. omega arith) (λ s. s) (λ s h. omega (arith, h)) sort_skip (λ c rest h. tt) (λ s rest h. h) (skip_guards n)
-    (choice_guards stmt_pieces (Later 5) Fits (stmt_tree names) (Then (Not kind.Else)) (next_test kind.Atomic) atomic (λ c h. omega arith) (λ s. s) (λ s h. omega (arith, h)) sort_atomic (λ c rest h. tt) (λ s rest h. h) (atomic_guards n names levels (block true) (g true))
-    (choice_guards stmt_pieces (Later 6) Fits (stmt_tree names) (Then (Not kind.Else)) (next_test kind.If) if_of (λ c h. if_order c.0 c.1.0 c.1.1) (λ c. while_do c.0 c.1) (λ c h. omega arith) sort_if (λ c rest h. h) (λ c rest h. tt) (if_guards n names levels inside (block inside) (g inside))
-    (last_guards kind.While (λ c rest h. refl) while_example (while_stmt_guards n names levels inside (block inside) (g inside))))))))))
-  where
-    Fits : StmtText → Type 0
-    Fits = StmtFits names levels inside
+kind_guards n names block g =
+    guards_so Always (Then (Not kind.Else)) (λ s h. tt) (λ s h. omega arith) (λ s rest h. h)
+    (choice_guards stmt_pieces (Later 0) (stmt_tree names) (Then (Not kind.Else)) (next_test kind.Name) (λ c. assign c.0 c.1) (λ c h. omega arith) (λ s. s) (λ s h. omega arith) sort_assign (λ c rest h. tt) (λ s rest h. h) (assign_guards n names)
+    (choice_guards stmt_pieces (Later 1) (stmt_tree names) (Then (Not kind.Else)) (next_test kind.Havoc) havoc (λ c h. omega arith) (λ s. s) (λ s h. omega (arith, h)) sort_havoc (λ c rest h. tt) (λ s rest h. h) (havoc_guards n names)
+    (choice_guards stmt_pieces (Later 2) (stmt_tree names) (Then (Not kind.Else)) (next_test kind.Assume) assume (λ c h. omega arith) (λ s. s) (λ s h. omega (arith, h)) sort_assume (λ c rest h. tt) (λ s rest h. h) (cond_stmt_guards n names kind.Assume stmt.Assume (λ u. refl))
+    (choice_guards stmt_pieces (Later 3) (stmt_tree names) (Then (Not kind.Else)) (next_test kind.Assert) assert (λ c h. omega arith) (λ s. s) (λ s h. omega (arith, h)) sort_assert (λ c rest h. tt) (λ s rest h. h) (cond_stmt_guards n names kind.Assert stmt.Assert (λ u. refl))
+    (choice_guards stmt_pieces (Later 4) (stmt_tree names) (Then (Not kind.Else)) (next_test kind.Skip) (λ (u : Unit {0}). skip) (λ c h. omega arith) (λ s. s) (λ s h. omega (arith, h)) sort_skip (λ c rest h. tt) (λ s rest h. h) (skip_guards n)
+    (choice_guards stmt_pieces (Later 5) (stmt_tree names) (Then (Not kind.Else)) (next_test kind.Atomic) atomic (λ c h. omega arith) (λ s. s) (λ s h. omega (arith, h)) sort_atomic (λ c rest h. tt) (λ s rest h. h) (atomic_guards n names block g)
+    (choice_guards stmt_pieces (Later 6) (stmt_tree names) (Then (Not kind.Else)) (next_test kind.If) if_of (λ c h. if_order c.0 c.1.0 c.1.1) (λ c. while_do c.0 c.1) (λ c h. omega arith) sort_if (λ c rest h. h) (λ c rest h. tt) (if_guards n names block g)
+    (last_guards kind.While (λ c rest h. refl) while_example (while_stmt_guards n names block g)))))))))
 
 -- ---- with its place
 
@@ -274,17 +245,16 @@ first_is (w ∷ ws) end ps e h = refl
 abbrev placed_tree : Names → StmtText → List Place → Stmt
 placed_tree names s ps = record { place = place_of_first ps; kind = stmt_tree names s ps }
 
-stmt_guards : (n : ℕ) (names : Names) (levels : ℕ) (block : Bool → ReadWords (List Stmt)) → ((inside : Bool) → BlockGuards n names levels inside (block inside)) → (inside : Bool) → Guards n (stmt_at block inside (Some names) n levels) stmt_pieces Always (StmtFits names levels inside) (placed_tree names) (Then (Not kind.Else))
+stmt_guards : (n : ℕ) (names : Names) (block : ReadWords (List Stmt)) → BlockGuards n names block → Guards n (stmt_at block names n) stmt_pieces Always (placed_tree names) (Then (Not kind.Else))
 unfolding stmt_at
-stmt_guards n names levels block g inside = record {
+stmt_guards n names block g = record {
   stuck = λ at room.
-      keeps_bind _ _ _ _ _ _ ((kind_guards n names levels block g inside).stuck at room)
+      keeps_bind _ _ _ _ _ _ ((kind_guards n names block g).stuck at room)
       (λ k p.
       let begins : pieces at.words ≡ stmt_pieces p.went.text ++ pieces k.1.words = ap pieces p.went.split ∙ pieces_both p.went.front k.1.words ∙ ap (λ (qs : List Piece). qs ++ pieces k.1.words) p.went.spelled in
       let some : 1 ≤ length (stmt_pieces p.went.text ++ pieces k.1.words) = omega (arith, length-append (stmt_pieces p.went.text) (pieces k.1.words), stmt_some p.went.text) in
       keeps_end _ _ _ (record {
         went = p.went;
-        fit = p.fit;
         is = ap (λ (q : Place). made q k.0) (first_is at.words at.end _ begins some) ∙ ap (made (place_of_first (places at.words))) p.is;
       }))
       (λ e q. q);
@@ -326,16 +296,6 @@ unfolding block_of
 block_spelled [] = refl
 block_spelled (s ∷ ss) = append_assoc (stmt_pieces s) (flat_map stmt_pieces ss) (Mark kind.CloseBrace ∷ []) ∙ ap (λ (ps : List Piece). stmt_pieces s ++ ps) (block_spelled ss)
 
-block_fit : (names : Names) (levels : ℕ) (inside : Bool) (ss : List StmtText) → AllByRecursion (StmtFits names levels inside) ss → RestFits names levels inside (block_of ss)
-unfolding block_of
-block_fit names levels inside [] h = tt
-block_fit names levels inside (s ∷ ss) h = (h.0, block_fit names levels inside ss h.1)
-
-block_unfit : (names : Names) (levels : ℕ) (inside : Bool) (b : BlockText) → RestFits names levels inside b → AllByRecursion (StmtFits names levels inside) (stmts_of b)
-unfolding stmts_of
-block_unfit names levels inside block_end h = tt
-block_unfit names levels inside (block_more s b) h = (h.0, block_unfit names levels inside b h.1)
-
 block_said : (names : Names) (ss : List StmtText) (ps : List Place) → list_trees stmt_pieces (placed_tree names) ss ps ≡ block_trees names (block_of ss) ps
 unfolding block_of
 block_said names [] ps = refl
@@ -348,14 +308,15 @@ brace_ends (s ∷ ss) rest = (refl, refl)
 rest_example : Example rest_pieces Always
 rest_example = example_of block_end tt refl
 
-pub block_guards : (n : ℕ) (names : Names) (levels : ℕ) (inside : Bool) → BlockGuards n names levels inside (block_at (Some names) n levels inside)
+next_guards : (n : ℕ) (names : Names) → BlockGuards n names (block_at names n) → BlockGuards (suc n) names (block_at names (suc n))
 unfolding block_at after_word
-block_guards n names zero inside = word_refused_guards n kind.OpenBrace (λ w. Limit w.place limit.Depth) rest_pieces Always _ _ Any (λ u. refl) (λ w g. g) (λ w. refl) rest_example (λ b fit. omega (arith, fit.0))
-block_guards n names (suc levels) inside =
-    guards_so Always (BlockFits names (suc levels) inside) Any (λ b h. h) (λ b h. h)
-    (λ b h. (omega arith, subst (λ (l : ℕ). RestFits names l inside b) (sym (one_less levels)) h)) (λ b h. subst (λ (l : ℕ). RestFits names l inside b) (one_less levels) h.1) (λ b rest h. h)
-    (after_guards {tree = block_trees names} kind.OpenBrace (λ u. refl) rest_example
+next_guards n names g =
+    after_guards_more {tree = block_trees names} kind.OpenBrace (λ u. refl) rest_example
     (guards_as block_of stmts_of
-    (record { back = block_back; spelled = block_spelled; fine = λ ss h. tt; unfine = λ b h. all_always (stmts_of b); fit = block_fit names levels inside; unfit = block_unfit names levels inside; said = block_said names; stops = λ b rest h. h })
+    (record { back = block_back; spelled = block_spelled; fine = λ ss h. tt; unfine = λ b h. all_always (stmts_of b); said = block_said names; stops = λ b rest h. h })
     (closed_guards kind.CloseBrace (λ u. refl) brace_ends
-    (while_guards more_test stmts_go_on (stmt_guards n names levels (block_at (Some names) n levels) (λ u. block_guards n names levels u) inside)))))
+    (while_guards more_test stmts_go_on (stmt_guards n names (block_at names n) g))))
+
+pub block_guards : (n : ℕ) (names : Names) → BlockGuards n names (block_at names n)
+block_guards zero names = none_guards _ _ _ _ _
+block_guards (suc n) names = next_guards n names (block_guards n names)

@@ -1,15 +1,14 @@
 -- The laws of names, sums and relations.
 use Rattle.std.proofs.Common.{◌≡◌, ◌≢◌, ℕ, ℤ, pos, Bool, true, false, ◌&&◌, ◌||◌, ◌⊎◌, inl, inr, List, [], ◌∷◌, ◌++◌, map, drop, Option, Some, None, Result, Ok, refl, sym, ap, subst, ◌∙◌, arith, append_assoc}
-use Rattle.std.specs.Prelude.{ok_or, ◌↔◌, if◌then◌else◌}
+use Rattle.std.specs.Prelude.{ok_or, if◌then◌else◌}
 use Rattle.std.specs.List.{flat_map, AllByRecursion}
 use Rattle.std.proofs.lemmas.Option.{none-some}
 use Rattle.ps_token.specs.declared.place.Place.{Place}
 use Rattle.ps_token.specs.declared.token_kind.TokenKind.{TokenKind}
 use Rattle.ps_token.specs.declared.token_kind.TokenKind.TheVariants as kind
 use Rattle.ps_term.specs.declared.var.Var.{Var}
-use Rattle.ps_term.specs.declared.var.Var.TheVariants.{Global}
 use Rattle.ps_parse.specs.declared.read_refusal.ReadRefusal.{ReadRefusal}
-use Rattle.ps_parse.specs.declared.read_refusal.ReadRefusal.TheVariants.{Grammar, UnknownName}
+use Rattle.ps_parse.specs.declared.read_refusal.ReadRefusal.TheVariants.{Grammar}
 use Rattle.ps_tree.specs.declared.relation.Relation.{Relation}
 use Rattle.ps_tree.specs.declared.relation.Sign.{Sign}
 use Rattle.ps_tree.specs.declared.relation.Sign.TheVariants as sign
@@ -18,47 +17,20 @@ use Rattle.ps_grammar.specs.Grammar.{ProductText, number, name, number_name, nam
 use Rattle.ps_grammar.specs.Words.{Word}
 use Rattle.ps_parse.specs.Inner.Reading.{WordsAhead, ReadWords, next_is, next_word, after_word}
 use Rattle.ps_lines.specs.Steps.{◌>>=◌}
-use Rattle.ps_grammar.specs.Names.{Names, variable_of_name}
-use Rattle.ps_parse.specs.Inner.Variables.{variable_in, variable_at}
+use Rattle.ps_grammar.specs.Names.{Names}
+use Rattle.ps_parse.specs.Inner.Variables.{variable_at}
 use Rattle.ps_grammar.specs.Numbers.{number_value, signed}
-use Rattle.ps_grammar.specs.Trees.{variable_or_first, variable_named, product_tree, sum_tree, relation_tree}
+use Rattle.ps_grammar.specs.Trees.{variable_named, product_tree, sum_tree, relation_tree}
 use Rattle.ps_parse.specs.Causes.{last_of, last_product, is_alone}
 use Rattle.ps_parse.specs.Inner.Sums.{factor_at, number_product_at, name_product_at, product_at, first_product_at, further_product_at, sum_at, sign_from, sign_ahead, relation_at, sign_of, init_sign_of}
 use Rattle.ps_parse.specs.Kinds.{is_kind}
 use Rattle.ps_grammar.specs.Spelling.{Piece, NamePiece, NumberPiece, Mark, piece_of_kind, pieces, product_pieces, minus_pieces, plus_or_minus, further_pieces, sum_pieces, sign_kind, relation_pieces}
-use Rattle.ps_parse.specs.Reads.{PassesGrammar, refusal_place}
 use Rattle.ps_parse.proofs.Steps.{same_kind, kind_of, kind_of_piece, begins_piece, Not, Always, next_test, either_test, IsMark, mapped, both, three_is, pair_up, of_pair, bind_same, bind_bind, bind_end}
-use Rattle.ps_parse.proofs.Guards.{IsGrammar, Keeps, keeps_bind, keeps_end, first_alike, none_alike, Any, Stood, Made, Guards, Example, stood_here, example_of, pieces_are, name_sort, number_sort, one_piece, word_law, word_guards, word_is, unfit_word}
+use Rattle.ps_parse.proofs.Guards.{Keeps, keeps_bind, keeps_end, first_alike, none_alike, Any, Stood, Made, Guards, Example, stood_here, example_of, name_sort, number_sort, one_piece, word_guards}
 use Rattle.ps_parse.proofs.GuardSteps.{guards_same, guards_as, mapped_guards, nothing_guards, Joins, any_joins, both_guards, after_guards, OfSort, choice_guards}
 use Rattle.ps_parse.proofs.GuardLoops.{GoesOn, list_trees, more_joins, while_guards}
 
 -- ---- names
-
--- the names that trees are made with: of a scope where any name passes, none
-abbrev pub scope_names : Option Names → Names
-scope_names None = record { globals = []; locals = [] }
-scope_names (Some names) = names
-
-abbrev pub KnownIn : Option Names → List ℕ → Type 0
-KnownIn scope x = variable_in scope x ≢ None
-
-some_differs : {A : Type 0} (x : A) → Some x ≢ None
-some_differs x e = cc
-
--- any name is known where any passes
-pub known_any : (x : List ℕ) → KnownIn None x
-known_any x = some_differs (Global 0)
-
-abbrev Resolved : Option Names → List ℕ → Var → Type 0
-Resolved scope x v = KnownIn scope x × (v ≡ variable_named (scope_names scope) x)
-
-known_keeps : (scope : Option Names) (x : List ℕ) (p : Place) → Keeps (ok_or (variable_in scope x) (UnknownName p)) (Resolved scope x) (λ e. (e ≡ UnknownName p) × (variable_in scope x ≡ None))
-known_keeps None x p = record { is = (known_any x, refl) }
-known_keeps (Some names) x p = by_test (variable_of_name names x) refl
-  where
-    by_test : (o : Option Var) → variable_of_name names x ≡ o → Keeps (ok_or o (UnknownName p)) (Resolved (Some names) x) (λ e. (e ≡ UnknownName p) × (variable_of_name names x ≡ None))
-    by_test None h = record { is = (refl, h) }
-    by_test (Some v) h = record { is = (λ none. some_differs v (sym h ∙ none), sym (ap variable_or_first h)) }
 
 abbrev pub name_piece : List ℕ → List Piece
 name_piece = one_piece NamePiece
@@ -66,17 +38,9 @@ name_piece = one_piece NamePiece
 abbrev pub number_piece : List ℕ → List Piece
 number_piece = one_piece NumberPiece
 
-pub variable_guards : (n : ℕ) (scope : Option Names) → Guards n (variable_at scope) name_piece Always (KnownIn scope) (λ x ps. variable_named (scope_names scope) x) Any
+pub variable_guards : (n : ℕ) (names : Names) → Guards n (variable_at names) name_piece Always (λ x ps. variable_named names x) Any
 unfolding variable_at
-variable_guards n scope = record {
-  stuck = λ at room.
-      keeps_bind _ _ _ _ _ _ (word_law kind.Name NamePiece (λ t. t) (KnownIn scope) name_sort at)
-      (λ w p. keeps_bind _ _ _ _ _ _ (known_keeps scope w.0.text w.0.place)
-      (λ v k. keeps_end _ _ _ (record { went = p.went; fit = subst (KnownIn scope) (sym p.text) k.0; is = k.1 ∙ ap (variable_named (scope_names scope)) (sym p.text) }))
-      (λ e q. unfit_word NamePiece (λ t. t) at w e p (ap refusal_place q.0) (λ g. subst IsGrammar q.0 g) p.went.text tt [] (pieces_are p.went.front [] (name_piece p.went.text) [] p.went.spelled refl)
-      (λ c tail ok fit stop h. fit (ap (variable_in scope) (word_is kind.Name NamePiece (λ t. t) name_sort at w p c tail h) ∙ q.1))))
-      (λ e q. q);
-}
+variable_guards n names = word_guards n kind.Name NamePiece (λ t. t) name_sort (variable_named names)
 
 pub name_example : Example name_piece Always
 name_example = example_of [] tt refl
@@ -93,10 +57,6 @@ abbrev pub opt_pieces : {C : Type 0} → TokenKind → (C → List Piece) → Op
 opt_pieces k spell None = []
 opt_pieces k spell (Some c) = Mark k ∷ spell c
 
-abbrev pub OptFits : {C : Type 0} → (C → Type 0) → Option C → Type 0
-OptFits fits None = Unit {0}
-OptFits fits (Some c) = fits c
-
 abbrev pub opt_tree : {C A : Type 0} → (C → List Place → A) → Option C → List Place → Option A
 opt_tree tree None ps = None
 opt_tree tree (Some c) ps = Some (tree c (drop 1 ps))
@@ -105,10 +65,10 @@ abbrev pub OptEnds : {C : Type 0} → TokenKind → Option C → List Piece → 
 OptEnds k None rest = Not k rest
 OptEnds k (Some c) rest = Unit {0}
 
-pub opt_guards : {C A : Type 0} {n : ℕ} {read : ReadWords A} {spell : C → List Piece} {fits : C → Type 0} {tree : C → List Place → A} (k : TokenKind) → IsMark k → Example spell Always
-    → Guards n read spell Always fits tree Any → Guards n (opt_at k read) (opt_pieces k spell) Always (OptFits fits) (opt_tree tree) (OptEnds k)
-opt_guards {C = C} {n = n} {spell = spell} {fits = fits} {tree = tree} k marked example g =
-    choice_guards (opt_pieces k spell) Always (OptFits fits) (opt_tree tree) (OptEnds k) (next_test k) (λ c. Some c) (λ c h. tt) (λ (u : Unit {0}). None) (λ u h. tt)
+pub opt_guards : {C A : Type 0} {n : ℕ} {read : ReadWords A} {spell : C → List Piece} {tree : C → List Place → A} (k : TokenKind) → IsMark k → Example spell Always
+    → Guards n read spell Always tree Any → Guards n (opt_at k read) (opt_pieces k spell) Always (opt_tree tree) (OptEnds k)
+opt_guards {C = C} {n = n} {spell = spell} {tree = tree} k marked example g =
+    choice_guards (opt_pieces k spell) Always (opt_tree tree) (OptEnds k) (next_test k) (λ c. Some c) (λ c h. tt) (λ (u : Unit {0}). None) (λ u h. tt)
     sort (λ c rest h. tt) (λ u rest h. tt)
     (mapped_guards Some (after_guards k marked example g))
     (nothing_guards n None Any)
@@ -129,27 +89,27 @@ opt_then {A = A} {B = B} k read at g = by_test (next_is k at)
 abbrev digits_at : ReadWords ℤ
 digits_at at = next_word kind.Number at >>= λ w. Ok (number_value w.0.text, w.1)
 
-pub digits_guards : (n : ℕ) → Guards n digits_at number_piece Always Always (λ d ps. number_value d) Any
+pub digits_guards : (n : ℕ) → Guards n digits_at number_piece Always (λ d ps. number_value d) Any
 digits_guards n = word_guards n kind.Number NumberPiece (λ t. t) number_sort number_value
 
-pub factor_guards : (n : ℕ) → Guards n factor_at number_piece Always Always (λ d ps. number_value d) Any
+pub factor_guards : (n : ℕ) → Guards n factor_at number_piece Always (λ d ps. number_value d) Any
 unfolding factor_at
 factor_guards n = digits_guards n
 
 abbrev with_variable : ℤ → Option Var → ℤ × Option Var
 with_variable d o = (d, o)
 
-number_product_is : (scope : Option Names) (at : WordsAhead) → both with_variable digits_at (opt_at kind.Star (variable_at scope)) at ≡ number_product_at scope at
+number_product_is : (names : Names) (at : WordsAhead) → both with_variable digits_at (opt_at kind.Star (variable_at names)) at ≡ number_product_at names at
 unfolding number_product_at
-number_product_is scope at = bind_bind _ _ _ ∙ bind_same _ _ _ (λ n. bind_end _ _ ∙ opt_then kind.Star (variable_at scope) n.1 _)
+number_product_is names at = bind_bind _ _ _ ∙ bind_same _ _ _ (λ n. bind_end _ _ ∙ opt_then kind.Star (variable_at names) n.1 _)
 
 abbrev named : Var → Option ℤ → ℤ × Option Var
 named v None = (pos 1, Some v)
 named v (Some d) = (d, Some v)
 
-name_product_is : (scope : Option Names) (at : WordsAhead) → both named (variable_at scope) (opt_at kind.Star factor_at) at ≡ name_product_at scope at
+name_product_is : (names : Names) (at : WordsAhead) → both named (variable_at names) (opt_at kind.Star factor_at) at ≡ name_product_at names at
 unfolding name_product_at
-name_product_is scope at = bind_same _ _ _ (λ x. opt_then kind.Star factor_at x.1 _)
+name_product_is names at = bind_same _ _ _ (λ x. opt_then kind.Star factor_at x.1 _)
 
 abbrev Parts : Type 0
 Parts = List ℕ × Option (List ℕ)
@@ -161,19 +121,6 @@ number_text d (Some x) = number_name d x
 abbrev name_text : List ℕ → Option (List ℕ) → ProductText
 name_text x None = name x
 name_text x (Some d) = name_number x d
-
--- the names of texts are known
-abbrev pub ProductKnown : (List ℕ → Type 0) → ProductText → Type 0
-ProductKnown known (number d) = Unit {0}
-ProductKnown known (name x) = known x
-ProductKnown known (number_name d x) = known x
-ProductKnown known (name_number x d) = known x
-
-abbrev pub SumKnown : (List ℕ → Type 0) → SumText → Type 0
-SumKnown known s = ProductKnown known s.first × AllByRecursion (λ (p : Bool × ProductText). ProductKnown known p.1) s.further
-
-abbrev pub RelationKnown : (List ℕ → Type 0) → RelationText → Type 0
-RelationKnown known r = SumKnown known r.left × SumKnown known r.right
 
 -- a number or a name alone goes on with `*`
 abbrev pub carries : ProductText → List Piece → Bool
@@ -189,14 +136,6 @@ number_spelled d (Some x) = refl
 name_spelled : (x : List ℕ) (o : Option (List ℕ)) → name_piece x ++ opt_pieces kind.Star number_piece o ≡ product_pieces (name_text x o)
 name_spelled x None = refl
 name_spelled x (Some d) = refl
-
-number_known : (known : List ℕ → Type 0) (d : List ℕ) (o : Option (List ℕ)) → OptFits known o ↔ ProductKnown known (number_text d o)
-number_known known d None = (λ h. h, λ h. h)
-number_known known d (Some x) = (λ h. h, λ h. h)
-
-name_known : (known : List ℕ → Type 0) (x : List ℕ) (o : Option (List ℕ)) → (known x × OptFits (λ (d : List ℕ). Unit {0}) o) ↔ ProductKnown known (name_text x o)
-name_known known x None = (λ h. h.0, λ h. (h, tt))
-name_known known x (Some d) = (λ h. h.0, λ h. (h, tt))
 
 number_said : (names : Names) (d : List ℕ) (o : Option (List ℕ)) (ps : List Place) → with_variable (number_value d) (opt_tree (λ x qs. variable_named names x) o ps) ≡ product_tree names (number_text d o)
 number_said names d None ps = refl
@@ -214,37 +153,33 @@ name_stops : (x : List ℕ) (o : Option (List ℕ)) (rest : List Piece) → Prod
 name_stops x None rest h = h
 name_stops x (Some d) rest h = tt
 
-number_product_guards : (n : ℕ) (scope : Option Names) → Guards n (number_product_at scope) (λ (c : Parts). product_pieces (number_text c.0 c.1)) Always (λ c. ProductKnown (KnownIn scope) (number_text c.0 c.1)) (λ c ps. product_tree (scope_names scope) (number_text c.0 c.1)) (λ c. ProductEnds (number_text c.0 c.1))
-number_product_guards n scope =
+number_product_guards : (n : ℕ) (names : Names) → Guards n (number_product_at names) (λ (c : Parts). product_pieces (number_text c.0 c.1)) Always (λ c ps. product_tree names (number_text c.0 c.1)) (λ c. ProductEnds (number_text c.0 c.1))
+number_product_guards n names =
     guards_as (λ c. c) (λ c. c)
     (record {
       back = λ c. refl;
       spelled = λ c. number_spelled c.0 c.1;
       fine = λ c h. tt;
       unfine = λ c h. (tt, tt);
-      fit = λ c h. (number_known (KnownIn scope) c.0 c.1).0 h.1;
-      unfit = λ c h. (tt, (number_known (KnownIn scope) c.0 c.1).1 h);
-      said = λ c ps. number_said (scope_names scope) c.0 c.1 (drop 1 ps);
+      said = λ c ps. number_said names c.0 c.1 (drop 1 ps);
       stops = λ c rest h. number_stops c.0 c.1 rest h;
     })
-    (guards_same _ (number_product_is scope)
-    (both_guards with_variable any_joins (example_of None tt refl) (digits_guards n) (opt_guards kind.Star (λ u. refl) name_example (variable_guards n scope))))
+    (guards_same _ (number_product_is names)
+    (both_guards with_variable any_joins (example_of None tt refl) (digits_guards n) (opt_guards kind.Star (λ u. refl) name_example (variable_guards n names))))
 
-name_product_guards : (n : ℕ) (scope : Option Names) → Guards n (name_product_at scope) (λ (c : Parts). product_pieces (name_text c.0 c.1)) Always (λ c. ProductKnown (KnownIn scope) (name_text c.0 c.1)) (λ c ps. product_tree (scope_names scope) (name_text c.0 c.1)) (λ c. ProductEnds (name_text c.0 c.1))
-name_product_guards n scope =
+name_product_guards : (n : ℕ) (names : Names) → Guards n (name_product_at names) (λ (c : Parts). product_pieces (name_text c.0 c.1)) Always (λ c ps. product_tree names (name_text c.0 c.1)) (λ c. ProductEnds (name_text c.0 c.1))
+name_product_guards n names =
     guards_as (λ c. c) (λ c. c)
     (record {
       back = λ c. refl;
       spelled = λ c. name_spelled c.0 c.1;
       fine = λ c h. tt;
       unfine = λ c h. (tt, tt);
-      fit = λ c h. (name_known (KnownIn scope) c.0 c.1).0 h;
-      unfit = λ c h. (name_known (KnownIn scope) c.0 c.1).1 h;
-      said = λ c ps. name_said (scope_names scope) c.0 c.1 (drop 1 ps);
+      said = λ c ps. name_said names c.0 c.1 (drop 1 ps);
       stops = λ c rest h. name_stops c.0 c.1 rest h;
     })
-    (guards_same _ (name_product_is scope)
-    (both_guards named any_joins (example_of None tt refl) (variable_guards n scope) (opt_guards kind.Star (λ u. refl) number_example (factor_guards n))))
+    (guards_same _ (name_product_is names)
+    (both_guards named any_joins (example_of None tt refl) (variable_guards n names) (opt_guards kind.Star (λ u. refl) number_example (factor_guards n))))
 
 product_sort : (c : ProductText) → Always c → OfSort (begins_piece kind.Number) true product_pieces ProductEnds (λ (c : Parts). number_text c.0 c.1) Always c ⊎ OfSort (begins_piece kind.Number) false product_pieces ProductEnds (λ (c : Parts). name_text c.0 c.1) Always c
 product_sort (number d) ok = inl (record { text = (d, None); same = refl; fine = tt; tells = λ rest h. refl })
@@ -252,12 +187,12 @@ product_sort (number_name d x) ok = inl (record { text = (d, Some x); same = ref
 product_sort (name x) ok = inr (record { text = (x, None); same = refl; fine = tt; tells = λ rest h. refl })
 product_sort (name_number x d) ok = inr (record { text = (x, Some d); same = refl; fine = tt; tells = λ rest h. refl })
 
-product_guards : (n : ℕ) (scope : Option Names) → Guards n (product_at scope) product_pieces Always (ProductKnown (KnownIn scope)) (λ c ps. product_tree (scope_names scope) c) ProductEnds
+product_guards : (n : ℕ) (names : Names) → Guards n (product_at names) product_pieces Always (λ c ps. product_tree names c) ProductEnds
 unfolding product_at
-product_guards n scope =
-    choice_guards product_pieces Always (ProductKnown (KnownIn scope)) (λ c ps. product_tree (scope_names scope) c) ProductEnds (next_test kind.Number)
+product_guards n names =
+    choice_guards product_pieces Always (λ c ps. product_tree names c) ProductEnds (next_test kind.Number)
     (λ (c : Parts). number_text c.0 c.1) (λ c h. tt) (λ (c : Parts). name_text c.0 c.1) (λ c h. tt)
-    product_sort (λ c rest h. h) (λ c rest h. h) (number_product_guards n scope) (name_product_guards n scope)
+    product_sort (λ c rest h. h) (λ c rest h. h) (number_product_guards n names) (name_product_guards n names)
 
 product_example : Example product_pieces Always
 product_example = example_of (number []) tt refl
@@ -274,9 +209,6 @@ product_begins k a b (name_number x d) rest = b
 abbrev pub SignedText : Type 0
 SignedText = Bool × ProductText
 
-abbrev SignedKnown : (List ℕ → Type 0) → SignedText → Type 0
-SignedKnown known c = ProductKnown known c.1
-
 abbrev signed_tree : Names → SignedText → List Place → ℤ × Option Var
 signed_tree names c ps = signed c.0 (product_tree names c.1)
 
@@ -289,28 +221,28 @@ first_pieces c = minus_pieces c.0 ++ product_pieces c.1
 abbrev pub further_piece : SignedText → List Piece
 further_piece c = Mark (plus_or_minus c.0) ∷ product_pieces c.1
 
-minus_guards : (n : ℕ) (scope : Option Names) → Guards n (mapped (signed true) (after_word kind.Minus (product_at scope))) (λ c. Mark kind.Minus ∷ product_pieces c) Always (ProductKnown (KnownIn scope)) (λ c ps. signed true (product_tree (scope_names scope) c)) ProductEnds
-minus_guards n scope = mapped_guards (signed true) (after_guards kind.Minus (λ u. refl) product_example (product_guards n scope))
+minus_guards : (n : ℕ) (names : Names) → Guards n (mapped (signed true) (after_word kind.Minus (product_at names))) (λ c. Mark kind.Minus ∷ product_pieces c) Always (λ c ps. signed true (product_tree names c)) ProductEnds
+minus_guards n names = mapped_guards (signed true) (after_guards kind.Minus (λ u. refl) product_example (product_guards n names))
 
 first_sort : (c : SignedText) → Always c → OfSort (begins_piece kind.Minus) true first_pieces SignedEnds (λ p. (true, p)) Always c ⊎ OfSort (begins_piece kind.Minus) false first_pieces SignedEnds (λ p. (false, p)) Always c
 first_sort (true, c) ok = inl (record { text = c; same = refl; fine = tt; tells = λ rest h. refl })
 first_sort (false, c) ok = inr (record { text = c; same = refl; fine = tt; tells = λ rest h. product_begins kind.Minus refl refl c rest })
 
-first_guards : (n : ℕ) (scope : Option Names) → Guards n (first_product_at scope) first_pieces Always (SignedKnown (KnownIn scope)) (signed_tree (scope_names scope)) SignedEnds
+first_guards : (n : ℕ) (names : Names) → Guards n (first_product_at names) first_pieces Always (signed_tree names) SignedEnds
 unfolding first_product_at
-first_guards n scope =
-    choice_guards first_pieces Always (SignedKnown (KnownIn scope)) (signed_tree (scope_names scope)) SignedEnds (next_test kind.Minus) (λ p. (true, p)) (λ c h. tt) (λ p. (false, p)) (λ c h. tt)
-    first_sort (λ c rest h. h) (λ c rest h. h) (minus_guards n scope) (product_guards n scope)
+first_guards n names =
+    choice_guards first_pieces Always (signed_tree names) SignedEnds (next_test kind.Minus) (λ p. (true, p)) (λ c h. tt) (λ p. (false, p)) (λ c h. tt)
+    first_sort (λ c rest h. h) (λ c rest h. h) (minus_guards n names) (product_guards n names)
 
 further_sort : (c : SignedText) → Always c → OfSort (begins_piece kind.Plus) true further_piece SignedEnds (λ p. (false, p)) Always c ⊎ OfSort (begins_piece kind.Plus) false further_piece SignedEnds (λ p. (true, p)) Always c
 further_sort (true, c) ok = inr (record { text = c; same = refl; fine = tt; tells = λ rest h. refl })
 further_sort (false, c) ok = inl (record { text = c; same = refl; fine = tt; tells = λ rest h. refl })
 
-further_guards : (n : ℕ) (scope : Option Names) → Guards n (further_product_at scope) further_piece Always (SignedKnown (KnownIn scope)) (signed_tree (scope_names scope)) SignedEnds
+further_guards : (n : ℕ) (names : Names) → Guards n (further_product_at names) further_piece Always (signed_tree names) SignedEnds
 unfolding further_product_at
-further_guards n scope =
-    choice_guards further_piece Always (SignedKnown (KnownIn scope)) (signed_tree (scope_names scope)) SignedEnds (next_test kind.Plus) (λ p. (false, p)) (λ c h. tt) (λ p. (true, p)) (λ c h. tt)
-    further_sort (λ c rest h. h) (λ c rest h. h) (after_guards kind.Plus (λ u. refl) product_example (product_guards n scope)) (minus_guards n scope)
+further_guards n names =
+    choice_guards further_piece Always (signed_tree names) SignedEnds (next_test kind.Plus) (λ p. (false, p)) (λ c h. tt) (λ p. (true, p)) (λ c h. tt)
+    further_sort (λ c rest h. h) (λ c rest h. h) (after_guards kind.Plus (λ u. refl) product_example (product_guards n names)) (minus_guards n names)
 
 abbrev pub begins_adding : List Piece → Bool
 begins_adding ps = begins_piece kind.Plus ps || begins_piece kind.Minus ps
@@ -359,21 +291,19 @@ pub all_always : {C : Type 0} (cs : List C) → AllByRecursion (λ (c : C). Unit
 all_always [] = tt
 all_always (c ∷ cs) = (tt, all_always cs)
 
-pub sum_guards : (n : ℕ) (scope : Option Names) → Guards n (sum_at scope n) sum_pieces Always (SumKnown (KnownIn scope)) (λ s ps. sum_tree (scope_names scope) s) SumEnds
+pub sum_guards : (n : ℕ) (names : Names) → Guards n (sum_at names n) sum_pieces Always (λ s ps. sum_tree names s) SumEnds
 unfolding sum_at
-sum_guards n scope =
+sum_guards n names =
     guards_as sum_of parts_of
     (record {
       back = λ s. refl;
       spelled = λ c. append_assoc (minus_pieces c.0.0) (product_pieces c.0.1) (flat_map further_piece c.1) ∙ ap (λ (ps : List Piece). minus_pieces c.0.0 ++ (product_pieces c.0.1 ++ ps)) (further_is c.1);
       fine = λ c h. tt;
       unfine = λ s h. (tt, all_always s.further);
-      fit = λ c h. h;
-      unfit = λ s h. h;
-      said = λ c ps. ap (make_sum (signed c.0.0 (product_tree (scope_names scope) c.0.1))) (further_said (scope_names scope) c.1 _);
+      said = λ c ps. ap (make_sum (signed c.0.0 (product_tree names c.0.1))) (further_said names c.1 _);
       stops = λ s rest h. (h.0, subst (λ (c : ProductText). ProductEnds c rest) (last_signed (s.negative, s.first) s.further) h.1);
     })
-    (both_guards make_sum (more_joins further_goes_on) (example_of [] tt refl) (first_guards n scope) (while_guards (either_test (next_test kind.Plus) (next_test kind.Minus)) further_goes_on (further_guards n scope)))
+    (both_guards make_sum (more_joins further_goes_on) (example_of [] tt refl) (first_guards n names) (while_guards (either_test (next_test kind.Plus) (next_test kind.Minus)) further_goes_on (further_guards n names)))
 
 abbrev pub sum_text : SumText
 sum_text = record { negative = false; first = number []; further = [] }
@@ -442,12 +372,12 @@ head_kind [] = kind.Name
 head_kind (p ∷ ps) = kind_of p
 
 sign_stuck : (of : TokenKind → Option Sign) → AreSigns of → SignIn of sign.Less → (ws : List Word) (end : Place)
-    → Keeps (sign_from of ws end) (Made sign_piece (SignIn of) Always (λ s ps. s) Any (record { words = ws; end = end })) (Stood sign_piece (SignIn of) Always Any (record { words = ws; end = end }))
-sign_stuck of are less [] end = record { is = stood_here (record { words = []; end = end }) (Grammar end) (record { example = sign_example of less; next = λ g. absurd g }) refl (λ c ps tail fine against stop alike e. none_alike ps _ _ alike e) }
+    → Keeps (sign_from of ws end) (Made sign_piece (SignIn of) (λ s ps. s) Any (record { words = ws; end = end })) (Stood sign_piece (SignIn of) Any (record { words = ws; end = end }))
+sign_stuck of are less [] end = record { is = stood_here (record { words = []; end = end }) (Grammar end) (sign_example of less) refl (λ c ps tail fine stop alike e. none_alike ps _ _ alike e) }
 sign_stuck of are less (w ∷ ws) end = by_sign (of w.kind) refl
   where
     by_sign : (o : Option Sign) → of w.kind ≡ o
-        → Keeps {A = Sign × WordsAhead} (ok_or o (Grammar w.place) >>= λ s. Ok (s, record { words = ws; end = end })) (Made sign_piece (SignIn of) Always (λ s ps. s) Any (record { words = w ∷ ws; end = end })) (Stood sign_piece (SignIn of) Always Any (record { words = w ∷ ws; end = end }))
+        → Keeps {A = Sign × WordsAhead} (ok_or o (Grammar w.place) >>= λ s. Ok (s, record { words = ws; end = end })) (Made sign_piece (SignIn of) (λ s ps. s) Any (record { words = w ∷ ws; end = end })) (Stood sign_piece (SignIn of) Any (record { words = w ∷ ws; end = end }))
     by_sign (Some s) e = keeps_bind _ _ (λ r. r ≡ s) (λ p. ⊥) _ _ (record { is = refl })
         (λ r q. keeps_end _ _ _ (record {
           went = record {
@@ -461,18 +391,17 @@ sign_stuck of are less (w ∷ ws) end = by_sign (of w.kind) refl
                 let same : w.kind ≡ sign_kind c = sym (kind_of_piece w.kind w.text) ∙ ap head_kind h in
                 (some_is c s (sym fine ∙ ap of (sym same) ∙ e), ap (λ (qs : List Piece). drop 1 qs) h);
           };
-          fit = tt;
           is = q;
         }))
         (λ p none. absurd none)
     by_sign None e = keeps_bind _ _ (λ r. ⊥) (λ e. e ≡ Grammar w.place) _ _ (record { is = refl })
         (λ r none. absurd none)
-        (λ p q. stood_here (record { words = w ∷ ws; end = end }) p (record { example = sign_example of less; next = λ g. absurd (subst PassesGrammar q g) }) (ap refusal_place q) (λ c ps tail fine against stop alike h.
+        (λ p q. stood_here (record { words = w ∷ ws; end = end }) p (sign_example of less) q (λ c ps tail fine stop alike h.
         let piece : piece_of_kind w.kind w.text ≡ Mark (sign_kind c) = first_alike _ (pieces ws) ps _ tail alike h in
         let same : w.kind ≡ sign_kind c = sym (kind_of_piece w.kind w.text) ∙ ap kind_of piece in
         none-some c (sym e ∙ ap of same ∙ fine)))
 
-pub sign_guards : (n : ℕ) (of : TokenKind → Option Sign) → AreSigns of → SignIn of sign.Less → Guards n (sign_ahead of) sign_piece (SignIn of) Always (λ s ps. s) Any
+pub sign_guards : (n : ℕ) (of : TokenKind → Option Sign) → AreSigns of → SignIn of sign.Less → Guards n (sign_ahead of) sign_piece (SignIn of) (λ s ps. s) Any
 unfolding sign_ahead
 sign_guards n of are less = record { stuck = λ at room. sign_stuck of are less at.words at.end }
 
@@ -486,20 +415,20 @@ sign_ends s left rest = (refl, no_both (is_alone (last_product left)))
 abbrev of_parts : Sum → Sign → Sum → Relation
 of_parts left s right = record { left = left; sign = s; right = right }
 
-relation_is : (of : TokenKind → Option Sign) (scope : Option Names) (n : ℕ) (at : WordsAhead) → both (of_pair of_parts) (sum_at scope n) (both pair_up (sign_ahead of) (sum_at scope n)) at ≡ relation_at of scope n at
+relation_is : (of : TokenKind → Option Sign) (names : Names) (n : ℕ) (at : WordsAhead) → both (of_pair of_parts) (sum_at names n) (both pair_up (sign_ahead of) (sum_at names n)) at ≡ relation_at of names n at
 unfolding relation_at
-relation_is of scope n at = three_is of_parts (sum_at scope n) (sign_ahead of) (sum_at scope n) at
+relation_is of names n at = three_is of_parts (sum_at names n) (sign_ahead of) (sum_at names n) at
 
 abbrev pub RelationEnds : RelationText → List Piece → Type 0
 RelationEnds r = SumEnds r.right
 
-pub relation_guards : (n : ℕ) (scope : Option Names) (of : TokenKind → Option Sign) → AreSigns of → SignIn of sign.Less → Guards n (relation_at of scope n) relation_pieces (λ r. SignIn of r.sign) (RelationKnown (KnownIn scope)) (λ r ps. relation_tree (scope_names scope) r) RelationEnds
-relation_guards n scope of are less =
+pub relation_guards : (n : ℕ) (names : Names) (of : TokenKind → Option Sign) → AreSigns of → SignIn of sign.Less → Guards n (relation_at of names n) relation_pieces (λ r. SignIn of r.sign) (λ r ps. relation_tree names r) RelationEnds
+relation_guards n names of are less =
     guards_as (λ c. record { left = c.0; sign = c.1.0; right = c.1.1 }) (λ r. (r.left, (r.sign, r.right)))
-    (record { back = λ r. refl; spelled = λ c. refl; fine = λ c h. h.1.0; unfine = λ r h. (tt, (h, tt)); fit = λ c h. (h.0, h.1.1); unfit = λ r h. (h.0, (tt, h.1)); said = λ c ps. refl; stops = λ r rest h. h })
-    (guards_same _ (relation_is of scope n)
-    (both_guards (of_pair of_parts) left_joins (example_of (sign.Less, sum_text) (less, tt) refl) (sum_guards n scope)
-    (both_guards pair_up any_joins sum_example (sign_guards n of are less) (sum_guards n scope))))
+    (record { back = λ r. refl; spelled = λ c. refl; fine = λ c h. h.1.0; unfine = λ r h. (tt, (h, tt)); said = λ c ps. refl; stops = λ r rest h. h })
+    (guards_same _ (relation_is of names n)
+    (both_guards (of_pair of_parts) left_joins (example_of (sign.Less, sum_text) (less, tt) refl) (sum_guards n names)
+    (both_guards pair_up any_joins sum_example (sign_guards n of are less) (sum_guards n names))))
   where
     left_joins : Joins (λ (c : Sign × SumText). sign_piece c.0 ++ sum_pieces c.1) SumEnds (λ c. SumEnds c.1) (λ (c : SumText × (Sign × SumText)). SumEnds c.1.1)
     left_joins = record { first = λ c rest h. sign_ends c.1.0 c.0 (sum_pieces c.1.1 ++ rest); second = λ c rest h. h }
@@ -524,21 +453,3 @@ relation_begins k a b c r rest = subst (Not k) (sym (append_assoc (sum_pieces r.
     sum_begins : (negative : Bool) → Not k ((minus_pieces negative ++ (product_pieces r.left.first ++ further_pieces r.left.further)) ++ (Mark (sign_kind r.sign) ∷ (sum_pieces r.right ++ rest)))
     sum_begins true = a
     sum_begins false = subst (Not k) (sym (append_assoc (product_pieces r.left.first) (further_pieces r.left.further) (Mark (sign_kind r.sign) ∷ (sum_pieces r.right ++ rest)))) (product_begins k b c r.left.first _)
-
--- ---- which names are known
-
-pub all_known : (r : RelationText) → RelationKnown (KnownIn None) r
-all_known r = (of_sum r.left, of_sum r.right)
-  where
-    of_product : (c : ProductText) → ProductKnown (KnownIn None) c
-    of_product (number d) = tt
-    of_product (name x) = known_any x
-    of_product (number_name d x) = known_any x
-    of_product (name_number x d) = known_any x
-
-    each : (ds : List SignedText) → AllByRecursion (λ (p : SignedText). ProductKnown (KnownIn None) p.1) ds
-    each [] = tt
-    each (d ∷ ds) = (of_product d.1, each ds)
-
-    of_sum : (s : SumText) → SumKnown (KnownIn None) s
-    of_sum s = (of_product s.first, each s.further)

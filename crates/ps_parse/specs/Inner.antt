@@ -4,7 +4,6 @@ pub mod Sums
 pub mod Conds
 pub mod Blocks
 pub mod Items
-pub mod Scoped
 pub mod Seen
 pub mod Signed
 pub mod Steps

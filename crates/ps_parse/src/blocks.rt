@@ -1,9 +1,9 @@
 //! Reading statements and blocks.
 
-ghost use Rattle.std.specs.Prelude.{◌≡◌, ℕ, suc, [], ◌∷◌, List, true};
+ghost use Rattle.std.specs.Prelude.{◌≡◌, suc};
 ghost use Rattle.ps_token.specs.declared.token_kind.TokenKind.TheVariants as kind;
 ghost use Rattle.ps_parse.specs.Inner.Reading.{ReadsTo, with_front, words_while, next_is, after_word, next_word};
-ghost use Rattle.ps_parse.specs.Inner.Scoped.{names_in};
+ghost use Rattle.ps_grammar.specs.Declarations.{names_of};
 ghost use Rattle.ps_parse.specs.Inner.Conds.{cond_at};
 ghost use Rattle.ps_parse.specs.Inner.Blocks.{assign_at, ended_at, havoc_at, skip_at, atomic_at, else_at, if_at, while_stmt_at, kind_at, stmt_at, has_more, block_at};
 
@@ -11,7 +11,7 @@ use crate::cursor::Cursor;
 use crate::parser::Parser;
 use crate::read_refusal::ReadRefusal;
 use ps_token::TokenKind;
-use ps_tree::{Cond, LimitName, Stmt, StmtKind};
+use ps_tree::{Cond, Stmt, StmtKind};
 use sqlite_items::Items;
 
 #[tactic(auto, unfolding(crate::specs::Inner::Blocks::skip_at, crate::specs::Inner::Reading::after_word, ps_lines::specs::Steps::and_then))]
@@ -25,13 +25,13 @@ fn skip<'b>(cursor: &mut Cursor<'b>) -> Result<StmtKind, ReadRefusal>
 
 impl<'a> Parser<'a> {
     #[tactic(auto, unfolding(crate::specs::Inner::Blocks::assign_at, crate::specs::Inner::Blocks::ended_at, crate::specs::Inner::Reading::after_word, ps_lines::specs::Steps::and_then))]
-    fn assign<'b>(&self, cursor: &mut Cursor<'b>) -> Result<StmtKind, ReadRefusal>
+    fn assign<'b>(&self, most: u32, cursor: &mut Cursor<'b>) -> Result<StmtKind, ReadRefusal>
         ensures { ReadsTo (λ x. x) result cursor.new
-            (assign_at (names_in self.now.scope) self.now.most cursor.old) }
+            (assign_at (names_of self.now.declared.now) most cursor.old) }
     {
         let variable = self.variable(cursor)?;
         cursor.word(TokenKind::Becomes)?;
-        let sum = self.sum(cursor)?;
+        let sum = self.sum(most, cursor)?;
         cursor.word(TokenKind::Semicolon)?;
         Ok(StmtKind::Assign(variable, sum))
     }
@@ -39,7 +39,7 @@ impl<'a> Parser<'a> {
     #[tactic(auto, unfolding(crate::specs::Inner::Blocks::havoc_at, crate::specs::Inner::Blocks::ended_at, crate::specs::Inner::Reading::after_word, ps_lines::specs::Steps::and_then))]
     fn havoc<'b>(&self, cursor: &mut Cursor<'b>) -> Result<StmtKind, ReadRefusal>
         ensures { ReadsTo (λ x. x) result cursor.new
-            (havoc_at (names_in self.now.scope) cursor.old) }
+            (havoc_at (names_of self.now.declared.now) cursor.old) }
     {
         cursor.word(TokenKind::Havoc)?;
         let variable = self.variable(cursor)?;
@@ -52,27 +52,27 @@ impl<'a> Parser<'a> {
     fn claim<'b>(
         &self,
         word: TokenKind,
-        levels: u32,
+        most: u32,
         cursor: &mut Cursor<'b>,
     ) -> Result<Cond, ReadRefusal>
         ensures { ReadsTo (λ x. x) result cursor.new
             (after_word word (ended_at
-            (cond_at (names_in self.now.scope) self.now.most levels)) cursor.old) }
+            (cond_at (names_of self.now.declared.now) most)) cursor.old) }
     {
         cursor.word(word)?;
-        let cond = self.cond(levels, cursor)?;
+        let cond = self.cond(most, cursor)?;
         cursor.word(TokenKind::Semicolon)?;
         Ok(cond)
     }
 
     #[cycle(block)]
     #[tactic(auto, unfolding(crate::specs::Inner::Blocks::atomic_at, crate::specs::Inner::Reading::after_word, ps_lines::specs::Steps::and_then))]
-    fn atomic<'b>(&self, levels: u32, cursor: &mut Cursor<'b>) -> Result<StmtKind, ReadRefusal>
+    fn atomic<'b>(&self, most: u32, cursor: &mut Cursor<'b>) -> Result<StmtKind, ReadRefusal>
         ensures { ReadsTo (λ x. x) result cursor.new
-            (atomic_at (block_at (names_in self.now.scope) self.now.most levels true) cursor.old) }
+            (atomic_at (block_at (names_of self.now.declared.now) most) cursor.old) }
     {
         cursor.word(TokenKind::Atomic)?;
-        let block = self.block(levels, true, cursor)?;
+        let block = self.block(most, cursor)?;
         Ok(StmtKind::Atomic(block))
     }
 
@@ -81,36 +81,34 @@ impl<'a> Parser<'a> {
     #[tactic(auto, unfolding(crate::specs::Inner::Blocks::else_at, crate::specs::Inner::Reading::after_word, ps_lines::specs::Steps::and_then))]
     fn otherwise<'b>(
         &self,
-        levels: u32,
-        atomic: bool,
+        most: u32,
         cursor: &mut Cursor<'b>,
     ) -> Result<Items<Stmt>, ReadRefusal>
         ensures { ReadsTo (λ x. x) result cursor.new
-            (else_at (block_at (names_in self.now.scope) self.now.most levels atomic) cursor.old) }
+            (else_at (block_at (names_of self.now.declared.now) most) cursor.old) }
     {
         if !cursor.next_is(TokenKind::Else) {
             return Ok(Items::new(self.alloc));
         }
         cursor.word(TokenKind::Else)?;
-        self.block(levels, atomic, cursor)
+        self.block(most, cursor)
     }
 
     #[cycle(block)]
     #[tactic(auto, unfolding(crate::specs::Inner::Blocks::if_at, crate::specs::Inner::Reading::after_word, ps_lines::specs::Steps::and_then))]
     fn choice<'b>(
         &self,
-        levels: u32,
-        atomic: bool,
+        most: u32,
         cursor: &mut Cursor<'b>,
     ) -> Result<StmtKind, ReadRefusal>
         ensures { ReadsTo (λ x. x) result cursor.new
-            (if_at (block_at (names_in self.now.scope) self.now.most levels atomic)
-            (names_in self.now.scope) self.now.most levels cursor.old) }
+            (if_at (block_at (names_of self.now.declared.now) most)
+            (names_of self.now.declared.now) most cursor.old) }
     {
         cursor.word(TokenKind::If)?;
-        let test = self.parens(levels, cursor)?;
-        let held = self.block(levels, atomic, cursor)?;
-        let failed = self.otherwise(levels, atomic, cursor)?;
+        let test = self.parens(most, cursor)?;
+        let held = self.block(most, cursor)?;
+        let failed = self.otherwise(most, cursor)?;
         Ok(StmtKind::If(test, held, failed))
     }
 
@@ -118,20 +116,16 @@ impl<'a> Parser<'a> {
     #[tactic(auto, unfolding(crate::specs::Inner::Blocks::while_stmt_at, crate::specs::Inner::Reading::after_word, ps_lines::specs::Steps::and_then))]
     fn repetition<'b>(
         &self,
-        levels: u32,
-        atomic: bool,
+        most: u32,
         cursor: &mut Cursor<'b>,
     ) -> Result<StmtKind, ReadRefusal>
         ensures { ReadsTo (λ x. x) result cursor.new
-            (while_stmt_at atomic (block_at (names_in self.now.scope) self.now.most levels atomic)
-            (names_in self.now.scope) self.now.most levels cursor.old) }
+            (while_stmt_at (block_at (names_of self.now.declared.now) most)
+            (names_of self.now.declared.now) most cursor.old) }
     {
-        if atomic {
-            return Err(ReadRefusal::LoopInAtomic(cursor.place()));
-        }
         cursor.word(TokenKind::While)?;
-        let test = self.parens(levels, cursor)?;
-        let block = self.block(levels, atomic, cursor)?;
+        let test = self.parens(most, cursor)?;
+        let block = self.block(most, cursor)?;
         Ok(StmtKind::While(test, block))
     }
 
@@ -140,30 +134,29 @@ impl<'a> Parser<'a> {
     #[tactic(auto, unfolding(crate::specs::Inner::Blocks::kind_at, crate::specs::Inner::Blocks::cond_stmt_at, ps_lines::specs::Steps::and_then))]
     fn kind<'b>(
         &self,
-        levels: u32,
-        atomic: bool,
+        most: u32,
         cursor: &mut Cursor<'b>,
     ) -> Result<StmtKind, ReadRefusal>
         ensures { ReadsTo (λ x. x) result cursor.new
-            (kind_at (block_at (names_in self.now.scope) self.now.most levels) atomic
-            (names_in self.now.scope) self.now.most levels cursor.old) }
+            (kind_at (block_at (names_of self.now.declared.now) most)
+            (names_of self.now.declared.now) most cursor.old) }
     {
         if cursor.next_is(TokenKind::Name) {
-            self.assign(cursor)
+            self.assign(most, cursor)
         } else if cursor.next_is(TokenKind::Havoc) {
             self.havoc(cursor)
         } else if cursor.next_is(TokenKind::Assume) {
-            Ok(StmtKind::Assume(self.claim(TokenKind::Assume, levels, cursor)?))
+            Ok(StmtKind::Assume(self.claim(TokenKind::Assume, most, cursor)?))
         } else if cursor.next_is(TokenKind::Assert) {
-            Ok(StmtKind::Assert(self.claim(TokenKind::Assert, levels, cursor)?))
+            Ok(StmtKind::Assert(self.claim(TokenKind::Assert, most, cursor)?))
         } else if cursor.next_is(TokenKind::Skip) {
             skip(cursor)
         } else if cursor.next_is(TokenKind::Atomic) {
-            self.atomic(levels, cursor)
+            self.atomic(most, cursor)
         } else if cursor.next_is(TokenKind::If) {
-            self.choice(levels, atomic, cursor)
+            self.choice(most, cursor)
         } else if cursor.next_is(TokenKind::While) {
-            self.repetition(levels, atomic, cursor)
+            self.repetition(most, cursor)
         } else {
             Err(ReadRefusal::Grammar(cursor.place()))
         }
@@ -173,16 +166,15 @@ impl<'a> Parser<'a> {
     #[tactic(auto, unfolding(crate::specs::Inner::Blocks::stmt_at, ps_lines::specs::Steps::and_then))]
     fn stmt<'b>(
         &self,
-        levels: u32,
-        atomic: bool,
+        most: u32,
         cursor: &mut Cursor<'b>,
     ) -> Result<Stmt, ReadRefusal>
         ensures { ReadsTo (λ x. x) result cursor.new
-            (stmt_at (block_at (names_in self.now.scope) self.now.most levels) atomic
-            (names_in self.now.scope) self.now.most levels cursor.old) }
+            (stmt_at (block_at (names_of self.now.declared.now) most)
+            (names_of self.now.declared.now) most cursor.old) }
     {
         let place = cursor.place();
-        let kind = self.kind(levels, atomic, cursor)?;
+        let kind = self.kind(most, cursor)?;
         Ok(Stmt { place, kind })
     }
 
@@ -191,59 +183,55 @@ impl<'a> Parser<'a> {
     #[tactic(auto, using(crate::proofs::Repeated::repeats_first, crate::proofs::Repeated::repeats_more, crate::proofs::Repeated::repeats_stop, crate::proofs::Repeated::repeats_all))]
     fn stmts<'b>(
         &self,
-        levels: u32,
-        atomic: bool,
+        most: u32,
         cursor: &mut Cursor<'b>,
     ) -> Result<Vec<Stmt>, ReadRefusal>
         ensures { ReadsTo (λ v. v.items) result cursor.new
             (words_while has_more (stmt_at
-            (block_at (names_in self.now.scope) self.now.most levels) atomic
-            (names_in self.now.scope) self.now.most levels) self.now.most cursor.old) }
+            (block_at (names_of self.now.declared.now) most)
+            (names_of self.now.declared.now) most) most cursor.old) }
     {
         let mut stmts = Vec::new(self.alloc);
-        for _ in 0..self.most {
+        for _ in 0..most {
             if cursor.next_is(TokenKind::CloseBrace) {
                 return Ok(stmts);
             }
-            stmts.push(self.stmt(levels, atomic, cursor)?)?;
+            stmts.push(self.stmt(most, cursor)?)?;
         }
         Ok(stmts)
     }
 
-    // A block, where so many levels may be opened in it.
+    // A block, where so many words at most are left after the next one.
     #[cycle(block)]
     #[tactic(auto, unfolding(crate::specs::Inner::Blocks::block_at, ps_lines::specs::Steps::and_then))]
-    fn nested_block<'b>(
+    fn next_block<'b>(
         &self,
-        levels: u32,
-        atomic: bool,
+        left: u32,
         cursor: &mut Cursor<'b>,
     ) -> Result<Items<Stmt>, ReadRefusal>
         ensures { ReadsTo (λ x. x) result cursor.new
-            (block_at (names_in self.now.scope) self.now.most (suc levels) atomic cursor.old) }
+            (block_at (names_of self.now.declared.now) (suc left) cursor.old) }
     {
         cursor.word(TokenKind::OpenBrace)?;
-        let stmts = self.stmts(levels, atomic, cursor)?;
+        let stmts = self.stmts(left, cursor)?;
         cursor.word(TokenKind::CloseBrace)?;
         Ok(Items::from_vec(stmts))
     }
 
-    /// Takes a block, where so many levels may still be opened. No `while` stands in an atomic one.
+    /// Takes a block.
     #[cycle(block)]
-    #[tactic(auto, unfolding(crate::specs::Inner::Blocks::block_at, ps_lines::specs::Steps::and_then))]
+    #[tactic(auto, unfolding(crate::specs::Inner::Blocks::block_at))]
     pub(crate) fn block<'b>(
         &self,
-        levels: u32,
-        atomic: bool,
+        most: u32,
         cursor: &mut Cursor<'b>,
     ) -> Result<Items<Stmt>, ReadRefusal>
         ensures { ReadsTo (λ x. x) result cursor.new
-            (block_at (names_in self.now.scope) self.now.most levels atomic cursor.old) }
+            (block_at (names_of self.now.declared.now) most cursor.old) }
     {
-        if levels == 0 {
-            let open = cursor.word(TokenKind::OpenBrace)?;
-            return Err(ReadRefusal::Limit(open.place, LimitName::Depth));
+        if most == 0 {
+            return Err(ReadRefusal::Grammar(cursor.place()));
         }
-        self.nested_block(levels - 1, atomic, cursor)
+        self.next_block(most - 1, cursor)
     }
 }

@@ -1,9 +1,9 @@
 //! What a program declares.
 
-ghost use Rattle.std.specs.Prelude.{◌≡◌, ◌<◌, ◌≤◌, [], ◌∷◌, ◌++◌, map, length, IfOk};
-ghost use Rattle.ps_grammar.specs.Names.{variable_of_name, position_from};
-ghost use Rattle.ps_grammar.specs.Declarations.{most_globals, most_locals, most_rows, names_of, nothing_declared};
-ghost use Rattle.ps_parse.specs.Inner.Items.{with_rows};
+ghost use Rattle.std.specs.Prelude.{◌≡◌, ◌<◌, ◌^◌, [], ◌∷◌, ◌++◌, map, length, IfOk};
+ghost use Rattle.ps_grammar.specs.Names.{position_from};
+ghost use Rattle.ps_grammar.specs.Declarations.{names_of, nothing_declared};
+ghost use Rattle.ps_grammar.specs.Trees.{variable_named};
 ghost use Rattle.ps_tree.specs.declared.global_decl.GlobalDecl.{GlobalDecl};
 
 use ps_term::Var;
@@ -12,29 +12,31 @@ use sqlite_items::Items;
 use std::alloc::{AllocError, Global};
 use std::marker::Model;
 
-/// What is declared so far, and how many rows hold at the start.
+// The most names of one sort.
+const MOST_NAMES: usize = u32::MAX as usize;
+
+/// What is declared so far. Its rows aren't counted.
 #[derive(Drop)]
 pub(crate) struct Declared {
     globals: Vec<GlobalDecl>,
     locals: Vec<Name>,
     inits: Vec<Relation>,
-    rows: u64,
 }
 
 impl Model for Declared {
-    ghost use Rattle.std.specs.Prelude.{◌≤◌, length};
-    ghost use Rattle.ps_grammar.specs.Declarations.{Declared, most_globals, most_locals, most_rows};
+    ghost use Rattle.std.specs.Prelude.{◌<◌, ◌^◌, length};
+    ghost use Rattle.ps_grammar.specs.Declarations.{Declared};
 
     ghost Value = { Declared };
 
-    ghost view = { λ d. record { globals = d.globals.items; locals = d.locals.items; inits = d.inits.items; rows = d.rows } };
+    ghost view = { λ d. record { globals = d.globals.items; locals = d.locals.items; inits = d.inits.items; rows = 0 } };
 
-    ghost invariant = { λ d. (length d.globals.items ≤ most_globals) × (length d.locals.items ≤ most_locals) × (d.rows ≤ most_rows) };
+    ghost invariant = { λ d. (length d.globals.items < 2 ^ 32) × (length d.locals.items < 2 ^ 32) };
 }
 
 // The place of a name among the globals.
 fn global_position(globals: &[GlobalDecl], name: &[u8]) -> Option<u32>
-    requires { length globals.now ≤ most_globals }
+    requires { length globals.now < 2 ^ 32 }
     ensures { result ≡ position_from 0 name.now (map (λ (g : GlobalDecl). g.name) globals.now) }
 {
     for (i, global) in globals.iter().enumerate() {
@@ -47,7 +49,7 @@ fn global_position(globals: &[GlobalDecl], name: &[u8]) -> Option<u32>
 
 // The place of a name among the locals.
 fn local_position(locals: &[Name], name: &[u8]) -> Option<u32>
-    requires { length locals.now ≤ most_locals }
+    requires { length locals.now < 2 ^ 32 }
     ensures { result ≡ position_from 0 name.now locals.now }
 {
     for (i, local) in locals.iter().enumerate() {
@@ -66,53 +68,24 @@ impl Declared {
             globals: Vec::new(alloc),
             locals: Vec::new(alloc),
             inits: Vec::new(alloc),
-            rows: 0,
         }
     }
 
-    /// The variable of a declared name. Looks at all names.
-    pub(crate) fn variable(&self, name: &[u8]) -> Option<Var>
-        ensures { result ≡ variable_of_name (names_of self.now) name.now }
+    /// The variable that a name stands for: the first global for one that isn't declared. Looks at all names.
+    pub(crate) fn variable(&self, name: &[u8]) -> Var
+        ensures { result ≡ variable_named (names_of self.now) name.now }
     {
-        match global_position(&self.globals, name) {
-            Some(n) => Some(Var::Global(n)),
-            None => match local_position(&self.locals, name) {
-                Some(n) => Some(Var::Local(0, n)),
-                None => None,
-            },
+        if let Some(n) = global_position(&self.globals, name) {
+            return Var::Global(n);
+        }
+        match local_position(&self.locals, name) {
+            Some(n) => Var::Local(0, n),
+            None => Var::Global(0),
         }
     }
 
-    /// How many rows hold at the start.
-    pub(crate) fn rows(&self) -> u64
-        ensures is { result ≡ self.now.rows }
-        ensures few { result ≤ most_rows }
-    {
-        self.rows
-    }
-
-    /// The same declarations with so many rows.
-    pub(crate) fn with_rows(self, rows: u64) -> Declared
-        requires { rows ≤ most_rows }
-        ensures { result ≡ with_rows rows self }
-    {
-        let Declared {
-            globals,
-            locals,
-            inits,
-            rows: _,
-        } = self;
-        Declared {
-            globals,
-            locals,
-            inits,
-            rows,
-        }
-    }
-
-    /// With a further global.
+    /// With a further global. More than 32 bits can number are answered as want of memory, which so many are.
     pub(crate) fn with_global(self, global: GlobalDecl) -> Result<Declared, AllocError>
-        requires { length self.globals < most_globals }
         ensures { IfOk result
             (λ d. d ≡ record {
               globals = self.globals ++ global ∷ [];
@@ -126,20 +99,20 @@ impl Declared {
             mut globals,
             locals,
             inits,
-            rows,
         } = self;
+        if globals.len() >= MOST_NAMES {
+            return Err(AllocError);
+        }
         globals.push(global)?;
         Ok(Declared {
             globals,
             locals,
             inits,
-            rows,
         })
     }
 
-    /// With a further local.
+    /// With a further local, of which there may be as many as globals.
     pub(crate) fn with_local(self, local: Name) -> Result<Declared, AllocError>
-        requires { length self.locals < 8 }
         ensures { IfOk result
             (λ d. d ≡ record {
               globals = self.globals;
@@ -153,14 +126,15 @@ impl Declared {
             globals,
             mut locals,
             inits,
-            rows,
         } = self;
+        if locals.len() >= MOST_NAMES {
+            return Err(AllocError);
+        }
         locals.push(local)?;
         Ok(Declared {
             globals,
             locals,
             inits,
-            rows,
         })
     }
 
@@ -179,29 +153,13 @@ impl Declared {
             globals,
             locals,
             mut inits,
-            rows,
         } = self;
         inits.append(&mut relations)?;
         Ok(Declared {
             globals,
             locals,
             inits,
-            rows,
         })
-    }
-
-    /// How many globals there are.
-    pub(crate) fn count_globals(&self) -> usize
-        ensures { result ≡ length self.now.globals }
-    {
-        self.globals.len()
-    }
-
-    /// How many locals there are.
-    pub(crate) fn count_locals(&self) -> usize
-        ensures { result ≡ length self.now.locals }
-    {
-        self.locals.len()
     }
 
     /// The program with these declarations and this body.
@@ -213,7 +171,6 @@ impl Declared {
             globals,
             locals,
             inits,
-            rows: _,
         } = self;
         Program {
             globals: Items::from_vec(globals),

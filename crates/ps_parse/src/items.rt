@@ -4,21 +4,18 @@ ghost use Rattle.std.specs.Prelude.{◌≡◌, ℕ, ◌+◌, ◌*◌, ◌<◌, �
 ghost use Rattle.ps_token.specs.declared.token_kind.TokenKind.TheVariants as kind;
 ghost use Rattle.ps_tree.specs.declared.relation.Relation.{Relation};
 ghost use Rattle.ps_parse.specs.Inner.Reading.{WordsAhead, ReadsTo, with_front, words_while, next_is, after_word};
-ghost use Rattle.ps_parse.specs.Inner.Scoped.{names_in};
 ghost use Rattle.ps_parse.specs.Inner.Sums.{init_sign_of, relation_at};
 ghost use Rattle.ps_parse.specs.Inner.Steps.{declared_value_at, relations_at, rows_then};
-ghost use Rattle.ps_parse.specs.Inner.Items.{new_name_at, signed_number_ahead, declared_value_ahead, rows_counted_on, rows_from, item_rows, global_at, local_at, init_at, counted_item_at, item_at, has_item, items_at};
-ghost use Rattle.ps_grammar.specs.Declarations.{rows_of_sign, rows_of_value, nothing_declared};
+ghost use Rattle.ps_parse.specs.Inner.Items.{name_at, signed_number_ahead, declared_value_ahead, rows_counted_on, rows_from, item_rows, global_at, local_at, init_at, item_at, has_item, items_at};
+ghost use Rattle.ps_grammar.specs.Declarations.{names_of, rows_of_sign, rows_of_value, nothing_declared};
 
 use crate::cursor::Cursor;
 use crate::declared::Declared;
 use crate::parser::Parser;
 use crate::read_refusal::ReadRefusal;
-use crate::scope::Scope;
 use crate::signs::Signs;
-use ps_grammar::{MOST_GLOBALS, MOST_LOCALS, MOST_ROWS};
 use ps_token::TokenKind;
-use ps_tree::{GlobalDecl, LimitName, Name, Relation, Sign};
+use ps_tree::{GlobalDecl, Name, Relation, Sign};
 use std::alloc::{AllocError, Global};
 
 // A number, which may have a `-` before it.
@@ -48,27 +45,12 @@ fn value<'b>(cursor: &mut Cursor<'b>) -> Result<Option<i128>, ReadRefusal>
     Ok(Some(number))
 }
 
-// A name that isn't declared yet, and that isn't one too many.
-#[tactic(auto, unfolding(crate::specs::Inner::Items::new_name_at, ps_lines::specs::Steps::and_then))]
-fn new_name<'b>(
-    alloc: Global,
-    declared: &Declared,
-    count: usize,
-    most: usize,
-    limit: LimitName,
-    cursor: &mut Cursor<'b>,
-) -> Result<Name, ReadRefusal>
-    ensures gives { ReadsTo
-        (λ x. x) result cursor.new (new_name_at declared.now count most limit cursor.old) }
-    ensures room { IfOk result (λ _. count < most) }
+// A name.
+#[tactic(auto, unfolding(ps_lines::specs::Steps::and_then))]
+fn name<'b>(alloc: Global, cursor: &mut Cursor<'b>) -> Result<Name, ReadRefusal>
+    ensures { ReadsTo (λ x. x) result cursor.new (name_at cursor.old) }
 {
     let word = cursor.word(TokenKind::Name)?;
-    if declared.variable(word.text).is_some() {
-        return Err(ReadRefusal::Twice(word.place));
-    }
-    if most <= count {
-        return Err(ReadRefusal::Limit(word.place, limit));
-    }
     Ok(Name::from_bytes(Vec::from_slice(alloc, word.text)?))
 }
 
@@ -87,16 +69,17 @@ fn rows_of_sign(sign: Sign) -> u64
 // How many rows the next relation gives, or none where it isn't whole.
 fn next_rows<'a, 'b>(
     parser: &Parser<'a>,
+    most: u32,
     cursor: &mut Cursor<'b>,
 ) -> Result<Option<u64>, AllocError>
     ensures is { IfOk result
         (λ rows. (rest : WordsAhead → ℕ)
         → rows_counted_on (λ (r : Relation). rows_of_sign r.sign) rest
-        (relation_at init_sign_of (names_in parser.now.scope) parser.now.most cursor.old)
+        (relation_at init_sign_of (names_of parser.now.declared.now) most cursor.old)
         ≡ rows_then rows (rest cursor.new)) }
     ensures few { IfOk result (λ rows. rows_then rows 0 ≤ 2) }
 {
-    match parser.relation(Signs::AtStart, cursor) {
+    match parser.relation(Signs::AtStart, most, cursor) {
         Ok(relation) => Ok(Some(rows_of_sign(relation.sign))),
         Err(ReadRefusal::Memory(e)) => Err(e),
         Err(_) => Ok(None),
@@ -108,14 +91,14 @@ fn init_rows<'b>(alloc: Global, most: u32, cursor: &mut Cursor<'b>) -> Result<u6
     ensures is { IfOk result (λ rows. rows ≡ rows_from most most cursor.old) }
     ensures few { IfOk result (λ rows. rows ≤ 2 * most) }
 {
+    let declared = Declared::new(alloc);
     let parser = Parser {
         alloc,
-        scope: Scope::Any,
-        most,
+        declared: &declared,
     };
     let mut rows = 0;
     for _ in 0..most {
-        match next_rows(&parser, cursor)? {
+        match next_rows(&parser, most, cursor)? {
             Some(more) => rows += more,
             None => return Ok(rows),
         }
@@ -185,15 +168,7 @@ fn global<'b>(
     ensures { ReadsTo (λ x. x) result cursor.new (global_at declared cursor.old) }
 {
     cursor.word(TokenKind::Global)?;
-    let count = declared.count_globals();
-    let name = new_name(
-        alloc,
-        &declared,
-        count,
-        MOST_GLOBALS,
-        LimitName::Globals,
-        cursor,
-    )?;
+    let name = name(alloc, cursor)?;
     let value = value(cursor)?;
     cursor.word(TokenKind::Semicolon)?;
     Ok(declared.with_global(GlobalDecl { name, value })?)
@@ -209,15 +184,7 @@ fn local<'b>(
     ensures { ReadsTo (λ x. x) result cursor.new (local_at declared cursor.old) }
 {
     cursor.word(TokenKind::Local)?;
-    let count = declared.count_locals();
-    let name = new_name(
-        alloc,
-        &declared,
-        count,
-        MOST_LOCALS,
-        LimitName::Locals,
-        cursor,
-    )?;
+    let name = name(alloc, cursor)?;
     cursor.word(TokenKind::Semicolon)?;
     Ok(declared.with_local(name)?)
 }
@@ -227,6 +194,7 @@ impl<'a> Parser<'a> {
     #[tactic(auto, using(crate::proofs::Repeated::repeats_none, crate::proofs::Repeated::repeats_more, crate::proofs::Repeated::repeats_stop, crate::proofs::Repeated::repeats_all), unfolding(crate::specs::Inner::Reading::after_word, ps_lines::specs::Steps::and_then))]
     fn further_relations<'b>(
         &self,
+        most: u32,
         mut relations: Vec<Relation>,
         cursor: &mut Cursor<'b>,
     ) -> Result<Vec<Relation>, ReadRefusal>
@@ -234,30 +202,29 @@ impl<'a> Parser<'a> {
             (with_front relations.items
             (words_while (next_is kind.And)
             (after_word kind.And
-            (relation_at init_sign_of (names_in self.now.scope) self.now.most)) self.now.most
-            cursor.old)) }
+            (relation_at init_sign_of (names_of self.now.declared.now) most)) most cursor.old)) }
     {
-        for _ in 0..self.most {
+        for _ in 0..most {
             if !cursor.next_is(TokenKind::And) {
                 return Ok(relations);
             }
             cursor.word(TokenKind::And)?;
-            relations.push(self.relation(Signs::AtStart, cursor)?)?;
+            relations.push(self.relation(Signs::AtStart, most, cursor)?)?;
         }
         Ok(relations)
     }
 
     // The relations of an `init` item.
     #[tactic(auto, unfolding(crate::specs::Inner::Steps::relations_at, crate::specs::Inner::Blocks::ended_at, crate::specs::Inner::Reading::after_word, ps_lines::specs::Steps::and_then))]
-    fn relations<'b>(&self, cursor: &mut Cursor<'b>) -> Result<Vec<Relation>, ReadRefusal>
+    fn relations<'b>(&self, most: u32, cursor: &mut Cursor<'b>) -> Result<Vec<Relation>, ReadRefusal>
         ensures { ReadsTo (λ v. v.items) result cursor.new
-            (relations_at (names_in self.now.scope) self.now.most cursor.old) }
+            (relations_at (names_of self.now.declared.now) most cursor.old) }
     {
         cursor.word(TokenKind::Init)?;
-        let first = self.relation(Signs::AtStart, cursor)?;
+        let first = self.relation(Signs::AtStart, most, cursor)?;
         let mut relations = Vec::new(self.alloc);
         relations.push(first)?;
-        let relations = self.further_relations(relations, cursor)?;
+        let relations = self.further_relations(most, relations, cursor)?;
         cursor.word(TokenKind::Semicolon)?;
         Ok(relations)
     }
@@ -275,30 +242,10 @@ fn init<'b>(
 {
     let parser = Parser {
         alloc,
-        scope: Scope::Known(&declared),
-        most,
+        declared: &declared,
     };
-    let relations = parser.relations(cursor)?;
+    let relations = parser.relations(most, cursor)?;
     Ok(declared.with_inits(relations)?)
-}
-
-// An item, whose rows are counted.
-#[tactic(auto, unfolding(crate::specs::Inner::Items::counted_item_at))]
-fn counted_item<'b>(
-    alloc: Global,
-    most: u32,
-    declared: Declared,
-    cursor: &mut Cursor<'b>,
-) -> Result<Declared, ReadRefusal>
-    ensures { ReadsTo (λ x. x) result cursor.new (counted_item_at declared most cursor.old) }
-{
-    if cursor.next_is(TokenKind::Global) {
-        global(alloc, declared, cursor)
-    } else if cursor.next_is(TokenKind::Local) {
-        local(alloc, declared, cursor)
-    } else {
-        init(alloc, most, declared, cursor)
-    }
 }
 
 // An item.
@@ -311,11 +258,13 @@ fn item<'b>(
 ) -> Result<Declared, ReadRefusal>
     ensures { ReadsTo (λ x. x) result cursor.new (item_at declared most cursor.old) }
 {
-    let rows = declared.rows() + item_rows(alloc, most, &mut cursor.fork())?;
-    if MOST_ROWS < rows {
-        return Err(ReadRefusal::Limit(cursor.place(), LimitName::Init));
+    if cursor.next_is(TokenKind::Global) {
+        global(alloc, declared, cursor)
+    } else if cursor.next_is(TokenKind::Local) {
+        local(alloc, declared, cursor)
+    } else {
+        init(alloc, most, declared, cursor)
     }
-    counted_item(alloc, most, declared.with_rows(rows), cursor)
 }
 
 // Whether an item follows.

@@ -21,7 +21,6 @@ mod passed;
 mod read_refusal;
 mod reading;
 mod refusal_lines;
-mod scope;
 mod signs;
 mod spot;
 mod sums;

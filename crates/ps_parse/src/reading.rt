@@ -19,8 +19,6 @@ use crate::deciding::decided;
 use crate::items::items;
 use crate::parser::Parser;
 use crate::read_refusal::ReadRefusal;
-use crate::scope::Scope;
-use ps_grammar::MOST_LEVELS;
 use ps_token::{Token, TokenEnd, TokenKind, end_place, tokens};
 use ps_tree::Program;
 use std::alloc::Global;
@@ -34,10 +32,9 @@ fn program<'b>(alloc: Global, most: u32, cursor: &mut Cursor<'b>) -> Result<Prog
     cursor.word(TokenKind::Thread)?;
     let parser = Parser {
         alloc,
-        scope: Scope::Known(&declared),
-        most,
+        declared: &declared,
     };
-    let body = parser.block(MOST_LEVELS, false, cursor)?;
+    let body = parser.block(most, cursor)?;
     cursor.end()?;
     Ok(declared.into_program(body))
 }

@@ -1,10 +1,9 @@
 -- Reading statements and blocks.
-use Rattle.std.specs.Prelude.{ℕ, zero, suc, Bool, true, not, List, [], Option, Ok, Err, if◌then◌else◌}
+use Rattle.std.specs.Prelude.{ℕ, zero, suc, Bool, not, List, [], Ok, Err, if◌then◌else◌}
 use Rattle.ps_token.specs.declared.token_kind.TokenKind.{TokenKind}
 use Rattle.ps_token.specs.declared.token_kind.TokenKind.TheVariants as kind
 use Rattle.ps_tree.specs.declared.cond.Cond.{Cond}
-use Rattle.ps_tree.specs.declared.limit_name.LimitName.TheVariants as limit
-use Rattle.ps_parse.specs.declared.read_refusal.ReadRefusal.TheVariants.{Grammar, Limit, LoopInAtomic}
+use Rattle.ps_parse.specs.declared.read_refusal.ReadRefusal.TheVariants.{Grammar}
 use Rattle.ps_tree.specs.declared.stmt.Stmt.{Stmt}
 use Rattle.ps_tree.specs.declared.stmt.StmtKind.{StmtKind}
 use Rattle.ps_tree.specs.declared.stmt.StmtKind.TheVariants as stmt
@@ -23,20 +22,20 @@ ended_at read at = do
   Ok (x.0, w.1)
 
 -- `NAME := sum ;`
-unfoldable pub assign_at : Option Names → ℕ → ReadWords StmtKind
-assign_at scope n at = do
-  x ← variable_at scope at
-  s ← after_word kind.Becomes (ended_at (sum_at scope n)) x.1
+unfoldable pub assign_at : Names → ℕ → ReadWords StmtKind
+assign_at names n at = do
+  x ← variable_at names at
+  s ← after_word kind.Becomes (ended_at (sum_at names n)) x.1
   Ok (stmt.Assign x.0 s.0, s.1)
 
 -- `havoc NAME ;`
-unfoldable pub havoc_at : Option Names → ReadWords StmtKind
-havoc_at scope at = after_word kind.Havoc (ended_at (variable_at scope)) at >>= λ x. Ok (stmt.Havoc x.0, x.1)
+unfoldable pub havoc_at : Names → ReadWords StmtKind
+havoc_at names at = after_word kind.Havoc (ended_at (variable_at names)) at >>= λ x. Ok (stmt.Havoc x.0, x.1)
 
 -- `assume cond ;` and `assert cond ;`
-unfoldable pub cond_stmt_at : TokenKind → (Cond → StmtKind) → Option Names → ℕ → ℕ → ReadWords StmtKind
-cond_stmt_at word of scope n levels at =
-    after_word word (ended_at (cond_at scope n levels)) at >>= λ c. Ok (of c.0, c.1)
+unfoldable pub cond_stmt_at : TokenKind → (Cond → StmtKind) → Names → ℕ → ReadWords StmtKind
+cond_stmt_at word of names n at =
+    after_word word (ended_at (cond_at names n)) at >>= λ c. Ok (of c.0, c.1)
 
 -- `skip ;`
 unfoldable pub skip_at : ReadWords StmtKind
@@ -51,47 +50,46 @@ unfoldable pub else_at : ReadWords (List Stmt) → ReadWords (List Stmt)
 else_at block at = if next_is kind.Else at then after_word kind.Else block at else Ok ([], at)
 
 -- `if ( test ) block`, and what may follow
-unfoldable pub if_at : ReadWords (List Stmt) → Option Names → ℕ → ℕ → ReadWords StmtKind
-if_at block scope n levels at = do
-  t ← after_word kind.If (parens_at scope n levels) at
+unfoldable pub if_at : ReadWords (List Stmt) → Names → ℕ → ReadWords StmtKind
+if_at block names n at = do
+  t ← after_word kind.If (parens_at names n) at
   held ← block t.1
   failed ← else_at block held.1
   Ok (stmt.If t.0 held.0 failed.0, failed.1)
 
--- `while ( test ) block`, which doesn't stand inside an atomic block
-unfoldable pub while_stmt_at : Bool → ReadWords (List Stmt) → Option Names → ℕ → ℕ → ReadWords StmtKind
-while_stmt_at atomic block scope n levels at =
-    if atomic then Err (LoopInAtomic (place_at at)) else (do
-      t ← after_word kind.While (parens_at scope n levels) at
-      b ← block t.1
-      Ok (stmt.While t.0 b.0, b.1))
+-- `while ( test ) block`
+unfoldable pub while_stmt_at : ReadWords (List Stmt) → Names → ℕ → ReadWords StmtKind
+while_stmt_at block names n at = do
+  t ← after_word kind.While (parens_at names n) at
+  b ← block t.1
+  Ok (stmt.While t.0 b.0, b.1)
 
--- A statement, told by its first word, from how blocks in it are read: the argument says whether they are atomic.
-unfoldable pub kind_at : (Bool → ReadWords (List Stmt)) → Bool → Option Names → ℕ → ℕ → ReadWords StmtKind
-kind_at block atomic scope n levels at =
-    if next_is kind.Name at then assign_at scope n at
-    else (if next_is kind.Havoc at then havoc_at scope at
-    else (if next_is kind.Assume at then cond_stmt_at kind.Assume stmt.Assume scope n levels at
-    else (if next_is kind.Assert at then cond_stmt_at kind.Assert stmt.Assert scope n levels at
+-- A statement, told by its first word, from how blocks in it are read.
+unfoldable pub kind_at : ReadWords (List Stmt) → Names → ℕ → ReadWords StmtKind
+kind_at block names n at =
+    if next_is kind.Name at then assign_at names n at
+    else (if next_is kind.Havoc at then havoc_at names at
+    else (if next_is kind.Assume at then cond_stmt_at kind.Assume stmt.Assume names n at
+    else (if next_is kind.Assert at then cond_stmt_at kind.Assert stmt.Assert names n at
     else (if next_is kind.Skip at then skip_at at
-    else (if next_is kind.Atomic at then atomic_at (block true) at
-    else (if next_is kind.If at then if_at (block atomic) scope n levels at
-    else (if next_is kind.While at then while_stmt_at atomic (block atomic) scope n levels at
+    else (if next_is kind.Atomic at then atomic_at block at
+    else (if next_is kind.If at then if_at block names n at
+    else (if next_is kind.While at then while_stmt_at block names n at
     else Err (Grammar (place_at at)))))))))
 
-unfoldable pub stmt_at : (Bool → ReadWords (List Stmt)) → Bool → Option Names → ℕ → ℕ → ReadWords Stmt
-stmt_at block atomic scope n levels at =
-    kind_at block atomic scope n levels at >>= λ k. Ok (record { place = place_at at; kind = k.0 }, k.1)
+unfoldable pub stmt_at : ReadWords (List Stmt) → Names → ℕ → ReadWords Stmt
+stmt_at block names n at =
+    kind_at block names n at >>= λ k. Ok (record { place = place_at at; kind = k.0 }, k.1)
 
 -- a block goes on
 abbrev pub has_more : WordsAhead → Bool
 has_more at = not (next_is kind.CloseBrace at)
 
--- A block, where so many levels may still be opened, inside an atomic block or not.
-unfoldable pub block_at : Option Names → ℕ → ℕ → Bool → ReadWords (List Stmt)
-block_at scope n zero atomic at = next_word kind.OpenBrace at >>= λ w. Err (Limit w.0.place limit.Depth)
-block_at scope n (suc levels) atomic at = do
+-- A block. The number is more than the words that are left, each of which may open a level.
+unfoldable pub block_at : Names → ℕ → ReadWords (List Stmt)
+block_at names zero at = Err (Grammar (place_at at))
+block_at names (suc n) at = do
   open' ← next_word kind.OpenBrace at
-  b ← words_while has_more (stmt_at (block_at scope n levels) atomic scope n levels) n open'.1
+  b ← words_while has_more (stmt_at (block_at names n) names n) n open'.1
   close ← next_word kind.CloseBrace b.1
   Ok (b.0, close.1)

@@ -1,38 +1,21 @@
 -- Reading declarations and whole programs.
-use Rattle.std.specs.Prelude.{ℕ, zero, suc, ◌+◌, ℤ, Bool, true, false, ◌||◌, List, [], ◌∷◌, ◌++◌, length, Option, Some, None, Result, Ok, Err, nat_le, nat_lt, if◌then◌else◌}
+use Rattle.std.specs.Prelude.{ℕ, zero, suc, ◌+◌, ℤ, Bool, true, ◌||◌, List, [], ◌∷◌, ◌++◌, length, Option, Some, None, Result, Ok, Err, if◌then◌else◌}
 use Rattle.ps_token.specs.declared.token_kind.TokenKind.TheVariants as kind
 use Rattle.ps_token.specs.declared.place.Place.{Place}
-use Rattle.ps_tree.specs.declared.limit_name.LimitName.{LimitName}
-use Rattle.ps_tree.specs.declared.limit_name.LimitName.TheVariants as limit
 use Rattle.ps_tree.specs.declared.program.Program.{Program}
 use Rattle.ps_parse.specs.declared.read_refusal.ReadRefusal.{ReadRefusal}
-use Rattle.ps_parse.specs.declared.read_refusal.ReadRefusal.TheVariants.{Limit, Twice}
 use Rattle.ps_tree.specs.declared.relation.Relation.{Relation}
-use Rattle.ps_term.specs.declared.var.Var.{Var}
 use Rattle.ps_parse.specs.Inner.Blocks.{block_at, ended_at}
-use Rattle.ps_grammar.specs.Names.{variable_of_name}
 use Rattle.ps_parse.specs.Inner.Sums.{init_sign_of, relation_at}
 use Rattle.ps_grammar.specs.Numbers.{number_value, signed}
-use Rattle.ps_parse.specs.Inner.Reading.{WordsAhead, ReadWords, after_word, words_end, next_is, place_at, words_while, next_word}
+use Rattle.ps_parse.specs.Inner.Reading.{WordsAhead, ReadWords, after_word, words_end, next_is, words_while, next_word}
 use Rattle.ps_lines.specs.Steps.{◌>>=◌}
 use Rattle.ps_grammar.specs.Words.{Word}
-use Rattle.ps_grammar.specs.Declarations.{Declared, most_globals, most_levels, most_locals, most_rows, names_of, nothing_declared, rows_of_sign, rows_of_value}
+use Rattle.ps_grammar.specs.Declarations.{Declared, names_of, nothing_declared, rows_of_sign, rows_of_value}
 
-abbrev pub is_some_variable : Option Var → Bool
-is_some_variable (Some x) = true
-is_some_variable None = false
-
--- the refusal of a declared name at a word: declared before, or one too many
-abbrev pub refused_name : Bool → Bool → LimitName → Word × WordsAhead → Result (List ℕ × WordsAhead) ReadRefusal
-refused_name true full what w = Err (Twice w.0.place)
-refused_name false true what w = Err (Limit w.0.place what)
-refused_name false false what w = Ok (w.0.text, w.1)
-
--- The next word is a name that isn't declared yet, and that isn't one too many.
-unfoldable pub new_name_at : Declared → ℕ → ℕ → LimitName → ReadWords (List ℕ)
-new_name_at d count most what at = do
-  w ← next_word kind.Name at
-  refused_name (is_some_variable (variable_of_name (names_of d) w.0.text)) (nat_le most count) what w
+-- A name.
+abbrev pub name_at : ReadWords (List ℕ)
+name_at at = next_word kind.Name at >>= λ w. Ok (w.0.text, w.1)
 
 -- A number, which may have a `-` before it.
 unfoldable pub signed_number_ahead : ReadWords ℤ
@@ -59,7 +42,7 @@ rows_counted_on rows rest (Err e) = 0
 unfoldable pub rows_from : ℕ → ℕ → WordsAhead → ℕ
 rows_from n zero at = 0
 rows_from n (suc m) at =
-    rows_counted_on (λ (r : Relation). rows_of_sign r.sign) (λ next. rows_counted_on (λ (w : Word). 0) (rows_from n m) (next_word kind.And next)) (relation_at init_sign_of None n at)
+    rows_counted_on (λ (r : Relation). rows_of_sign r.sign) (λ next. rows_counted_on (λ (w : Word). 0) (rows_from n m) (next_word kind.And next)) (relation_at init_sign_of (names_of nothing_declared) n at)
 
 -- How many rows an item gives, as far as it is of the grammar: of a global its value, of `init` its relations.
 unfoldable pub item_rows : ℕ → WordsAhead → ℕ
@@ -75,39 +58,29 @@ item_rows n at =
 -- `global NAME (= number)? ;`
 unfoldable pub global_at : Declared → ReadWords Declared
 global_at d at = do
-  name ← after_word kind.Global (new_name_at d (length d.globals) most_globals limit.Globals) at
+  name ← after_word kind.Global name_at at
   v ← ended_at declared_value_ahead name.1
   Ok (record { globals = d.globals ++ record { name = name.0; value = v.0 } ∷ []; locals = d.locals; inits = d.inits; rows = d.rows }, v.1)
 
 -- `local NAME ;`
 unfoldable pub local_at : Declared → ReadWords Declared
 local_at d at = do
-  name ← after_word kind.Local (ended_at (new_name_at d (length d.locals) most_locals limit.Locals)) at
+  name ← after_word kind.Local (ended_at name_at) at
   Ok (record { globals = d.globals; locals = d.locals ++ name.0 ∷ []; inits = d.inits; rows = d.rows }, name.1)
 
 -- `init rel (&& rel)* ;`
 unfoldable pub init_at : Declared → ℕ → ReadWords Declared
 init_at d n at = do
-  r ← after_word kind.Init (relation_at init_sign_of (Some (names_of d)) n) at
-  rs ← ended_at (words_while (next_is kind.And) (after_word kind.And (relation_at init_sign_of (Some (names_of d)) n)) n) r.1
+  r ← after_word kind.Init (relation_at init_sign_of (names_of d) n) at
+  rs ← ended_at (words_while (next_is kind.And) (after_word kind.And (relation_at init_sign_of (names_of d) n)) n) r.1
   Ok (record { globals = d.globals; locals = d.locals; inits = d.inits ++ r.0 ∷ rs.0; rows = d.rows }, rs.1)
 
--- the item of a kind, with its rows counted
-unfoldable pub counted_item_at : Declared → ℕ → ReadWords Declared
-counted_item_at d n at =
+-- An item, told by its first word.
+unfoldable pub item_at : Declared → ℕ → ReadWords Declared
+item_at d n at =
     if next_is kind.Global at then global_at d at
     else (if next_is kind.Local at then local_at d at
     else init_at d n at)
-
--- the same declarations with so many rows
-abbrev pub with_rows : ℕ → Declared → Declared
-with_rows rows d = record { globals = d.globals; locals = d.locals; inits = d.inits; rows = rows }
-
--- An item; `Limit` at its first word where its rows, which are counted first, pass the limit.
-unfoldable pub item_at : Declared → ℕ → ReadWords Declared
-item_at d n at =
-    if nat_lt most_rows (d.rows + item_rows n at) then Err (Limit (place_at at) limit.Init)
-    else counted_item_at (with_rows (d.rows + item_rows n at) d) n at
 
 -- an item follows
 abbrev pub has_item : WordsAhead → Bool
@@ -118,14 +91,15 @@ unfoldable pub items_at : ℕ → Declared → ℕ → ReadWords Declared
 items_at n d zero at = Ok (d, at)
 items_at n d (suc m) at = if has_item at then (item_at d n at >>= λ x. items_at n x.0 m x.1) else Ok (d, at)
 
--- The whole text, of at most so many words.
+-- The whole text, of at most so many words. Names may stand for anything, and nothing is counted: which word has a cause of a
+-- refusal is found apart.
 unfoldable pub program_at : ℕ → WordsAhead → Result Program ReadRefusal
 program_at n at = do
   d ← items_at n nothing_declared n at
-  b ← after_word kind.Thread (block_at (Some (names_of d.0)) n most_levels false) d.1
+  b ← after_word kind.Thread (block_at (names_of d.0) n) d.1
   e ← words_end b.1
   Ok (record { globals = d.0.globals; locals = d.0.locals; inits = d.0.inits; body = b.0 })
 
--- What the words of a text are read as, or the first refusal.
+-- What the words of a text are read as, or their first fault of the grammar.
 abbrev pub program_in : List Word → Place → Result Program ReadRefusal
 program_in words end = program_at (length words) (record { words = words; end = end })

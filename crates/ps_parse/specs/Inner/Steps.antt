@@ -16,10 +16,10 @@ unfoldable pub declared_value_at : ReadWords (Option ℤ)
 declared_value_at at = after_word kind.Global (after_word kind.Name declared_value_ahead) at
 
 -- The relations of an `init` item.
-unfoldable pub relations_at : Option Names → ℕ → ReadWords (List Relation)
-relations_at scope n at = do
-  r ← after_word kind.Init (relation_at init_sign_of scope n) at
-  rs ← ended_at (words_while (next_is kind.And) (after_word kind.And (relation_at init_sign_of scope n)) n) r.1
+unfoldable pub relations_at : Names → ℕ → ReadWords (List Relation)
+relations_at names n at = do
+  r ← after_word kind.Init (relation_at init_sign_of names n) at
+  rs ← ended_at (words_while (next_is kind.And) (after_word kind.And (relation_at init_sign_of names n)) n) r.1
   Ok (r.0 ∷ rs.0, rs.1)
 
 -- the rows of what was read, where something was, and of what follows

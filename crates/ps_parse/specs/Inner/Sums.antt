@@ -22,48 +22,48 @@ unfoldable pub factor_at : ReadWords ℤ
 factor_at at = next_word kind.Number at >>= λ w. Ok (number_value w.0.text, w.1)
 
 -- A number, and the name that follows it and `*`.
-unfoldable pub number_product_at : Option Names → ReadWords (ℤ × Option Var)
-number_product_at scope at = do
+unfoldable pub number_product_at : Names → ReadWords (ℤ × Option Var)
+number_product_at names at = do
   n ← next_word kind.Number at
   if next_is kind.Star n.1
-      then (after_word kind.Star (variable_at scope) n.1 >>= λ x. Ok ((number_value n.0.text, Some x.0), x.1))
+      then (after_word kind.Star (variable_at names) n.1 >>= λ x. Ok ((number_value n.0.text, Some x.0), x.1))
       else Ok ((number_value n.0.text, None), n.1)
 
 -- A name, and the number that follows it and `*`.
-unfoldable pub name_product_at : Option Names → ReadWords (ℤ × Option Var)
-name_product_at scope at = do
-  x ← variable_at scope at
+unfoldable pub name_product_at : Names → ReadWords (ℤ × Option Var)
+name_product_at names at = do
+  x ← variable_at names at
   if next_is kind.Star x.1
       then (after_word kind.Star factor_at x.1 >>= λ n. Ok ((n.0, Some x.0), n.1))
       else Ok ((pos 1, Some x.0), x.1)
 
 -- A product.
-unfoldable pub product_at : Option Names → ReadWords (ℤ × Option Var)
-product_at scope at = if next_is kind.Number at then number_product_at scope at else name_product_at scope at
+unfoldable pub product_at : Names → ReadWords (ℤ × Option Var)
+product_at names at = if next_is kind.Number at then number_product_at names at else name_product_at names at
 
 -- The first product of a sum, which may have a `-` before it.
-unfoldable pub first_product_at : Option Names → ReadWords (ℤ × Option Var)
-first_product_at scope at =
+unfoldable pub first_product_at : Names → ReadWords (ℤ × Option Var)
+first_product_at names at =
     if next_is kind.Minus at
-    then (after_word kind.Minus (product_at scope) at >>= λ p. Ok (signed true p.0, p.1))
-    else product_at scope at
+    then (after_word kind.Minus (product_at names) at >>= λ p. Ok (signed true p.0, p.1))
+    else product_at names at
 
 -- A further product with its `+` or `-`.
-unfoldable pub further_product_at : Option Names → ReadWords (ℤ × Option Var)
-further_product_at scope at =
+unfoldable pub further_product_at : Names → ReadWords (ℤ × Option Var)
+further_product_at names at =
     if next_is kind.Plus at
-    then after_word kind.Plus (product_at scope) at
-    else (after_word kind.Minus (product_at scope) at >>= λ p. Ok (signed true p.0, p.1))
+    then after_word kind.Plus (product_at names) at
+    else (after_word kind.Minus (product_at names) at >>= λ p. Ok (signed true p.0, p.1))
 
 -- a sum goes on
 abbrev pub adds : WordsAhead → Bool
 adds at = next_is kind.Plus at || next_is kind.Minus at
 
 -- A sum of at most so many further products.
-unfoldable pub sum_at : Option Names → ℕ → ReadWords Sum
-sum_at scope n at = do
-  p ← first_product_at scope at
-  ps ← words_while adds (further_product_at scope) n p.1
+unfoldable pub sum_at : Names → ℕ → ReadWords Sum
+sum_at names n at = do
+  p ← first_product_at names at
+  ps ← words_while adds (further_product_at names) n p.1
   Ok (record { terms = p.0 ∷ ps.0 }, ps.1)
 
 -- the sign that a kind of word stands for
@@ -90,9 +90,9 @@ unfoldable pub sign_ahead : (TokenKind → Option Sign) → ReadWords Sign
 sign_ahead of at = sign_from of at.words at.end
 
 -- A relation.
-unfoldable pub relation_at : (TokenKind → Option Sign) → Option Names → ℕ → ReadWords Relation
-relation_at of scope n at = do
-  left ← sum_at scope n at
+unfoldable pub relation_at : (TokenKind → Option Sign) → Names → ℕ → ReadWords Relation
+relation_at of names n at = do
+  left ← sum_at names n at
   s ← sign_ahead of left.1
-  right ← sum_at scope n s.1
+  right ← sum_at names n s.1
   Ok (record { left = left.0; sign = s.0; right = right.0 }, right.1)
