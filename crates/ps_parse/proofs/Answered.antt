@@ -1,29 +1,31 @@
 -- The answer that is decided is the one that words have.
-use Rattle.std.proofs.Common.{◌≡◌, ◌⊎◌, inl, inr, ◌+◌, ◌<◌, ◌≤◌, Bool, true, false, not, ◌&&◌, ◌||◌, List, [], ◌∷◌, ◌++◌, length, Option, Some, None, Result, Ok, Err, refl, sym, ap, subst, ◌∙◌, arith, append_assoc, length-append, eq-eqb}
-use Rattle.std.specs.Prelude.{◌==◌, nat_lt, if◌then◌else◌}
+use Rattle.std.proofs.Common.{◌≡◌, ◌⊎◌, inl, inr, ℕ, ◌+◌, ◌<◌, ◌≤◌, Bool, true, false, not, ◌&&◌, ◌||◌, List, [], ◌∷◌, ◌++◌, length, take, Option, Some, None, Result, Ok, Err, refl, sym, ap, subst, ◌∙◌, arith, append_assoc, length-append, eq-eqb}
+use Rattle.std.specs.Prelude.{◌==◌, IfSome, nat_lt, if◌then◌else◌}
 use Rattle.std.proofs.lemmas.Bool.{and_cases, and_parts, eqb-true, ltb-false, ltb-true, or_parts, true≢false}
+use Rattle.std.proofs.lemmas.List.{append-nil, length-map, length-take-le, take_all, take_at}
 use Rattle.ps_token.specs.declared.place.Place.{Place}
+use Rattle.ps_token.specs.declared.token.Token.{Token}
 use Rattle.ps_tree.specs.declared.program.Program.{Program}
-use Rattle.ps_grammar.specs.Words.{Word}
-use Rattle.ps_parse.specs.Causes.{AreRefused, HasNoCause, IsCause, IsClean, IsFirstCause, rank, words_at}
+use Rattle.ps_grammar.specs.Programs.{IsProgramText}
+use Rattle.ps_grammar.specs.Words.{Word, word_of, words_of}
+use Rattle.ps_parse.specs.Causes.{AreRefused, HasNoCause, IsCause, IsClean, rank, words_at}
 use Rattle.ps_parse.specs.Examples.{turned}
-use Rattle.ps_parse.specs.Inner.Decided.{AreAnswered, decided, first_refusal, goes_first, is_before, is_second}
-use Rattle.ps_parse.specs.Inner.Items.{program_in}
+use Rattle.ps_parse.specs.Inner.Decided.{AreAnswered, decided, first_refusal, goes_first, is_before, is_second, parsed}
+use Rattle.ps_parse.specs.Inner.Items.{program_at, program_in}
 use Rattle.ps_parse.specs.Inner.Passed.{Finds, IsSpot}
 use Rattle.ps_parse.specs.Kinds.{place_of_next}
 use Rattle.ps_parse.specs.Parts.{HasOwnCause, is_second_name}
 use Rattle.ps_parse.specs.Promises.{ReadsWhole}
+use Rattle.ps_parse.specs.Texts.{end_of}
 use Rattle.ps_parse.specs.Reads.{BeginAlike, IsFirstGrammarFault, IsText, PassesGrammar}
 use Rattle.ps_parse.specs.declared.read_refusal.ReadRefusal.{ReadRefusal}
 use Rattle.ps_parse.specs.declared.read_refusal.ReadRefusal.TheVariants as refusal
 use Rattle.ps_parse.specs.declared.spot.Spot.{Spot}
-use Rattle.ps_parse.proofs.Guards.{alike_itself}
-use Rattle.ps_parse.proofs.InParts.{cause_refuses, fault_refuses}
-use Rattle.ps_parse.proofs.OneAnswer.{program_is_text}
-use Rattle.ps_parse.proofs.OneRefusal.{one_cause, refused_words, second_caused}
-use Rattle.ps_parse.proofs.ProgramCauses.{program_of_first}
-use Rattle.ps_parse.proofs.ProgramGuards.{program_of_found, program_of_grammar}
-use Rattle.ps_parse.proofs.Spots.{Ascend, Equal, IsBefore, Longer, before_then, clean_before, clean_front, clean_in, compare, length_passed, longer_before, not_before_itself, passed, passed_front, passed_turned, same_front}
+use Rattle.ps_parse.proofs.InParts.{cause_refuses, fault_of_front, fault_refuses}
+use Rattle.ps_parse.proofs.OneRefusal.{second_caused}
+use Rattle.ps_parse.proofs.ProgramGuards.{IsReadText, program_of_fault, program_of_grammar, program_of_read}
+use Rattle.ps_parse.proofs.ProgramsClean.{program_of_text}
+use Rattle.ps_parse.proofs.Spots.{Ascend, Equal, IsBefore, Longer, before_then, clean_before, clean_front, clean_in, compare, length_at, length_passed, longer_before, not_before_itself, passed, passed_front, passed_turned, place_before_end, same_front}
 
 -- ---- places
 
@@ -117,6 +119,19 @@ cause_before words end p e f c h =
 some_place : (p q : Place) → Some p ≡ Some q → p ≡ q
 some_place p q e = cc
 
+goes_is : (p : Place) (spot : Spot) (a b t : Bool) → is_before p spot.place ≡ a → is_before spot.place p ≡ b → is_second spot.refusal ≡ t → goes_first p spot ≡ (a || (not b && not t))
+goes_is p spot a b t e g h =
+    ap (λ (x : Bool). x || (not (is_before spot.place p) && not (is_second spot.refusal))) e
+    ∙ ap (λ (x : Bool). a || (not x && not (is_second spot.refusal))) g
+    ∙ ap (λ (x : Bool). a || (not b && not x)) h
+
+chosen : (words : List Word) (end p : Place) (spot : Spot) (t : Bool) → goes_first p spot ≡ t → AreRefused words end (if t then refusal.Grammar p else spot.refusal) → AreRefused words end (first_refusal p spot)
+chosen words end p spot t e h = subst (λ (b : Bool). AreRefused words end (if b then refusal.Grammar p else spot.refusal)) (sym e) h
+
+-- the fault stands after the cause
+cause_first : (words : List Word) (end p : Place) (spot : Spot) → IsBefore spot.place p → AreRefused words end spot.refusal → AreRefused words end (first_refusal p spot)
+cause_first words end p spot h a = chosen words end p spot false (goes_is p spot false true _ (after_said p spot.place h) (before_said spot.place p h) refl) a
+
 -- Of the fault and the cause, the one that goes first refuses the words.
 first_refuses : (words : List Word) (end p : Place) (spot : Spot) → Ascend words end → IsFirstGrammarFault words end p → IsSpot words end spot → AreRefused words end (first_refusal p spot)
 first_refuses words end p spot up f s = by_order (compare f.before (passed c.first.back) f.rest c.first.ahead front)
@@ -130,15 +145,6 @@ first_refuses words end p spot up f s = by_order (compare f.before (passed c.fir
     there : spot.place ≡ place_of_next c.first.ahead end
     there = some_place _ _ (sym s.place_is ∙ c.first.place_is)
 
-    goes_is : (a b t : Bool) → is_before p spot.place ≡ a → is_before spot.place p ≡ b → is_second spot.refusal ≡ t → goes_first p spot ≡ (a || (not b && not t))
-    goes_is a b t e g h =
-        ap (λ (x : Bool). x || (not (is_before spot.place p) && not (is_second spot.refusal))) e
-        ∙ ap (λ (x : Bool). a || (not x && not (is_second spot.refusal))) g
-        ∙ ap (λ (x : Bool). a || (not b && not x)) h
-
-    chosen : (t : Bool) → goes_first p spot ≡ t → AreRefused words end (if t then refusal.Grammar p else spot.refusal) → AreRefused words end (first_refusal p spot)
-    chosen t e h = subst (λ (b : Bool). AreRefused words end (if b then refusal.Grammar p else spot.refusal)) (sym e) h
-
     before : Longer f.before (passed c.first.back) f.rest c.first.ahead → IsBefore p spot.place
     before h = subst (λ (q : Place). IsBefore p q) (sym there) (subst (λ (q : Place). IsBefore q (place_of_next c.first.ahead end)) (sym f.place_is) (longer_before words end f.before (passed c.first.back) f.rest c.first.ahead up f.split h))
 
@@ -148,7 +154,7 @@ first_refuses words end p spot up f s = by_order (compare f.before (passed c.fir
         (subst (λ (q : Place). IsBefore q (place_of_next f.rest end)) (sym there) (longer_before words end (passed c.first.back) f.before c.first.ahead f.rest up (c.first.split ∙ passed_front c.first.back c.first.ahead) h))
 
     at_one : f.rest ≡ c.first.ahead → (t : Bool) → is_second spot.refusal ≡ t → AreRefused words end (first_refusal p spot)
-    at_one left t h = by_second t h (goes_is false false t (at_place p spot.place same) (at_place spot.place p (sym same)) h)
+    at_one left t h = by_second t h (goes_is p spot false false t (at_place p spot.place same) (at_place spot.place p (sym same)) h)
       where
         here : f.before ≡ passed c.first.back
         here = same_front f.before (passed c.first.back) f.rest c.first.ahead front left
@@ -157,13 +163,13 @@ first_refuses words end p spot up f s = by_order (compare f.before (passed c.fir
         same = f.place_is ∙ ap (λ (ws : List Word). place_of_next ws end) left ∙ sym there
 
         by_second : (b : Bool) → is_second spot.refusal ≡ b → goes_first p spot ≡ (false || (not false && not b)) → AreRefused words end (first_refusal p spot)
-        by_second true k e = chosen false e (cause_at words end p spot.refusal f c here k)
-        by_second false k e = chosen true e (fault_at words end p spot.refusal f c here left k)
+        by_second true k e = chosen words end p spot false e (cause_at words end p spot.refusal f c here k)
+        by_second false k e = chosen words end p spot true e (fault_at words end p spot.refusal f c here left k)
 
     by_order : Equal f.before (passed c.first.back) f.rest c.first.ahead ⊎ (Longer f.before (passed c.first.back) f.rest c.first.ahead ⊎ Longer (passed c.first.back) f.before c.first.ahead f.rest) → AreRefused words end (first_refusal p spot)
     by_order (inl h) = at_one h.left (is_second spot.refusal) refl
-    by_order (inr (inl h)) = chosen true (goes_is true _ _ (before_said p spot.place (before h)) refl refl) (fault_before words end p spot.refusal f c h)
-    by_order (inr (inr h)) = chosen false (goes_is false true _ (after_said p spot.place (after h)) (before_said spot.place p (after h)) refl) (cause_before words end p spot.refusal f c h)
+    by_order (inr (inl h)) = chosen words end p spot true (goes_is p spot true _ _ (before_said p spot.place (before h)) refl refl) (fault_before words end p spot.refusal f c h)
+    by_order (inr (inr h)) = cause_first words end p spot (after h) (cause_before words end p spot.refusal f c h)
 
 -- ---- answers
 
@@ -179,19 +185,116 @@ fault_alone words end p none f =
     let split : words ≡ words_at back f.rest = f.split ∙ ap (λ (ws : List Word). ws ++ f.rest) here ∙ sym (passed_front back f.rest) in
     fault_refuses words end p f back here (clean_in words none back f.rest split) (no_second back f.rest p (none back f.rest split (refusal.NotLinear p)))
 
--- a text of the grammar is refused by its first cause
-text_refused : (words : List Word) (end : Place) (e : ReadRefusal) → HasOwnCause words end e → IsText words → AreRefused words end e
-text_refused words end e c text = cause_refuses words end e c c.first.ahead (subst IsText c.first.split text) (λ g. alike_itself c.first.ahead)
+-- ---- what was parsed
+
+abbrev IsGrammar : ReadRefusal → Type 0
+IsGrammar (refusal.Grammar p) = Unit {0}
+IsGrammar e = ⊥
+
+-- where no word has a cause, all words are parsed
+all_answered : (words : List Word) (end : Place) (read : Result Program ReadRefusal) → HasNoCause words → ReadsWhole (λ (p : Program). p) read (program_in words end) → AreAnswered words end read
+all_answered words end (Ok p) none h =
+    let m : IsReadText words p = program_of_read words end p h in
+    subst (IsProgramText words) (sym m.tree) (program_of_text words (record { text = m.text; spelled = m.spelled; signs = m.signs }) none).1
+all_answered words end (Err (refusal.Memory e)) none h = tt
+all_answered words end (Err (refusal.Grammar p)) none h = fault_alone words end p none (program_of_grammar words end p h)
+all_answered words end (Err e) none h = absurd (subst IsGrammar (sym (program_of_fault words end e h).is) tt)
+
+-- else those up to the one with the first cause, and that one
+record Front (words : List Word) (end : Place) (spot : Spot) (s : IsSpot words end spot) : Type 0 where
+  pub word : Word
+  pub after : List Word
+  pub ahead : s.cause.first.ahead ≡ word ∷ after
+
+front_of : (words : List Word) (end : Place) (spot : Spot) (s : IsSpot words end spot) → Front words end spot s
+front_of words end spot s = by_ahead s.cause.first.ahead refl
+  where
+    by_ahead : (ahead : List Word) → s.cause.first.ahead ≡ ahead → Front words end spot s
+    by_ahead [] e = absurd (subst (λ (ws : List Word). IsCause s.cause.first.back ws spot.refusal) e s.cause.own)
+    by_ahead (w ∷ rest) e = record { word = w; after = rest; ahead = e }
+
+-- no more are parsed than there are
+pub parsed_within : (words : List Word) (end : Place) (spot : Spot) → IsSpot words end spot → spot.before + 1 ≤ length words
+parsed_within words end spot s =
+    let f : Front words end spot s = front_of words end spot s in
+    let whole : length words ≡ length s.cause.first.back + length s.cause.first.ahead = ap (λ (ws : List Word). length ws) s.cause.first.split ∙ length_at s.cause.first.back s.cause.first.ahead in
+    let some : length s.cause.first.ahead ≡ length (f.word ∷ f.after) = ap (λ (ws : List Word). length ws) f.ahead in
+    omega (arith, s.before_is, whole, some)
+
+front_answered : (words : List Word) (end : Place) (spot : Spot) (s : IsSpot words end spot) → Front words end spot s → (read : Result Program ReadRefusal) → Ascend words end → ReadsWhole (λ (p : Program). p) read (program_in (take (spot.before + 1) words) end) → AreAnswered words end (decided (Some spot) read)
+front_answered words end spot s f read up h = by_answer read (subst (λ (ws : List Word). ReadsWhole (λ (p : Program). p) read (program_in ws end)) taken h)
+  where
+    back : List Word
+    back = s.cause.first.back
+
+    front : List Word
+    front = passed back ++ f.word ∷ []
+
+    split : words ≡ passed back ++ f.word ∷ f.after
+    split = s.cause.first.split ∙ passed_front back s.cause.first.ahead ∙ ap (λ (ws : List Word). passed back ++ ws) f.ahead
+
+    whole : words ≡ front ++ f.after
+    whole = split ∙ sym (append_assoc (passed back) (f.word ∷ []) f.after)
+
+    taken : take (spot.before + 1) words ≡ front
+    taken = ap (λ (ws : List Word). take (spot.before + 1) ws) whole ∙ take_at front f.after (spot.before + 1) (length-append (passed back) (f.word ∷ []) ∙ ap (λ (n : ℕ). n + 1) (length_passed back ∙ sym s.before_is))
+
+    -- the front goes on as a text
+    caused : (others : List Word) → IsText (front ++ others) → AreRefused words end spot.refusal
+    caused others text =
+        cause_refuses words end spot.refusal s.cause (f.word ∷ others) (subst IsText (append_assoc (passed back) (f.word ∷ []) others ∙ sym (passed_front back (f.word ∷ others))) text)
+        (λ g. subst (λ (ws : List Word). BeginAlike ws (f.word ∷ others)) (sym f.ahead) refl)
+
+    before_end : IsBefore spot.place end
+    before_end =
+        let there : spot.place ≡ f.word.place = some_place _ _ (sym s.place_is ∙ s.cause.first.place_is) ∙ ap (λ (ws : List Word). place_of_next ws end) f.ahead in
+        subst (λ (p : Place). IsBefore p end) (sym there) (place_before_end words end (passed back) f.word f.after up split)
+
+    by_rest : (p : Place) (g : IsFirstGrammarFault front end p) (rest : List Word) → g.rest ≡ rest → AreRefused words end (first_refusal p spot)
+    by_rest p g [] e =
+        let here : g.before ≡ front = sym (g.split ∙ ap (λ (ws : List Word). g.before ++ ws) e ∙ append-nil g.before) in
+        let last : p ≡ end = g.place_is ∙ ap (λ (ws : List Word). place_of_next ws end) e in
+        cause_first words end p spot (subst (λ (q : Place). IsBefore spot.place q) (sym last) before_end) (caused g.others (subst (λ (ws : List Word). IsText (ws ++ g.others)) here g.goes_on))
+    by_rest p g (v ∷ vs) e =
+        first_refuses words end p spot up (subst (λ (ws : List Word). IsFirstGrammarFault ws end p) (sym whole) (fault_of_front front f.after end end p v vs g e)) s
+
+    by_answer : (read : Result Program ReadRefusal) → ReadsWhole (λ (p : Program). p) read (program_in front end) → AreAnswered words end (decided (Some spot) read)
+    by_answer (Ok p) h =
+        let m : IsReadText front p = program_of_read front end p h in
+        answered_refusal words end spot.refusal (caused [] (subst IsText (sym (append-nil front)) (record { text = m.text; spelled = m.spelled; signs = m.signs })))
+    by_answer (Err (refusal.Memory e)) h = tt
+    by_answer (Err (refusal.Grammar p)) h = let g : IsFirstGrammarFault front end p = program_of_grammar front end p h in answered_refusal words end (first_refusal p spot) (by_rest p g g.rest refl)
+    by_answer (Err e) h = absurd (subst IsGrammar (sym (program_of_fault front end e h).is) tt)
 
 -- What is decided is the answer of the words.
-pub decides : (words : List Word) (end : Place) (spot : Option Spot) (read : Result Program ReadRefusal) → Ascend words end → Finds words end spot → ReadsWhole (λ (p : Program). p) read (program_in words end) → AreAnswered words end (decided spot read)
-decides words end None (Ok p) up none h = program_of_found words end p h
-decides words end None (Err (refusal.Memory e)) up none h = tt
-decides words end None (Err (refusal.Grammar p)) up none h = fault_alone words end p none (program_of_grammar words end p h)
-decides words end None (Err e) up none h = refused_words words end e (λ g. g) h
-decides words end (Some spot) (Ok p) up s h = answered_refusal words end spot.refusal (text_refused words end spot.refusal s.cause (program_is_text words p (program_of_found words end p h)))
-decides words end (Some spot) (Err (refusal.Memory e)) up s h = tt
-decides words end (Some spot) (Err (refusal.Grammar p)) up s h = answered_refusal words end (first_refusal p spot) (first_refuses words end p spot up (program_of_grammar words end p h) s)
-decides words end (Some spot) (Err e) up s h =
-    let first : IsFirstCause words end e = program_of_first words end e (λ g. g) h in
-    answered_refusal words end spot.refusal (subst (AreRefused words end) (one_cause words end e spot.refusal first s.cause.first first.cause s.cause.own) (refused_words words end e (λ g. g) h))
+pub decides : (words : List Word) (end : Place) (spot : Option Spot) (read : Result Program ReadRefusal) → Ascend words end → Finds words end spot → ReadsWhole (λ (p : Program). p) read (program_in (take (parsed spot (length words)) words) end) → AreAnswered words end (decided spot read)
+decides words end None read up none h = all_answered words end read none (subst (λ (ws : List Word). ReadsWhole (λ (p : Program). p) read (program_in ws end)) (take_all (length words) words (omega arith)) h)
+decides words end (Some spot) read up s h = front_answered words end spot s (front_of words end spot s) read up h
+
+-- ---- the words of a text
+
+-- a word for each token
+pub words_count : (bytes : List ℕ) (ts : List Token) → length (words_of bytes ts) ≡ length ts
+words_count bytes ts = length-map ts (word_of bytes)
+
+spot_within : (words : List Word) (end : Place) (spot : Option Spot) → Finds words end spot → IfSome spot (λ s. s.before + 1 ≤ length words)
+spot_within words end None h = tt
+spot_within words end (Some spot) h = parsed_within words end spot h
+
+few_of : (spot : Option Spot) (all : ℕ) → IfSome spot (λ s. s.before + 1 ≤ all) → parsed spot all ≤ all
+few_of None all h = omega arith
+few_of (Some spot) all h = h
+
+pub parsed_if : (bytes : List ℕ) (ts : List Token) (spot : Option Spot) → Finds (words_of bytes ts) (end_of bytes) spot → IfSome spot (λ s. s.before + 1 ≤ length ts)
+parsed_if bytes ts spot h = subst (λ (n : ℕ). IfSome spot (λ s. s.before + 1 ≤ n)) (words_count bytes ts) (spot_within (words_of bytes ts) (end_of bytes) spot h)
+
+pub parsed_few : (bytes : List ℕ) (ts : List Token) (spot : Option Spot) → Finds (words_of bytes ts) (end_of bytes) spot → parsed spot (length ts) ≤ length ts
+parsed_few bytes ts spot h = few_of spot (length ts) (parsed_if bytes ts spot h)
+
+-- the words that are parsed are as many as are told
+pub front_length : (bytes : List ℕ) (ts : List Token) (spot : Option Spot) → Finds (words_of bytes ts) (end_of bytes) spot
+    → program_at (parsed spot (length (words_of bytes ts))) (record { words = take (parsed spot (length (words_of bytes ts))) (words_of bytes ts); end = end_of bytes }) ≡ program_in (take (parsed spot (length (words_of bytes ts))) (words_of bytes ts)) (end_of bytes)
+front_length bytes ts spot h =
+    let words : List Word = words_of bytes ts in
+    let few : parsed spot (length words) ≤ length words = few_of spot (length words) (spot_within words (end_of bytes) spot h) in
+    ap (λ (n : ℕ). program_at n (record { words = take (parsed spot (length words)) words; end = end_of bytes })) (sym (length-take-le (parsed spot (length words)) words few))

@@ -1,11 +1,10 @@
 -- The worked examples that take more than computing.
-use Rattle.std.proofs.Common.{◌≡◌, ◌≢◌, ℕ, ◌≤◌, true, false, List, [], ◌∷◌, length, Some, None, Err, inl, inr, refl, sym, subst, arith}
+use Rattle.std.proofs.Common.{◌≡◌, ◌≢◌, ℕ, ◌≤◌, true, false, List, [], ◌∷◌, length, Some, None, Err, inl, inr, refl, subst, arith}
 use Rattle.std.proofs.lemmas.List.Elements.{All-cons, All-nil}
 use Rattle.ps_grammar.specs.Grammar.{ProductText, RelationText, block_end, block_more, either, global, havoc, if_then, name, number_name, skip}
 use Rattle.ps_grammar.specs.Words.{Word}
 use Rattle.ps_parse.specs.Inner.Blocks.{block_at, kind_at, skip_at, stmt_at}
 use Rattle.ps_parse.specs.Causes.{GivesRows}
-use Rattle.ps_parse.specs.Reads.{IsFirstGrammarFault}
 use Rattle.ps_parse.specs.Examples.{CausesStand, FaultStandsAtBrace, ItemsGiveNoMore, ItemsGiveRows, TextIsRead, mark, mark_at, quadratic, unequal, unfinished, valueless, x, y, zero}
 use Rattle.ps_parse.specs.Inner.Items.{item_rows, items_at, signed_number_ahead, program_at, program_in, rows_from, declared_value_ahead}
 use Rattle.ps_parse.specs.Inner.Reading.{WordsAhead, after_word, words_while, next_word}
@@ -14,11 +13,10 @@ use Rattle.ps_parse.specs.Inner.Sums.{factor_at, first_product_at, further_produ
 use Rattle.ps_parse.specs.Inner.Variables.{variable_at}
 use Rattle.ps_parse.specs.declared.read_refusal.ReadRefusal.TheVariants.{Grammar}
 use Rattle.ps_term.specs.declared.var.Var.TheVariants.{Global}
-use Rattle.ps_token.specs.declared.place.Place.{Place}
 use Rattle.ps_token.specs.declared.token_kind.TokenKind.TheVariants as kind
 use Rattle.ps_tree.specs.declared.relation.Sign.{Sign}
 use Rattle.ps_tree.specs.declared.relation.Sign.TheVariants as sign
-use Rattle.ps_parse.proofs.ProgramGuards.{program_of_fault}
+use Rattle.ps_parse.proofs.ProgramGuards.{program_of_grammar}
 use Rattle.ps_parse.proofs.RowLaws.{rows_counted}
 
 known : Some (Global 0) ≢ None
@@ -42,14 +40,8 @@ is_refused : program_in cut_words (record { line = 1; column = 5 }) ≡ Err (Gra
 unfolding program_at items_at block_at stmt_at kind_at skip_at after_word next_word words_while and_then
 is_refused = refl
 
-same_place : (p q : Place) → Grammar p ≡ Grammar q → p ≡ q
-same_place p q e = cc
-
 pub fault_stands : FaultStandsAtBrace
-fault_stands =
-    let end : Place = record { line = 1; column = 5 } in
-    let f = program_of_fault cut_words end _ is_refused in
-    subst (IsFirstGrammarFault cut_words end) (sym (same_place _ _ f.is)) f.fault
+fault_stands = program_of_grammar cut_words (record { line = 1; column = 5 }) (record { line = 1; column = 4 }) is_refused
 
 -- ---- the rows of an item
 

@@ -236,8 +236,8 @@ program_of_read words end p e =
     record { text = text_of m.text; spelled = m.spelled; signs = All-from_recursion HasInitSigns m.text.0 m.okay.0; tree = m.is }
 
 -- A text of the grammar is read as its tree.
-pub program_of_text : (words : List Word) (end : Place) (t : ProgramText) → All HasInitSigns t.items → pieces words ≡ program_pieces t → program_in words end ≡ Ok (program_tree t (places words))
-program_of_text words end t signs e = by_answer (program_in words end) (words_stuck words end)
+pub program_of_spelled : (words : List Word) (end : Place) (t : ProgramText) → All HasInitSigns t.items → pieces words ≡ program_pieces t → program_in words end ≡ Ok (program_tree t (places words))
+program_of_spelled words end t signs e = by_answer (program_in words end) (words_stuck words end)
   where
     by_answer : (r : Result Program ReadRefusal) → Keeps r (IsRead (all_of words end)) (Fault (all_of words end)) → r ≡ Ok (program_tree t (places words))
     by_answer (Ok q) k =
@@ -245,19 +245,6 @@ program_of_text words end t signs e = by_answer (program_in words end) (words_st
         let one : (t.items, t.body) ≡ m.text = m.only (t.items, t.body) (okay_signs t signs) e in
         ap (λ (o : Program). Ok o) (m.is ∙ ap (λ (c : Parts). program_tree (text_of c) (places words)) (sym one))
     by_answer (Err f) k = absurd (stood_never k.is (t.items, t.body) [] (okay_signs t signs) refl (e ∙ sym (append-nil (program_pieces t))))
-
--- Words spell one text of the grammar at most.
-pub one_text : (words : List Word) (s t : ProgramText) → All HasInitSigns s.items → All HasInitSigns t.items → pieces words ≡ program_pieces s → pieces words ≡ program_pieces t → s ≡ t
-one_text words s t a b e f = by_answer (program_in words first) (words_stuck words first)
-  where
-    first : Place
-    first = record { line = 0; column = 0 }
-
-    by_answer : (r : Result Program ReadRefusal) → Keeps r (IsRead (all_of words first)) (Fault (all_of words first)) → s ≡ t
-    by_answer (Ok q) k =
-        let m : IsRead (all_of words first) q = k.is in
-        ap text_of (m.only (s.items, s.body) (okay_signs s a) e ∙ sym (m.only (t.items, t.body) (okay_signs t b) f))
-    by_answer (Err r) k = absurd (stood_never k.is (s.items, s.body) [] (okay_signs s a) refl (e ∙ sym (append-nil (program_pieces s))))
 
 item_signs : (d : Declared) (i : ItemText) → ItemFits d i → HasInitSigns i
 item_signs d (global x v) h = tt
@@ -271,7 +258,7 @@ items_signs d (i ∷ is) h = (item_signs d i h.0, items_signs (with_item d i) is
 -- What is a program is read as that one.
 pub program_of_again : (words : List Word) (end : Place) (p : Program) → IsProgramText words p → program_in words end ≡ Ok p
 program_of_again words end p is =
-    program_of_text words end is.text (All-from_recursion HasInitSigns is.text.items (items_signs nothing_declared is.text.items is.fits.items)) is.spelled ∙ ap (λ (o : Program). Ok o) (sym is.tree)
+    program_of_spelled words end is.text (All-from_recursion HasInitSigns is.text.items (items_signs nothing_declared is.text.items is.fits.items)) is.spelled ∙ ap (λ (o : Program). Ok o) (sym is.tree)
 
 -- ---- refusals
 
@@ -300,3 +287,11 @@ program_of_fault words end e h =
             (sym (pieces_both f.front others) ∙ t.spelled ∙ sym (append-nil (program_pieces t.text)));
       };
     }
+
+grammar_place : (p q : Place) → Grammar p ≡ Grammar q → p ≡ q
+grammar_place p q e = cc
+
+pub program_of_grammar : (words : List Word) (end place : Place) → program_in words end ≡ Err (Grammar place) → IsFirstGrammarFault words end place
+program_of_grammar words end place h =
+    let f : IsReadFault words end (Grammar place) = program_of_fault words end (Grammar place) h in
+    subst (IsFirstGrammarFault words end) (sym (grammar_place place f.place f.is)) f.fault

@@ -121,6 +121,11 @@ spot_before : (w : Word) (tail rest : List Word) (end : Place) → Ascend (w ∷
 spot_before w [] rest end h = h.0
 spot_before w (v ∷ tail) rest end h = before_then w.place v.place _ h.0 (spot_before v tail rest end h.1)
 
+-- each word stands before the end
+pub place_before_end : (words : List Word) (end : Place) (front : List Word) (w : Word) (rest : List Word) → Ascend words end → words ≡ front ++ w ∷ rest → IsBefore w.place end
+place_before_end words end front w rest up split =
+    spot_before w rest [] end (subst (λ (ws : List Word). Ascend (w ∷ ws) end) (sym (append-nil rest)) (ascend_after front (w ∷ rest) end (subst (λ (ws : List Word). Ascend ws end) split up)))
+
 -- what follows the shorter of two fronts stands before what follows the longer one
 pub longer_before : (words : List Word) (end : Place) (a b r s : List Word) → Ascend words end → words ≡ a ++ r → Longer a b r s → IsBefore (place_of_next r end) (place_of_next s end)
 longer_before words end a b r s up split h =

@@ -1,5 +1,5 @@
 -- The tokens of a text as its words.
-use Rattle.std.proofs.Common.{◌≡◌, ℕ, ◌+◌, ◌≤◌, List, [], ◌∷◌, suc, length, subst, arith, true}
+use Rattle.std.proofs.Common.{◌≡◌, ℕ, ◌+◌, ◌≤◌, List, [], ◌∷◌, zero, suc, length, take, subst, arith, true}
 use Rattle.std.specs.Prelude.{All}
 use Rattle.ps_token.specs.declared.token.Token.{Token}
 use Rattle.ps_token.specs.declared.token_kind.TokenKind.{TokenKind}
@@ -39,3 +39,8 @@ tokens_within bytes ts cut inside = within_from bytes 0 ts cut.to cut.cut inside
 
 pub tokens_few : (bytes : List ℕ) (ts : List Token) → AreTokens bytes ts → All (IsInside (length bytes)) ts → length ts ≤ length bytes
 tokens_few bytes ts cut inside = omega (arith, cut.rest.ordered, count_from bytes 0 ts cut.to cut.cut inside)
+
+pub within_front : (bytes : List ℕ) (n : ℕ) (ts : List Token) → AreWithin bytes ts → AreWithin bytes (take n ts)
+within_front bytes zero ts h = tt
+within_front bytes (suc n) [] h = tt
+within_front bytes (suc n) (t ∷ ts) h = (h.0, within_front bytes n ts h.1)

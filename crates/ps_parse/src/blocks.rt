@@ -79,11 +79,7 @@ impl<'a> Parser<'a> {
     // `else` and its block, or nothing.
     #[cycle(block)]
     #[tactic(auto, unfolding(crate::specs::Inner::Blocks::else_at, crate::specs::Inner::Reading::after_word, ps_lines::specs::Steps::and_then))]
-    fn otherwise<'b>(
-        &self,
-        most: u32,
-        cursor: &mut Cursor<'b>,
-    ) -> Result<Items<Stmt>, ReadRefusal>
+    fn otherwise<'b>(&self, most: u32, cursor: &mut Cursor<'b>) -> Result<Items<Stmt>, ReadRefusal>
         ensures { ReadsTo (λ x. x) result cursor.new
             (else_at (block_at (names_of self.now.declared.now) most) cursor.old) }
     {
@@ -96,11 +92,7 @@ impl<'a> Parser<'a> {
 
     #[cycle(block)]
     #[tactic(auto, unfolding(crate::specs::Inner::Blocks::if_at, crate::specs::Inner::Reading::after_word, ps_lines::specs::Steps::and_then))]
-    fn choice<'b>(
-        &self,
-        most: u32,
-        cursor: &mut Cursor<'b>,
-    ) -> Result<StmtKind, ReadRefusal>
+    fn choice<'b>(&self, most: u32, cursor: &mut Cursor<'b>) -> Result<StmtKind, ReadRefusal>
         ensures { ReadsTo (λ x. x) result cursor.new
             (if_at (block_at (names_of self.now.declared.now) most)
             (names_of self.now.declared.now) most cursor.old) }
@@ -114,11 +106,7 @@ impl<'a> Parser<'a> {
 
     #[cycle(block)]
     #[tactic(auto, unfolding(crate::specs::Inner::Blocks::while_stmt_at, crate::specs::Inner::Reading::after_word, ps_lines::specs::Steps::and_then))]
-    fn repetition<'b>(
-        &self,
-        most: u32,
-        cursor: &mut Cursor<'b>,
-    ) -> Result<StmtKind, ReadRefusal>
+    fn repetition<'b>(&self, most: u32, cursor: &mut Cursor<'b>) -> Result<StmtKind, ReadRefusal>
         ensures { ReadsTo (λ x. x) result cursor.new
             (while_stmt_at (block_at (names_of self.now.declared.now) most)
             (names_of self.now.declared.now) most cursor.old) }
@@ -132,11 +120,7 @@ impl<'a> Parser<'a> {
     // What a statement does, told by its first word.
     #[cycle(block)]
     #[tactic(auto, unfolding(crate::specs::Inner::Blocks::kind_at, crate::specs::Inner::Blocks::cond_stmt_at, ps_lines::specs::Steps::and_then))]
-    fn kind<'b>(
-        &self,
-        most: u32,
-        cursor: &mut Cursor<'b>,
-    ) -> Result<StmtKind, ReadRefusal>
+    fn kind<'b>(&self, most: u32, cursor: &mut Cursor<'b>) -> Result<StmtKind, ReadRefusal>
         ensures { ReadsTo (λ x. x) result cursor.new
             (kind_at (block_at (names_of self.now.declared.now) most)
             (names_of self.now.declared.now) most cursor.old) }
@@ -164,11 +148,7 @@ impl<'a> Parser<'a> {
 
     #[cycle(block)]
     #[tactic(auto, unfolding(crate::specs::Inner::Blocks::stmt_at, ps_lines::specs::Steps::and_then))]
-    fn stmt<'b>(
-        &self,
-        most: u32,
-        cursor: &mut Cursor<'b>,
-    ) -> Result<Stmt, ReadRefusal>
+    fn stmt<'b>(&self, most: u32, cursor: &mut Cursor<'b>) -> Result<Stmt, ReadRefusal>
         ensures { ReadsTo (λ x. x) result cursor.new
             (stmt_at (block_at (names_of self.now.declared.now) most)
             (names_of self.now.declared.now) most cursor.old) }
@@ -181,11 +161,7 @@ impl<'a> Parser<'a> {
     // The statements of a block, up to its end.
     #[cycle(block)]
     #[tactic(auto, using(crate::proofs::Repeated::repeats_first, crate::proofs::Repeated::repeats_more, crate::proofs::Repeated::repeats_stop, crate::proofs::Repeated::repeats_all))]
-    fn stmts<'b>(
-        &self,
-        most: u32,
-        cursor: &mut Cursor<'b>,
-    ) -> Result<Vec<Stmt>, ReadRefusal>
+    fn stmts<'b>(&self, most: u32, cursor: &mut Cursor<'b>) -> Result<Vec<Stmt>, ReadRefusal>
         ensures { ReadsTo (λ v. v.items) result cursor.new
             (words_while has_more (stmt_at
             (block_at (names_of self.now.declared.now) most)
@@ -204,11 +180,7 @@ impl<'a> Parser<'a> {
     // A block, where so many words at most are left after the next one.
     #[cycle(block)]
     #[tactic(auto, unfolding(crate::specs::Inner::Blocks::block_at, ps_lines::specs::Steps::and_then))]
-    fn next_block<'b>(
-        &self,
-        left: u32,
-        cursor: &mut Cursor<'b>,
-    ) -> Result<Items<Stmt>, ReadRefusal>
+    fn next_block<'b>(&self, left: u32, cursor: &mut Cursor<'b>) -> Result<Items<Stmt>, ReadRefusal>
         ensures { ReadsTo (λ x. x) result cursor.new
             (block_at (names_of self.now.declared.now) (suc left) cursor.old) }
     {

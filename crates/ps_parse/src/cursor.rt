@@ -1,6 +1,6 @@
 //! A place in the words of a program text, from which one word is taken after the other.
 
-ghost use Rattle.std.specs.Prelude.{◌≡◌, ℕ, Ok, IfOk, IfSome, option_map, if◌then◌else◌};
+ghost use Rattle.std.specs.Prelude.{◌≡◌, ◌≤◌, ℕ, Ok, IfOk, IfSome, length, option_map, take, if◌then◌else◌};
 ghost use Rattle.ps_token.specs.declared.token_kind.TokenKind.TheVariants.{Number};
 ghost use Rattle.ps_token.specs.Lexing.{IsNumber};
 ghost use Rattle.ps_parse.specs.Inner.Reading.{WordsAhead, place_at, next_is, next_word, words_end, IsTaken, ReadsTo};
@@ -153,6 +153,19 @@ impl<'a> Cursor<'a> {
         Cursor {
             bytes: self.bytes,
             tokens: self.tokens,
+            end: self.end,
+        }
+    }
+
+    /// The same place, with so many words ahead.
+    pub(crate) fn front(&self, count: usize) -> Cursor<'a>
+        requires { count ≤ length self.now.words }
+        ensures { result ≡ record { words = take count self.now.words; end = self.now.end } }
+    {
+        let (tokens, _) = self.tokens.split_at(count);
+        Cursor {
+            bytes: self.bytes,
+            tokens,
             end: self.end,
         }
     }

@@ -1,7 +1,7 @@
 //! Which answer the words of a text are given, of what was read and the first word with a cause of a refusal.
 
-ghost use Rattle.std.specs.Prelude.{◌≡◌};
-ghost use Rattle.ps_parse.specs.Inner.Decided.{decided, first_refusal, goes_first, is_before, is_second};
+ghost use Rattle.std.specs.Prelude.{◌≡◌, ◌≤◌, ◌+◌, IfSome};
+ghost use Rattle.ps_parse.specs.Inner.Decided.{decided, first_refusal, goes_first, is_before, is_second, parsed};
 
 use crate::read_refusal::ReadRefusal;
 use crate::spot::Spot;
@@ -57,5 +57,17 @@ pub(crate) fn decided(
         Err(ReadRefusal::Memory(e)) => Err(ReadRefusal::Memory(e)),
         Err(ReadRefusal::Grammar(fault)) => Err(first_refusal(fault, spot)),
         Err(_) => Err(spot.refusal),
+    }
+}
+
+/// How many of so many words are parsed: those up to and with the one that has the first cause. So no more levels are open in
+/// them than may be, and one.
+pub(crate) fn parsed(spot: &Option<Spot>, all: usize) -> usize
+    requires { IfSome spot.now (λ s. s.before + 1 ≤ all) }
+    ensures { result ≡ parsed spot.now all }
+{
+    match spot {
+        None => all,
+        Some(spot) => spot.before as usize + 1,
     }
 }

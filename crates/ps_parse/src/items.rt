@@ -216,7 +216,11 @@ impl<'a> Parser<'a> {
 
     // The relations of an `init` item.
     #[tactic(auto, unfolding(crate::specs::Inner::Steps::relations_at, crate::specs::Inner::Blocks::ended_at, crate::specs::Inner::Reading::after_word, ps_lines::specs::Steps::and_then))]
-    fn relations<'b>(&self, most: u32, cursor: &mut Cursor<'b>) -> Result<Vec<Relation>, ReadRefusal>
+    fn relations<'b>(
+        &self,
+        most: u32,
+        cursor: &mut Cursor<'b>,
+    ) -> Result<Vec<Relation>, ReadRefusal>
         ensures { ReadsTo (λ v. v.items) result cursor.new
             (relations_at (names_of self.now.declared.now) most cursor.old) }
     {

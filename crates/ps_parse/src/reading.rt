@@ -15,7 +15,7 @@ ghost use Rattle.ps_grammar.specs.Programs.{IsProgram};
 
 use crate::check::first_cause;
 use crate::cursor::Cursor;
-use crate::deciding::decided;
+use crate::deciding::{decided, parsed};
 use crate::items::items;
 use crate::parser::Parser;
 use crate::read_refusal::ReadRefusal;
@@ -47,9 +47,10 @@ fn program_of(alloc: Global, bytes: &[u8], list: &[Token]) -> Result<Program, Re
     requires few { length list.now < 2 ^ 32 }
     ensures { AreAnswered (words_of bytes.now list.now) (end_of bytes.now) result }
 {
-    let mut cursor = Cursor::new(bytes, list, end_place(bytes));
+    let cursor = Cursor::new(bytes, list, end_place(bytes));
     let spot = first_cause(alloc, list.len() as u32, &mut cursor.fork())?;
-    let read = program(alloc, list.len() as u32, &mut cursor);
+    let count = parsed(&spot, list.len());
+    let read = program(alloc, count as u32, &mut cursor.front(count));
     decided(spot, read)
 }
 
@@ -64,7 +65,7 @@ fn uncut(end: TokenEnd) -> ReadRefusal
 
 /// The program that the bytes are, or the first refusal: `Token` at a byte that starts no token, wherever it stands, and
 /// else the refusal whose place is first in the text. Looks at each byte and each token a few times, and at all declared
-/// names for each name; takes memory for the tokens and the program.
+/// names for each name; takes memory for the tokens and the program. No token after the first word with a cause is parsed.
 pub fn read_program(alloc: Global, bytes: &[u8]) -> Result<Program, ReadRefusal>
     requires { length bytes.now + 1 < 2 ^ 32 }
     // What is read is the tree of a text of the grammar that fits and is spelled by the words of the bytes.

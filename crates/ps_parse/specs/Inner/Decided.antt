@@ -1,5 +1,5 @@
 -- Which answer words are given, of what was read and the first word with a cause of a refusal.
-use Rattle.std.specs.Prelude.{Bool, true, false, not, ◌&&◌, ◌||◌, ◌==◌, List, nat_lt, Option, Some, None, Result, Ok, Err, if◌then◌else◌}
+use Rattle.std.specs.Prelude.{ℕ, ◌+◌, Bool, true, false, not, ◌&&◌, ◌||◌, ◌==◌, List, nat_lt, Option, Some, None, Result, Ok, Err, if◌then◌else◌}
 use Rattle.ps_token.specs.declared.place.Place.{Place}
 use Rattle.ps_tree.specs.declared.program.Program.{Program}
 use Rattle.ps_grammar.specs.Programs.{IsProgramText}
@@ -39,3 +39,8 @@ decided (Some spot) (Ok program) = Err spot.refusal
 decided (Some spot) (Err (refusal.Memory e)) = Err (refusal.Memory e)
 decided (Some spot) (Err (refusal.Grammar fault)) = Err (first_refusal fault spot)
 decided (Some spot) (Err refused) = Err spot.refusal
+
+-- how many of so many words are parsed: those up to and with the one that has the first cause
+abbrev pub parsed : Option Spot → ℕ → ℕ
+parsed None all = all
+parsed (Some spot) all = spot.before + 1
