@@ -1,9 +1,11 @@
 -- The answer that is decided is the one that words have.
 use Rattle.std.proofs.Common.{◌≡◌, ◌⊎◌, inl, inr, ℕ, ◌+◌, ◌<◌, ◌≤◌, Bool, true, false, not, ◌&&◌, ◌||◌, List, [], ◌∷◌, ◌++◌, length, take, Option, Some, None, Result, Ok, Err, refl, sym, ap, subst, ◌∙◌, arith, append_assoc, length-append, eq-eqb}
 use Rattle.std.specs.Prelude.{◌==◌, IfSome, nat_lt, if◌then◌else◌}
+use Rattle.std.specs.List.{AllByRecursion}
 use Rattle.std.proofs.lemmas.Bool.{and_cases, and_parts, eqb-true, ltb-false, ltb-true, or_parts, true≢false}
 use Rattle.std.proofs.lemmas.List.{append-nil, length-map, length-take-le, take_all, take_at}
 use Rattle.ps_token.specs.declared.place.Place.{Place}
+use Rattle.ps_token.specs.Lexing.{AreTokens, AreUpTo}
 use Rattle.ps_token.specs.declared.token.Token.{Token}
 use Rattle.ps_tree.specs.declared.program.Program.{Program}
 use Rattle.ps_grammar.specs.Programs.{IsProgramText}
@@ -12,20 +14,21 @@ use Rattle.ps_parse.specs.Causes.{AreRefused, HasNoCause, IsCause, IsClean, rank
 use Rattle.ps_parse.specs.Examples.{turned}
 use Rattle.ps_parse.specs.Inner.Decided.{AreAnswered, decided, first_refusal, goes_first, is_before, is_second, parsed}
 use Rattle.ps_parse.specs.Inner.Items.{program_at, program_in}
-use Rattle.ps_parse.specs.Inner.Passed.{Finds, IsSpot}
+use Rattle.ps_parse.specs.Inner.Passed.{Finds, IsSpelledWord, IsSpot}
 use Rattle.ps_parse.specs.Kinds.{place_of_next}
 use Rattle.ps_parse.specs.Parts.{HasOwnCause, is_second_name}
 use Rattle.ps_parse.specs.Promises.{ReadsWhole}
-use Rattle.ps_parse.specs.Texts.{end_of}
+use Rattle.ps_parse.specs.Texts.{IsAnswered, end_of}
 use Rattle.ps_parse.specs.Reads.{BeginAlike, IsFirstGrammarFault, IsText, PassesGrammar}
 use Rattle.ps_parse.specs.declared.read_refusal.ReadRefusal.{ReadRefusal}
 use Rattle.ps_parse.specs.declared.read_refusal.ReadRefusal.TheVariants as refusal
 use Rattle.ps_parse.specs.declared.spot.Spot.{Spot}
 use Rattle.ps_parse.proofs.InParts.{cause_refuses, fault_of_front, fault_refuses}
 use Rattle.ps_parse.proofs.OneRefusal.{second_caused}
-use Rattle.ps_parse.proofs.ProgramGuards.{IsReadText, program_of_fault, program_of_grammar, program_of_read}
-use Rattle.ps_parse.proofs.ProgramsClean.{program_of_text}
-use Rattle.ps_parse.proofs.Spots.{Ascend, Equal, IsBefore, Longer, before_then, clean_before, clean_front, clean_in, compare, length_at, length_passed, longer_before, not_before_itself, passed, passed_front, passed_turned, place_before_end, same_front}
+use Rattle.ps_parse.proofs.Checking.{finds}
+use Rattle.ps_parse.proofs.ProgramGuards.{IsReadFault, IsReadText, program_of_fault, program_of_read}
+use Rattle.ps_parse.proofs.ProgramsClean.{text_fits}
+use Rattle.ps_parse.proofs.Spots.{Ascend, Equal, IsBefore, Longer, before_then, clean_before, clean_front, clean_in, compare, length_at, length_passed, longer_before, not_before_itself, passed, passed_front, passed_turned, place_before_end, same_front, words_ascend}
 
 -- ---- places
 
@@ -187,18 +190,18 @@ fault_alone words end p none f =
 
 -- ---- what was parsed
 
-abbrev IsGrammar : ReadRefusal → Type 0
-IsGrammar (refusal.Grammar p) = Unit {0}
-IsGrammar e = ⊥
-
--- where no word has a cause, all words are parsed
-all_answered : (words : List Word) (end : Place) (read : Result Program ReadRefusal) → HasNoCause words → ReadsWhole (λ (p : Program). p) read (program_in words end) → AreAnswered words end read
-all_answered words end (Ok p) none h =
+-- where no word has a cause, all words are parsed: what is read is a program
+all_read : (words : List Word) (end : Place) (p : Program) → HasNoCause words → program_in words end ≡ Ok p → IsProgramText words p
+all_read words end p none h =
     let m : IsReadText words p = program_of_read words end p h in
-    subst (IsProgramText words) (sym m.tree) (program_of_text words (record { text = m.text; spelled = m.spelled; signs = m.signs }) none).1
+    record { text = m.text; spelled = m.spelled; fits = text_fits words (record { text = m.text; spelled = m.spelled; signs = m.signs }) none; tree = m.tree }
+
+all_answered : (words : List Word) (end : Place) (read : Result Program ReadRefusal) → HasNoCause words → ReadsWhole (λ (p : Program). p) read (program_in words end) → AreAnswered words end read
+all_answered words end (Ok p) none h = all_read words end p none h
 all_answered words end (Err (refusal.Memory e)) none h = tt
-all_answered words end (Err (refusal.Grammar p)) none h = fault_alone words end p none (program_of_grammar words end p h)
-all_answered words end (Err e) none h = absurd (subst IsGrammar (sym (program_of_fault words end e h).is) tt)
+all_answered words end (Err e) none h =
+    let f : IsReadFault words end e = program_of_fault words end e h in
+    subst (λ r. AreAnswered words end (Err r)) (sym f.is) (fault_alone words end f.place none f.fault)
 
 -- else those up to the one with the first cause, and that one
 record Front (words : List Word) (end : Place) (spot : Spot) (s : IsSpot words end spot) : Type 0 where
@@ -221,8 +224,14 @@ parsed_within words end spot s =
     let some : length s.cause.first.ahead ≡ length (f.word ∷ f.after) = ap (λ (ws : List Word). length ws) f.ahead in
     omega (arith, s.before_is, whole, some)
 
-front_answered : (words : List Word) (end : Place) (spot : Spot) (s : IsSpot words end spot) → Front words end spot s → (read : Result Program ReadRefusal) → Ascend words end → ReadsWhole (λ (p : Program). p) read (program_in (take (spot.before + 1) words) end) → AreAnswered words end (decided (Some spot) read)
-front_answered words end spot s f read up h = by_answer read (subst (λ (ws : List Word). ReadsWhole (λ (p : Program). p) read (program_in ws end)) taken h)
+-- what was decided refuses the words
+record Refused (words : List Word) (end : Place) (answer : Result Program ReadRefusal) : Type 0 where
+  pub refusal_is : ReadRefusal
+  pub is : answer ≡ Err refusal_is
+  pub are : AreRefused words end refusal_is
+
+front_refused : (words : List Word) (end : Place) (spot : Spot) (s : IsSpot words end spot) → Front words end spot s → (read : Result Program ReadRefusal) → Ascend words end → program_in (take (spot.before + 1) words) end ≡ read → Refused words end (decided (Some spot) read)
+front_refused words end spot s f read up h = by_answer read (ap (λ (ws : List Word). program_in ws end) (sym taken) ∙ h)
   where
     back : List Word
     back = s.cause.first.back
@@ -258,18 +267,29 @@ front_answered words end spot s f read up h = by_answer read (subst (λ (ws : Li
     by_rest p g (v ∷ vs) e =
         first_refuses words end p spot up (subst (λ (ws : List Word). IsFirstGrammarFault ws end p) (sym whole) (fault_of_front front f.after end end p v vs g e)) s
 
-    by_answer : (read : Result Program ReadRefusal) → ReadsWhole (λ (p : Program). p) read (program_in front end) → AreAnswered words end (decided (Some spot) read)
+    by_answer : (read : Result Program ReadRefusal) → program_in front end ≡ read → Refused words end (decided (Some spot) read)
     by_answer (Ok p) h =
         let m : IsReadText front p = program_of_read front end p h in
-        answered_refusal words end spot.refusal (caused [] (subst IsText (sym (append-nil front)) (record { text = m.text; spelled = m.spelled; signs = m.signs })))
-    by_answer (Err (refusal.Memory e)) h = tt
-    by_answer (Err (refusal.Grammar p)) h = let g : IsFirstGrammarFault front end p = program_of_grammar front end p h in answered_refusal words end (first_refusal p spot) (by_rest p g g.rest refl)
-    by_answer (Err e) h = absurd (subst IsGrammar (sym (program_of_fault front end e h).is) tt)
+        record { refusal_is = spot.refusal; is = refl; are = caused [] (subst IsText (sym (append-nil front)) (record { text = m.text; spelled = m.spelled; signs = m.signs })) }
+    by_answer (Err e) h =
+        let g : IsReadFault front end e = program_of_fault front end e h in
+        record { refusal_is = first_refusal g.place spot; is = ap (λ (r : ReadRefusal). decided (Some spot) (Err r)) g.is; are = by_rest g.place g.fault g.fault.rest refl }
+
+spot_refused : (words : List Word) (end : Place) (spot : Spot) (read : Result Program ReadRefusal) → Ascend words end → IsSpot words end spot → program_in (take (spot.before + 1) words) end ≡ read → Refused words end (decided (Some spot) read)
+spot_refused words end spot read up s h = front_refused words end spot s (front_of words end spot s) read up h
+
+answered_by : (words : List Word) (end : Place) (answer : Result Program ReadRefusal) → Refused words end answer → AreAnswered words end answer
+answered_by words end answer r = subst (AreAnswered words end) (sym r.is) (answered_refusal words end r.refusal_is r.are)
+
+spot_answered : (words : List Word) (end : Place) (spot : Spot) (read : Result Program ReadRefusal) → Ascend words end → IsSpot words end spot → ReadsWhole (λ (p : Program). p) read (program_in (take (spot.before + 1) words) end) → AreAnswered words end (decided (Some spot) read)
+spot_answered words end spot (Ok p) up s h = answered_by words end _ (spot_refused words end spot (Ok p) up s h)
+spot_answered words end spot (Err (refusal.Memory e)) up s h = tt
+spot_answered words end spot (Err e) up s h = answered_by words end _ (spot_refused words end spot (Err e) up s h)
 
 -- What is decided is the answer of the words.
 pub decides : (words : List Word) (end : Place) (spot : Option Spot) (read : Result Program ReadRefusal) → Ascend words end → Finds words end spot → ReadsWhole (λ (p : Program). p) read (program_in (take (parsed spot (length words)) words) end) → AreAnswered words end (decided spot read)
 decides words end None read up none h = all_answered words end read none (subst (λ (ws : List Word). ReadsWhole (λ (p : Program). p) read (program_in ws end)) (take_all (length words) words (omega arith)) h)
-decides words end (Some spot) read up s h = front_answered words end spot s (front_of words end spot s) read up h
+decides words end (Some spot) read up s h = spot_answered words end spot read up s h
 
 -- ---- the words of a text
 
@@ -298,3 +318,26 @@ front_length bytes ts spot h =
     let words : List Word = words_of bytes ts in
     let few : parsed spot (length words) ≤ length words = few_of spot (length words) (spot_within words (end_of bytes) spot h) in
     ap (λ (n : ℕ). program_at n (record { words = take (parsed spot (length words)) words; end = end_of bytes })) (sym (length-take-le (parsed spot (length words)) words few))
+
+-- ---- a text that has tokens is a program or refused
+
+all_spelled : (bytes : List ℕ) (from to : ℕ) (ts : List Token) → AreUpTo bytes from ts to → AllByRecursion IsSpelledWord (words_of bytes ts)
+all_spelled bytes from to [] h = tt
+all_spelled bytes from to (t ∷ ts) h = (h.1.text.spelled, all_spelled bytes t.end to ts h.2)
+
+pub answered : (bytes : List ℕ) (ts : List Token) → AreTokens bytes ts → IsAnswered bytes
+answered bytes ts cut = by_spot (finds words end (all_spelled bytes 0 cut.to ts cut.cut))
+  where
+    words : List Word
+    words = words_of bytes ts
+
+    end : Place
+    end = end_of bytes
+
+    by_read : HasNoCause words → (r : Result Program ReadRefusal) → program_in words end ≡ r → IsAnswered bytes
+    by_read none (Ok p) h = inl (p, record { tokens = ts; cut = cut; is = all_read words end p none h })
+    by_read none (Err e) h = let f : IsReadFault words end e = program_of_fault words end e h in inr (refusal.Grammar f.place, record { tokens = ts; cut = cut; are = fault_alone words end f.place none f.fault })
+
+    by_spot : ((spot : Option Spot) × Finds words end spot) → IsAnswered bytes
+    by_spot (None, none) = by_read none (program_in words end) refl
+    by_spot (Some spot, s) = let r = spot_refused words end spot (program_in (take (spot.before + 1) words) end) (words_ascend bytes ts cut) s refl in inr (r.refusal_is, record { tokens = ts; cut = cut; are = r.are })

@@ -1,18 +1,21 @@
 -- Going over the words of a text to the first one that has a cause of a refusal.
 use Rattle.std.proofs.Common.{◌≡◌, ℕ, ◌+◌, ◌*◌, ◌<◌, ◌≤◌, List, [], ◌∷◌, length, Option, Some, None, refl, sym, ap, subst, ◌∙◌, arith}
+use Rattle.std.specs.List.{AllByRecursion}
 use Rattle.ps_token.specs.declared.place.Place.{Place}
 use Rattle.ps_token.specs.declared.token_kind.TokenKind.{TokenKind}
 use Rattle.ps_token.specs.declared.token_kind.TokenKind.TheVariants as kind
 use Rattle.ps_grammar.specs.Words.{Word}
 use Rattle.ps_parse.specs.Causes.{HasCauseOf, GivesRows, HasNoCause, IsCauseAt, IsClean, rows_passed, words_at}
 use Rattle.ps_parse.specs.Inner.Items.{item_rows}
-use Rattle.ps_parse.specs.Inner.Passed.{Blames, IsChecked, IsSpelledWord, IsSpot, MostRows, Tally, Tells, row_weight}
+use Rattle.ps_parse.specs.Inner.Passed.{Blames, Finds, IsChecked, IsSpelledWord, IsSpot, MostRows, Tally, Tells, row_weight}
 use Rattle.ps_parse.specs.Inner.Reading.{WordsAhead}
 use Rattle.ps_parse.specs.declared.read_refusal.ReadRefusal.{ReadRefusal}
 use Rattle.ps_parse.specs.declared.read_refusal.ReadRefusal.TheVariants as refusal
 use Rattle.ps_parse.proofs.Weights.{rows_in_weight, weight}
 use Rattle.ps_parse.proofs.RowLaws.{rows_counted, rows_given}
+use Rattle.ps_parse.specs.declared.spot.Spot.{Spot}
 use Rattle.ps_parse.proofs.Spots.{length_at, no_cause_in}
+use Rattle.ps_parse.proofs.WordCauses.{word_found}
 
 -- What holds before each word: the words that were passed have no cause, and those ahead end where the text does.
 pub record Goes (words : List Word) (end : Place) (t : Tally) (at : WordsAhead) : Type 0 where
@@ -130,3 +133,36 @@ goes_on words end t u n rows at after w h room counted taken s f more =
       };
       ends = here.ends;
     }
+
+-- ---- that each text has a first cause or none
+
+abbrev AllSpelled : List Word → Type 0
+AllSpelled = AllByRecursion IsSpelledWord
+
+found_from : (words : List Word) (end : Place) (back ahead : List Word) → words_at back ahead ≡ words → IsClean back ahead → AllSpelled ahead → (spot : Option Spot) × Finds words end spot
+found_from words end back [] whole clean s = (None, no_cause_in words back whole clean)
+found_from words end back (w ∷ ahead) whole clean s = by_found (word_found back w ahead rows s.0 (most_rows_ahead (length (w ∷ ahead)) rows at (omega arith) refl)) (λ none. found_from words end (w ∷ back) ahead whole (none, clean) s.1)
+  where
+    at : WordsAhead
+    at = record { words = w ∷ ahead; end = end }
+
+    rows : ℕ
+    rows = item_rows (length (w ∷ ahead)) at
+
+    by_found : ((found : Option ReadRefusal) × Blames back w ahead found) → (Blames back w ahead None → (spot : Option Spot) × Finds words end spot) → (spot : Option Spot) × Finds words end spot
+    by_found (None, b) next = next b
+    by_found (Some e, b) next = (
+      Some (record { before = length back; place = w.place; refusal = e }),
+      record {
+        cause = record {
+          first = record { back = back; ahead = w ∷ ahead; split = sym whole; place_is = b.place_is; cause = cause_of back w ahead e b.cause; first_here = b.least; first = clean };
+          own = b.cause;
+        };
+        before_is = refl;
+        place_is = b.place_is;
+      },
+    )
+
+-- Of the words of a text, one is the first with a cause, or none has one.
+pub finds : (words : List Word) (end : Place) → AllSpelled words → (spot : Option Spot) × Finds words end spot
+finds words end s = found_from words end [] words refl tt s

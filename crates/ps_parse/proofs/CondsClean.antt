@@ -12,7 +12,7 @@ use Rattle.ps_parse.specs.declared.level.Level.{Level}
 use Rattle.ps_parse.specs.declared.level.Level.TheVariants as level
 use Rattle.ps_parse.specs.Causes.{without_negations, closed, levels}
 use Rattle.ps_parse.specs.Kinds.{is_kind}
-use Rattle.ps_parse.proofs.CauseSteps.{fresh_star}
+use Rattle.ps_parse.proofs.WordsAllowed.{fresh_star}
 use Rattle.ps_parse.proofs.OpenLevels.{Settles, settled_again}
 use Rattle.ps_parse.proofs.WordsClean.{Walk, walk_end, walk_as, walk_then, walk_ending, Free, walk_piece, walk_star, Room, walk_opening}
 use Rattle.ps_parse.proofs.SumsClean.{relation_walk}

@@ -9,7 +9,7 @@ use Rattle.ps_parse.specs.Parts.{HasOwnCause, is_second_name}
 use Rattle.ps_parse.specs.Reads.{BeginAlike, IsFirstGrammarFault, IsText, PassesGrammar}
 use Rattle.ps_parse.specs.declared.read_refusal.ReadRefusal.{ReadRefusal}
 use Rattle.ps_parse.specs.declared.read_refusal.ReadRefusal.TheVariants as refusal
-use Rattle.ps_parse.proofs.CauseSteps.{least_grammar}
+use Rattle.ps_parse.proofs.WordsAllowed.{least_grammar}
 use Rattle.ps_parse.proofs.Spots.{passed, passed_front}
 
 no_fault_said : (words : List Word) (end : Place) (e : ReadRefusal) (back ahead : List Word) → IsCause back ahead e → IsFaultIfSaid words end e

@@ -22,12 +22,10 @@ use Rattle.ps_parse.specs.declared.read_refusal.ReadRefusal.{ReadRefusal}
 use Rattle.ps_parse.specs.declared.read_refusal.ReadRefusal.TheVariants as refusal
 use Rattle.ps_parse.specs.declared.level.Level.{Level}
 use Rattle.ps_parse.specs.Causes.{is_declaration, declared_in, is_after_factor, count_of, rows_passed, levels, levels_with, opens_level, IsCauseAt}
-use Rattle.ps_parse.specs.Inner.Items.{is_some_variable}
 use Rattle.ps_parse.specs.Kinds.{is_kind, begins_with}
 use Rattle.ps_parse.specs.Reads.{HasInitSigns}
-use Rattle.ps_parse.proofs.NamesDeclared.{Knows, knows_global, knows_local, contains_known, not_contains}
-use Rattle.ps_parse.proofs.CauseSteps.{fresh_word, level_word, Fresh}
-use Rattle.ps_parse.proofs.ItemCauses.{HasRoom, new_allows, item_allows, count_more, not_begins}
+use Rattle.ps_parse.proofs.NamesDeclared.{Knows, knows_global, knows_local, contains_known, is_there, not_contains}
+use Rattle.ps_parse.proofs.WordsAllowed.{fresh_word, level_word, Fresh, HasRoom, new_allows, item_allows, count_more, not_begins}
 use Rattle.ps_parse.proofs.Weights.{rows_of_item, Counts, item_rows_more, counts_after}
 use Rattle.ps_parse.proofs.ItemsGive.{FewRows, few_rows, own_rows}
 use Rattle.ps_parse.proofs.WordsClean.{Walk, walk_end, walk_as, walk_then, walk_ending, Asks, walk_word, by_word, spelled_kind, spelled_name, Here, Free, free_after, walk_piece}
@@ -79,13 +77,13 @@ asks_new : {names : Names} (back : List Word) (w : Word) (ahead : List Word) (x 
     → (most ≤ count → IsCauseAt back w ahead (refusal.Limit w.place what)) → (count < most → HasRoom back) → Asks ((variable_of_name names x ≡ None) × (count < most)) back w ahead
 asks_new {names = names} back w ahead x count most what e same h full room = record {
   fits = λ none. (new none (variable_of_name names x) refl, few none (cases_lt count most));
-  allows = λ f. new_allows back w ahead e h.declares h.factor (λ c. not_contains names (declared_in back) x h.known (ap is_some_variable f.0) (subst (Contains (declared_in back)) same c)) (room f.1);
+  allows = λ f. new_allows back w ahead e h.declares h.factor (λ c. not_contains names (declared_in back) x h.known (ap is_there f.0) (subst (Contains (declared_in back)) same c)) (room f.1);
 }
   where
     new : ((other : ReadRefusal) → ¬ IsCauseAt back w ahead other) → (o : Option Var) → variable_of_name names x ≡ o → o ≡ None
     new none None u = refl
     new none (Some v) u =
-        absurd (none (refusal.Twice w.place) (e, h.declares, subst (Contains (declared_in back)) (sym same) (contains_known names (declared_in back) x h.known (ap is_some_variable u))))
+        absurd (none (refusal.Twice w.place) (e, h.declares, subst (Contains (declared_in back)) (sym same) (contains_known names (declared_in back) x h.known (ap is_there u))))
 
     few : ((other : ReadRefusal) → ¬ IsCauseAt back w ahead other) → (count < most) ⊎ (most ≤ count) → count < most
     few none (inl lt) = lt

@@ -12,7 +12,7 @@ pub mod StmtGuards
 pub mod DeclarationGuards
 pub mod ProgramGuards
 pub mod Weights
-pub mod ItemRows
+pub mod WordsAllowed
 pub mod NamesDeclared
 pub mod Spots
 pub mod OneAnswer
@@ -24,13 +24,7 @@ pub mod Passing
 pub mod WordCauses
 pub mod Examples
 pub mod RowLaws
-pub mod CauseSteps
 pub mod OpenLevels
-pub mod ItemCauses
-pub mod SumCauses
-pub mod CondCauses
-pub mod StmtCauses
-pub mod ProgramCauses
 pub mod WordsClean
 pub mod SumsClean
 pub mod CondsClean

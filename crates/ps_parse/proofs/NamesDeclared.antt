@@ -1,28 +1,23 @@
--- The names that a scope knows, as a list of declared ones has them.
+-- The names that are known, as a list of declared ones has them.
 use Rattle.std.proofs.Common.{◌≡◌, ℕ, suc, ◌+◌, Bool, true, false, ◌||◌, List, [], ◌∷◌, ◌++◌, Option, Some, None, refl, sym, ap, ◌∙◌, arith}
 use Rattle.std.specs.Prelude.{Contains, option_map, if◌then◌else◌}
 use Rattle.std.specs.Str.{bytes_eq}
 use Rattle.std.specs.List.{All}
 use Rattle.std.proofs.lemmas.List.Elements.{All-cons, All-contains, All-nil, All-weaker}
 use Rattle.std.proofs.lemmas.Slice.Eq.{bytes_eq-Decides}
-use Rattle.ps_term.specs.declared.var.Var.{Var}
 use Rattle.ps_term.specs.declared.var.Var.TheVariants.{Global, Local}
-use Rattle.ps_parse.specs.Inner.Items.{is_some_variable}
 use Rattle.ps_parse.specs.Inner.Passed.{has_name}
 use Rattle.ps_grammar.specs.Declarations.{names_of, nothing_declared}
 use Rattle.ps_grammar.specs.Names.{Names, first_of, position_from, variable_of_name}
 
-abbrev is_there : {A : Type 0} → Option A → Bool
+-- whether there is one
+abbrev pub is_there : {A : Type 0} → Option A → Bool
 is_there (Some x) = true
 is_there None = false
 
 there_map : {A B : Type 0} (f : A → B) (o : Option A) → is_there (option_map f o) ≡ is_there o
 there_map f None = refl
 there_map f (Some x) = refl
-
-declared_there : (o : Option Var) → is_some_variable o ≡ is_there o
-declared_there None = refl
-declared_there (Some x) = refl
 
 there_first : {A : Type 0} (o p : Option A) → is_there (first_of o p) ≡ (is_there o || is_there p)
 there_first None p = refl
@@ -37,10 +32,9 @@ there_position i y (x ∷ xs) = by_test (bytes_eq x y) (there_position (i + 1) y
     by_test false h = h
 
 -- a name is known where it is one of the globals or of the locals
-pub known_is : (names : Names) (y : List ℕ) → is_some_variable (variable_of_name names y) ≡ (has_name y names.globals || has_name y names.locals)
+pub known_is : (names : Names) (y : List ℕ) → is_there (variable_of_name names y) ≡ (has_name y names.globals || has_name y names.locals)
 known_is names y =
-    declared_there (variable_of_name names y)
-    ∙ there_first (option_map Global (position_from 0 y names.globals)) (option_map (Local 0) (position_from 0 y names.locals))
+    there_first (option_map Global (position_from 0 y names.globals)) (option_map (Local 0) (position_from 0 y names.locals))
     ∙ ap (λ (t : Bool). t || is_there (option_map (Local 0) (position_from 0 y names.locals))) (there_map Global (position_from 0 y names.globals) ∙ there_position 0 y names.globals)
     ∙ ap (λ (t : Bool). has_name y names.globals || t) (there_map (Local 0) (position_from 0 y names.locals) ∙ there_position 0 y names.locals)
 
@@ -68,9 +62,9 @@ more_locals false true false = refl
 more_locals false false true = refl
 more_locals false false false = refl
 
--- The scope knows the names of the list, and no others.
+-- The names of the list are known, and no others.
 pub record Knows (names : Names) (list : List (List ℕ)) : Type 0 where
-  pub same : (y : List ℕ) → is_some_variable (variable_of_name names y) ≡ has_name y list
+  pub same : (y : List ℕ) → is_there (variable_of_name names y) ≡ has_name y list
 
 pub knows_none : Knows (names_of nothing_declared) []
 knows_none = record { same = λ y. refl }
@@ -125,10 +119,10 @@ all_named (x ∷ xs) =
 pub named_contains : (y : List ℕ) (xs : List (List ℕ)) → Contains xs y → has_name y xs ≡ true
 named_contains y xs h = All-contains (λ (z : List ℕ). has_name z xs ≡ true) xs y (all_named xs) h
 
-pub contains_known : (names : Names) (list : List (List ℕ)) (y : List ℕ) → Knows names list → is_some_variable (variable_of_name names y) ≡ true → Contains list y
+pub contains_known : (names : Names) (list : List (List ℕ)) (y : List ℕ) → Knows names list → is_there (variable_of_name names y) ≡ true → Contains list y
 contains_known names list y h known = contains_named y list (sym (h.same y) ∙ known)
 
-pub not_contains : (names : Names) (list : List (List ℕ)) (y : List ℕ) → Knows names list → is_some_variable (variable_of_name names y) ≡ false → Contains list y → ⊥
+pub not_contains : (names : Names) (list : List (List ℕ)) (y : List ℕ) → Knows names list → is_there (variable_of_name names y) ≡ false → Contains list y → ⊥
 not_contains names list y h unknown c = differ (sym unknown ∙ h.same y ∙ named_contains y list c)
   where
     differ : false ≡ true → ⊥

@@ -1,5 +1,4 @@
--- A text is a program or is refused, in one way, and never both; and a text of the grammar is a program where no word of it
--- has a cause of a refusal.
+-- A text is refused in one way, and is no program then.
 use Rattle.std.proofs.Common.{◌≡◌, ◌⊎◌, inl, inr, ℕ, ◌+◌, ◌<◌, ◌≤◌, Bool, true, false, List, [], ◌∷◌, ◌++◌, length, Some, Result, Ok, Err, refl, sym, ap, subst, ◌∙◌, arith, length-append}
 use Rattle.std.specs.Prelude.{if◌then◌else◌, nat_eq}
 use Rattle.std.proofs.Math.Nat.{eq-or-lt_of_le}
@@ -16,19 +15,15 @@ use Rattle.ps_tree.specs.declared.program.Program.{Program}
 use Rattle.ps_grammar.specs.Programs.{IsProgram, IsProgramText}
 use Rattle.ps_grammar.specs.Words.{Word, words_of}
 use Rattle.ps_parse.specs.Causes.{AreRefused, HasCauseOf, IsCause, IsCauseAt, IsFaultIfSaid, IsFirstCause, is_after_factor, opens_level, rank, words_at}
-use Rattle.ps_parse.specs.Inner.Items.{program_in}
 use Rattle.ps_parse.specs.Kinds.{begins_with, is_kind, place_of_next}
 use Rattle.ps_parse.specs.Parts.{is_second_name}
 use Rattle.ps_parse.specs.Reads.{IsFirstGrammarFault, PassesGrammar, StandsInText, refusal_place}
 use Rattle.ps_parse.specs.Texts.{GrammarIsFault, IsAnswered, IsFirstRefusal, IsInText, IsRefused, end_of}
 use Rattle.ps_parse.specs.declared.read_refusal.ReadRefusal.{ReadRefusal}
 use Rattle.ps_parse.specs.declared.read_refusal.ReadRefusal.TheVariants as refusal
-use Rattle.ps_parse.proofs.CauseSteps.{Blamed, least_grammar, rows_begin}
-use Rattle.ps_parse.proofs.Guards.{IsGrammar}
+use Rattle.ps_parse.proofs.WordsAllowed.{rows_begin}
 use Rattle.ps_parse.proofs.OneAnswer.{no_program, not_after_fault, not_at_fault, one_fault}
-use Rattle.ps_parse.proofs.ProgramCauses.{program_of_blamed, program_of_first}
 use Rattle.ps_parse.proofs.ProgramsClean.{program_of_clean}
-use Rattle.ps_parse.proofs.ProgramGuards.{program_of_found, program_of_grammar, program_of_refused}
 use Rattle.ps_parse.proofs.Spots.{Ascend, Same, cause_moved, clean_before, length_passed, one_spot, passed, same_spot, words_ascend}
 use Rattle.ps_parse.proofs.Steps.{one_kind}
 
@@ -181,52 +176,9 @@ no_program_refused words end p e is a =
       | inr h ↦ program_of_clean words p is a.first.back a.first.ahead a.first.split e (h a.first.back a.first.ahead a.first.cause)
     ]
 
-fault_said : (words : List Word) (end : Place) (e : ReadRefusal) → program_in words end ≡ Err e → IsFaultIfSaid words end e
-fault_said words end (refusal.Grammar p) h = program_of_grammar words end p h
-fault_said words end e h = tt
-
-pub refused_words : (words : List Word) (end : Place) (e : ReadRefusal) → ¬ IsGrammar e → program_in words end ≡ Err e → AreRefused words end e
-refused_words words end e other h = record { first = program_of_first words end e other h; in_text = program_of_refused words end e h; fault = fault_said words end e h }
-
 pub second_caused : (back rest : List Word) (p : Place) → is_second_name back rest ≡ true → IsCause back rest (refusal.NotLinear p)
 second_caused back [] p h = true≢false (sym (and_parts _ _ h).1)
 second_caused back (w ∷ rest) p h = let k : (is_after_factor back ≡ true) × (begins_with kind.Name (w ∷ rest) ≡ true) = and_parts _ _ h in (one_kind w.kind kind.Name k.1, k.0)
-
--- A fault of the grammar refuses words, or the second name of a product that stands there does.
-fault_words : (words : List Word) (end p : Place) → program_in words end ≡ Err (refusal.Grammar p) → (f : ReadRefusal) × AreRefused words end f
-fault_words words end p h = by_test (is_second_name b.back b.ahead) refl
-  where
-    b : Blamed (record { words = words; end = end }) (refusal.Grammar p)
-    b = program_of_blamed words end (refusal.Grammar p) h
-
-    s : StandsInText words end (refusal.Grammar p)
-    s = program_of_refused words end (refusal.Grammar p) h
-
-    by_test : (t : Bool) → is_second_name b.back b.ahead ≡ t → (f : ReadRefusal) × AreRefused words end f
-    by_test true e = (
-      refusal.NotLinear p,
-      record {
-        first = record { back = b.back; ahead = b.ahead; split = b.split; place_is = b.place_is; cause = caused b.back b.ahead (second_caused b.back b.ahead p e); first_here = λ other c. omega arith; first = b.first };
-        in_text = record { before = s.before; rest = s.rest; split = s.split; place_is = s.place_is; others = s.others; goes_on = s.goes_on; next = λ g. absurd g };
-        fault = tt;
-      },
-    )
-      where
-        caused : (back ahead : List Word) → IsCause back ahead (refusal.NotLinear p) → HasCauseOf back ahead (refusal.NotLinear p)
-        caused back ahead c = c
-    by_test false e = (
-      refusal.Grammar p,
-      record {
-        first = record { back = b.back; ahead = b.ahead; split = b.split; place_is = b.place_is; cause = tt; first_here = least_grammar b.back b.ahead e; first = b.first };
-        in_text = s;
-        fault = program_of_grammar words end p h;
-      },
-    )
-
--- Words that are not read are refused by something.
-some_refusal : (words : List Word) (end : Place) (e : ReadRefusal) → program_in words end ≡ Err e → (f : ReadRefusal) × AreRefused words end f
-some_refusal words end (refusal.Grammar p) h = fault_words words end p h
-some_refusal words end e h = (e, refused_words words end e (λ g. g) h)
 
 -- ---- of bytes
 
@@ -238,13 +190,6 @@ one_refusal bytes e f a b =
 pub no_refused_program : (bytes : List ℕ) (p : Program) (e : ReadRefusal) → IsProgram bytes p → IsRefused bytes e → ⊥
 no_refused_program bytes p e is a =
     no_program_refused (words_of bytes a.tokens) (end_of bytes) p e (subst (λ (ts : List Token). IsProgramText (words_of bytes ts) p) (one_list bytes is.tokens a.tokens is.cut a.cut) is.is) a.are
-
-pub answered : (bytes : List ℕ) (ts : List Token) → AreTokens bytes ts → IsAnswered bytes
-answered bytes ts cut = by_answer (program_in (words_of bytes ts) (end_of bytes)) refl
-  where
-    by_answer : (r : Result Program ReadRefusal) → program_in (words_of bytes ts) (end_of bytes) ≡ r → IsAnswered bytes
-    by_answer (Ok p) h = inl (p, record { tokens = ts; cut = cut; is = program_of_found (words_of bytes ts) (end_of bytes) p h })
-    by_answer (Err e) h = let f : (f : ReadRefusal) × AreRefused (words_of bytes ts) (end_of bytes) f = some_refusal (words_of bytes ts) (end_of bytes) e h in inr (f.0, record { tokens = ts; cut = cut; are = f.1 })
 
 -- what the clauses say one by one, together
 pub refused_so : (bytes : List ℕ) (e : ReadRefusal) → IsFirstRefusal bytes e → IsInText bytes e → GrammarIsFault bytes e → IsRefused bytes e

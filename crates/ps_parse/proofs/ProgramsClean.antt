@@ -42,7 +42,7 @@ none_left : (back left : List Word) → pieces left ≡ [] → StaysClean back l
 none_left back [] e = tt
 none_left back (w ∷ left) e = absurd cc
 
-text_fits : (words : List Word) (t : IsText words) → HasNoCause words → ProgramFits t.text
+pub text_fits : (words : List Word) (t : IsText words) → HasNoCause words → ProgramFits t.text
 text_fits words t none =
     let signs : AllByRecursion HasInitSigns t.text.items = recursion_from_All HasInitSigns t.text.items t.signs in
     let asked : Asked t.text = ((program_walk words t.text signs t.spelled).fits (none_stays [] words none)).0 in

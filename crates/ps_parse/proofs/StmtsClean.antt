@@ -10,7 +10,7 @@ use Rattle.ps_grammar.specs.Words.{Word}
 use Rattle.ps_parse.specs.declared.read_refusal.ReadRefusal.TheVariants as refusal
 use Rattle.ps_parse.specs.declared.level.Level.{Level}
 use Rattle.ps_parse.specs.Causes.{without_negations, block_level, levels}
-use Rattle.ps_parse.proofs.CauseSteps.{looping}
+use Rattle.ps_parse.proofs.WordsAllowed.{looping}
 use Rattle.ps_parse.proofs.OpenLevels.{Matches, matches_block, matches_atomic, settled_block}
 use Rattle.ps_parse.proofs.WordsClean.{Walk, walk_end, walk_as, walk_then, walk_ending, Asks, walk_word, by_word, spelled_kind, Here, Free, free_after, walk_piece, walk_name, Room, walk_opening}
 use Rattle.ps_parse.proofs.SumsClean.{walk_mark, sum_walk}

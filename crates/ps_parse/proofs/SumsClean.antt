@@ -13,7 +13,7 @@ use Rattle.ps_grammar.specs.Words.{Word}
 use Rattle.ps_parse.specs.declared.level.Level.{Level}
 use Rattle.ps_parse.specs.Causes.{levels_with}
 use Rattle.ps_parse.specs.Kinds.{is_kind}
-use Rattle.ps_parse.proofs.CauseSteps.{has_causes, joins, fresh_star}
+use Rattle.ps_parse.proofs.WordsAllowed.{has_causes, joins, fresh_star}
 use Rattle.ps_parse.proofs.WordsClean.{Walk, walk_end, walk_as, walk_then, Here, Free, walk_piece, walk_star, walk_name}
 
 -- ---- words that leave the levels as they are

@@ -1,5 +1,5 @@
 -- What refuses a word, by what is kept of the words before it.
-use Rattle.std.proofs.Common.{◌≡◌, ◌⊎◌, inl, inr, ℕ, ◌+◌, ◌<◌, ◌≤◌, Bool, true, false, ◌&&◌, ◌||◌, List, [], ◌∷◌, length, Option, None, refl, sym, ap, subst, ◌∙◌, arith}
+use Rattle.std.proofs.Common.{◌≡◌, ◌⊎◌, inl, inr, ℕ, ◌+◌, ◌<◌, ◌≤◌, Bool, true, false, ◌&&◌, ◌||◌, List, [], ◌∷◌, length, Option, Some, None, refl, sym, ap, subst, ◌∙◌, arith}
 use Rattle.std.specs.Prelude.{Contains, nat_le, nat_lt}
 use Rattle.std.proofs.lemmas.Bool.{and_cases, and_parts, leb-false, leb-true, ltb-false, ltb-true, or_parts, true≢false}
 use Rattle.ps_token.specs.Lexing.{IsSpelled}
@@ -13,13 +13,14 @@ use Rattle.ps_grammar.specs.Trees.{rows_of_relations}
 use Rattle.ps_grammar.specs.Words.{Word}
 use Rattle.ps_parse.specs.Causes.{GivesRows, count_of, declared_in, is_after_factor, is_declaration, levels, opens_level, rows_passed}
 use Rattle.ps_parse.specs.Kinds.{begins_with, is_kind}
-use Rattle.ps_parse.specs.Inner.Passed.{Blames, IsLeastCause, IsSpelledWord, MostRows, Tally, Tells, declares, has_atomic, has_many_globals, has_many_locals, has_name, is_kind_of, multiplies}
+use Rattle.ps_parse.specs.Inner.Passed.{Blames, IsLeastCause, IsSpelledWord, MostRows, Tally, Tells, declares, has_atomic, has_many_globals, has_many_locals, has_name, is_kind_of, multiplies, nearest_kind, second_kind}
 use Rattle.ps_parse.specs.declared.level.Level.{Level}
 use Rattle.ps_parse.specs.declared.level.Level.TheVariants as level
+use Rattle.ps_parse.specs.declared.read_refusal.ReadRefusal.{ReadRefusal}
 use Rattle.ps_parse.specs.declared.read_refusal.ReadRefusal.TheVariants as refusal
 use Rattle.ps_parse.proofs.NamesDeclared.{contains_named, named_contains}
-use Rattle.ps_parse.proofs.CauseSteps.{least_limit, least_loop, least_unknown, looping, marked, naming, no_cause, opening, opens_item, test_clash}
-use Rattle.ps_parse.proofs.ItemCauses.{least_full, least_twice, new_allows}
+use Rattle.ps_parse.proofs.WordsAllowed.{least_full, least_limit, least_loop, least_twice, least_unknown, looping, marked, naming, new_allows, no_cause, opening, opens_item, test_clash}
+use Rattle.ps_parse.proofs.Steps.{one_kind}
 use Rattle.ps_parse.proofs.Passing.{atomic_contained, begins_is, contained_atomic, declares_is, multiplies_is}
 
 -- ---- names
@@ -188,3 +189,73 @@ item_least {t = t} {back = back} w ahead rows h m e many =
       cause = (rows, m.given (omega (arith, some)), omega (arith, more, same));
       least = least_limit back w ahead w.kind refl a.0;
     }
+
+-- ---- each word has a first cause, or none
+
+-- what is kept of words, as they tell it
+abbrev told_of : List Word → Tally
+told_of back = record { words = length back; nearest = nearest_kind back; second = second_kind back; globals = count_of kind.Global back; locals = count_of kind.Local back; rows = rows_passed back; names = declared_in back; levels = levels back }
+
+told : (back : List Word) → Tells (told_of back) back
+told back = record { words = refl; nearest = refl; second = refl; globals = refl; locals = refl; rows = refl; names = λ x h. refl; levels = refl }
+
+Found : List Word → Word → List Word → Type 0
+Found back w ahead = (found : Option ReadRefusal) × Blames back w ahead found
+
+second_least : (back : List Word) (w : Word) (ahead : List Word) → w.kind ≡ kind.Name → is_after_factor back ≡ true → IsLeastCause back w ahead (refusal.NotLinear w.place)
+second_least back w ahead e f = record { place_is = refl; cause = (e, f); least = λ other c. omega arith }
+
+new_found : (back : List Word) (w : Word) (ahead : List Word) → IsSpelledWord w → w.kind ≡ kind.Name → declares (told_of back) ≡ true → Found back w ahead
+unfolding Found
+new_found back w ahead s e d = by_tests (has_name w.text (declared_in back)) (has_many_globals (told_of back)) (has_many_locals (told_of back)) refl refl refl
+  where
+    by_tests : (a b c : Bool) → has_name w.text (declared_in back) ≡ a → has_many_globals (told_of back) ≡ b → has_many_locals (told_of back) ≡ c → (found : Option ReadRefusal) × Blames back w ahead found
+    by_tests true b c f g h = (Some (refusal.Twice w.place), twice_least w ahead (told back) s e d f)
+    by_tests false true c f g h = (Some (refusal.Limit w.place limit.Globals), globals_least w ahead (told back) s e d f g)
+    by_tests false false true f g h = (Some (refusal.Limit w.place limit.Locals), locals_least w ahead (told back) s e d f h)
+    by_tests false false false f g h = (None, new_none w ahead (told back) s e d f g h)
+
+name_found : (back : List Word) (w : Word) (ahead : List Word) → IsSpelledWord w → w.kind ≡ kind.Name → Found back w ahead
+unfolding Found
+name_found back w ahead s e = by_tests (multiplies (told_of back)) (declares (told_of back)) (has_name w.text (declared_in back)) refl refl refl
+  where
+    by_tests : (a b c : Bool) → multiplies (told_of back) ≡ a → declares (told_of back) ≡ b → has_name w.text (declared_in back) ≡ c → (found : Option ReadRefusal) × Blames back w ahead found
+    by_tests true b c f g h = (Some (refusal.NotLinear w.place), second_least back w ahead e (sym (multiplies_is (told back)) ∙ f))
+    by_tests false true c f g h = new_found back w ahead s e g
+    by_tests false false true f g h = (None, known_none w ahead (told back) s e f g h)
+    by_tests false false false f g h = (Some (refusal.UnknownName w.place), unknown_least w ahead (told back) s e f g h)
+
+loop_found : (back : List Word) (w : Word) (ahead : List Word) → w.kind ≡ kind.While → Found back w ahead
+unfolding Found
+loop_found back w ahead e = by_test (has_atomic (levels back)) refl
+  where
+    by_test : (t : Bool) → has_atomic (levels back) ≡ t → (found : Option ReadRefusal) × Blames back w ahead found
+    by_test true f = (Some (refusal.LoopInAtomic w.place), loop_least w ahead (told back) e f)
+    by_test false f = (None, loop_none w ahead (told back) e f)
+
+level_found : (back : List Word) (w : Word) (ahead : List Word) → opens_level w.kind ≡ true → Found back w ahead
+unfolding Found
+level_found back w ahead e = by_test (nat_le most_levels (length (levels back))) refl
+  where
+    by_test : (t : Bool) → nat_le most_levels (length (levels back)) ≡ t → (found : Option ReadRefusal) × Blames back w ahead found
+    by_test true f = (Some (refusal.Limit w.place limit.Depth), level_least w ahead (told back) e f)
+    by_test false f = (None, level_none w ahead (told back) e f)
+
+item_found : (back : List Word) (w : Word) (ahead : List Word) (rows : ℕ) → MostRows (w ∷ ahead) rows → (is_kind w.kind kind.Name || is_kind w.kind kind.While || opens_level w.kind) ≡ false → Found back w ahead
+unfolding Found
+item_found back w ahead rows m e = by_test (nat_lt 0 rows && nat_lt most_rows (rows_passed back + rows)) refl
+  where
+    by_test : (t : Bool) → (nat_lt 0 rows && nat_lt most_rows (rows_passed back + rows)) ≡ t → (found : Option ReadRefusal) × Blames back w ahead found
+    by_test true f = (Some (refusal.Limit w.place limit.Init), item_least w ahead rows (told back) m e f)
+    by_test false f = (None, item_none w ahead rows (told back) m e f)
+
+-- What refuses a word, if anything does.
+pub word_found : (back : List Word) (w : Word) (ahead : List Word) (rows : ℕ) → IsSpelledWord w → MostRows (w ∷ ahead) rows → (found : Option ReadRefusal) × Blames back w ahead found
+unfolding Found
+word_found back w ahead rows s m = by_tests (is_kind w.kind kind.Name) (is_kind w.kind kind.While) (opens_level w.kind) refl refl refl
+  where
+    by_tests : (a b c : Bool) → is_kind w.kind kind.Name ≡ a → is_kind w.kind kind.While ≡ b → opens_level w.kind ≡ c → (found : Option ReadRefusal) × Blames back w ahead found
+    by_tests true b c f g h = name_found back w ahead s (one_kind w.kind kind.Name f)
+    by_tests false true c f g h = loop_found back w ahead (one_kind w.kind kind.While g)
+    by_tests false false true f g h = level_found back w ahead h
+    by_tests false false false f g h = item_found back w ahead rows m (rw (f, g, h) refl)

@@ -16,11 +16,10 @@ use Rattle.ps_parse.specs.declared.read_refusal.ReadRefusal.{ReadRefusal}
 use Rattle.ps_parse.specs.declared.read_refusal.ReadRefusal.TheVariants as refusal
 use Rattle.ps_parse.specs.declared.level.Level.{Level}
 use Rattle.ps_parse.specs.Causes.{words_at, is_declaration, declared_in, is_after_factor, levels_with, levels, opens_level, IsCauseAt, IsCause, HasNoCause}
-use Rattle.ps_parse.specs.Inner.Items.{is_some_variable}
 use Rattle.ps_parse.specs.Kinds.{is_kind, begins_with}
 use Rattle.ps_parse.proofs.Steps.{kind_of, kind_of_piece}
-use Rattle.ps_parse.proofs.NamesDeclared.{Knows, contains_known, not_contains}
-use Rattle.ps_parse.proofs.CauseSteps.{opens_item, Allows, no_cause, has_causes, plain, opening, naming, Fresh, joins, fresh_word, level_word}
+use Rattle.ps_parse.proofs.NamesDeclared.{Knows, contains_known, is_there, not_contains}
+use Rattle.ps_parse.proofs.WordsAllowed.{opens_item, Allows, no_cause, has_causes, plain, opening, naming, Fresh, joins, fresh_word, level_word}
 
 -- ---- no word ahead has a cause
 
@@ -185,14 +184,14 @@ walk_star {F = F} {P = P} {back = back} {ahead = ahead} {rest = rest} {to = to} 
 
 -- ---- names
 
-some_variable : (o : Option Var) → o ≢ None → is_some_variable o ≡ true
+some_variable : (o : Option Var) → o ≢ None → is_there o ≡ true
 some_variable None h = absurd (h refl)
 some_variable (Some v) h = refl
 
 asks_name : {names : Names} {after : Bool} {ls : List Level} (back : List Word) (w : Word) (ahead : List Word) (x : List ℕ) → w.kind ≡ kind.Name → w.text ≡ x → Free names after ls back → Asks (IsKnownName names x) back w ahead
 asks_name {names = names} back w ahead x e same f = record {
   fits = λ none unknown.
-      none (refusal.UnknownName w.place) (e, f.here.declaration, λ c. not_contains names (declared_in back) x f.here.known (ap is_some_variable unknown) (subst (Contains (declared_in back)) same c));
+      none (refusal.UnknownName w.place) (e, f.here.declaration, λ c. not_contains names (declared_in back) x f.here.known (ap is_there unknown) (subst (Contains (declared_in back)) same c));
   allows = λ known.
       naming back w ahead f.here.declaration f.factor
       (subst (Contains (declared_in back)) (sym same) (contains_known names (declared_in back) x f.here.known (some_variable (variable_of_name names x) known))) e;

@@ -1,4 +1,5 @@
-use Rattle.ps_parse.proofs.OneRefusal.{answered, no_refused_program, one_refusal, refused_so}
+use Rattle.ps_parse.proofs.Answered.{answered}
+use Rattle.ps_parse.proofs.OneRefusal.{no_refused_program, one_refusal, refused_so}
 use Rattle.ps_parse.proofs.laws.one_answer.Goals as goal
 
 pub returns-clause-one : goal.returns-clause-one
