@@ -48,9 +48,6 @@ items_fails n i d at r total h lt more =
 
 -- ---- rows
 
-abbrev rows_of : Relation → ℕ
-rows_of r = rows_of_sign r.sign
-
 -- the rows of the next relation and of what follows
 abbrev pub NextRows : ℕ → WordsAhead → Option ℕ → WordsAhead → Type 0
 NextRows n at rows next = (rest : WordsAhead → ℕ) → rows_counted_on (λ (r : Relation). rows_of_sign r.sign) rest (relation_at init_sign_of (names_of nothing_declared) n at) ≡ rows_then rows (rest next)

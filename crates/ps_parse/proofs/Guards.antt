@@ -16,7 +16,7 @@ use Rattle.ps_parse.specs.Kinds.{is_kind, place_of_next}
 use Rattle.ps_lines.specs.Steps.{and_then, ◌>>=◌}
 use Rattle.ps_grammar.specs.Spelling.{Piece, NamePiece, NumberPiece, Mark, piece_of_kind, pieces}
 use Rattle.ps_parse.specs.Reads.{BeginAlike}
-use Rattle.ps_parse.proofs.Steps.{places, Takes, takes_places, Finds, found_more, Gets, one_kind, same_kind, kind_of, kind_of_piece, begins_piece, begins_pieces, Always, Alike, IsTest, IsMark}
+use Rattle.ps_parse.proofs.Steps.{places, Takes, takes_places, Finds, found_more, Gets, one_kind, same_kind, kind_of, kind_of_piece, Always, Alike, IsTest, IsMark}
 
 -- ---- answers
 
@@ -40,10 +40,6 @@ keeps_end y Q R h = record { is = h }
 pub keeps_more : {A : Type 0} (r : Result A ReadRefusal) (Q : A → Type 0) (R : ReadRefusal → Type 0) (Q' : A → Type 0) (R' : ReadRefusal → Type 0) → Keeps r Q R → ((x : A) → Q x → Q' x) → ((e : ReadRefusal) → R e → R' e) → Keeps r Q' R'
 keeps_more (Ok x) Q R Q' R' h k m = record { is = k x h.is }
 keeps_more (Err e) Q R Q' R' h k m = record { is = m e h.is }
-
-pub keeps_found : {A : Type 0} (r : Result A ReadRefusal) (Q : A → Type 0) (R : ReadRefusal → Type 0) (P : A → Type 0) → Keeps r Q R → Finds r P → Keeps r (λ x. Q x × P x) R
-keeps_found (Ok x) Q R P h k = record { is = (h.is, k.is) }
-keeps_found (Err e) Q R P h k = record { is = h.is }
 
 -- ---- beginnings
 

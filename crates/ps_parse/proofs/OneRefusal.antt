@@ -1,9 +1,8 @@
 -- A text is refused in one way, and is no program then.
-use Rattle.std.proofs.Common.{◌≡◌, ◌⊎◌, inl, inr, ℕ, ◌+◌, ◌<◌, ◌≤◌, Bool, true, false, List, [], ◌∷◌, ◌++◌, length, Some, Result, Ok, Err, refl, sym, ap, subst, ◌∙◌, arith, length-append}
+use Rattle.std.proofs.Common.{◌≡◌, ◌⊎◌, inl, inr, ℕ, ◌+◌, ◌<◌, ◌≤◌, Bool, true, false, List, [], ◌∷◌, ◌++◌, length, Some, refl, sym, ap, subst, ◌∙◌, arith, length-append}
 use Rattle.std.specs.Prelude.{if◌then◌else◌, nat_eq}
 use Rattle.std.proofs.Math.Nat.{eq-or-lt_of_le}
 use Rattle.std.proofs.lemmas.Bool.{and_parts, cases_lt, cond-true, true≢false}
-use Rattle.ps_token.specs.Lexing.{AreTokens}
 use Rattle.ps_token.specs.declared.place.Place.{Place}
 use Rattle.ps_token.specs.declared.token.Token.{Token}
 use Rattle.ps_token.specs.declared.token_kind.TokenKind.{TokenKind}
@@ -18,7 +17,7 @@ use Rattle.ps_parse.specs.Causes.{AreRefused, HasCauseOf, IsCause, IsCauseAt, Is
 use Rattle.ps_parse.specs.Kinds.{begins_with, is_kind, place_of_next}
 use Rattle.ps_parse.specs.Parts.{is_second_name}
 use Rattle.ps_parse.specs.Reads.{IsFirstGrammarFault, PassesGrammar, StandsInText, refusal_place}
-use Rattle.ps_parse.specs.Texts.{GrammarIsFault, IsAnswered, IsFirstRefusal, IsInText, IsRefused, end_of}
+use Rattle.ps_parse.specs.Texts.{GrammarIsFault, IsFirstRefusal, IsInText, IsRefused, end_of}
 use Rattle.ps_parse.specs.declared.read_refusal.ReadRefusal.{ReadRefusal}
 use Rattle.ps_parse.specs.declared.read_refusal.ReadRefusal.TheVariants as refusal
 use Rattle.ps_parse.proofs.WordsAllowed.{rows_begin}

@@ -1,7 +1,7 @@
 -- Kinds and pieces of words, what is taken of the words ahead, what a step finds, tests of the next word, and reading
 -- functions that are made of others.
 use Rattle.std.proofs.Common.{◌≡◌, ℕ, Bool, true, false, ◌||◌, List, [], ◌∷◌, ◌++◌, map, length, drop, get_or, Result, Ok, Err, refl, sym, ap, subst, ◌∙◌, append_assoc, eq-eqb}
-use Rattle.std.specs.Prelude.{IfOk, if◌then◌else◌}
+use Rattle.std.specs.Prelude.{IfOk}
 use Rattle.std.proofs.lemmas.Bool.{eqb-true}
 use Rattle.std.proofs.lemmas.List.{map-append, length-map, drop_at, drop-map}
 use Rattle.ps_token.specs.declared.place.Place.{Place}
@@ -102,10 +102,6 @@ pub found_bind : {A B : Type 0} (r : Result A ReadRefusal) (f : A → Result B R
 unfolding and_then
 found_bind (Ok x) f Q R h k = k x h.is
 found_bind (Err e) f Q R h k = record { is = tt }
-
-pub found_if : {A : Type 0} (t : Bool) (r s : Result A ReadRefusal) (R : A → Type 0) → Finds r R → Finds s R → Finds (if t then r else s) R
-found_if true r s R h k = h
-found_if false r s R h k = k
 
 pub found_more : {A : Type 0} (r : Result A ReadRefusal) (Q R : A → Type 0) → Finds r Q → ((x : A) → Q x → R x) → Finds r R
 found_more (Ok x) Q R h k = record { is = k x h.is }

@@ -43,15 +43,6 @@ weight_at : (f : TokenKind → ℕ) (back ws : List Word) → weight f (words_at
 weight_at f [] ws = omega arith
 weight_at f (w ∷ back) ws = let h : weight f (words_at back (w ∷ ws)) ≡ weight f back + (f w.kind + weight f ws) = weight_at f back (w ∷ ws) in omega arith
 
--- the words that were passed between two places weigh what the later ones weigh more
-pub weight_passed : (f : TokenKind → ℕ) (back back' front ws vs : List Word) → words_at back' vs ≡ words_at back ws → ws ≡ front ++ vs → weight f back' ≡ weight f back + weight f front
-weight_passed f back back' front ws vs same split =
-    let a : weight f (words_at back' vs) ≡ weight f back' + weight f vs = weight_at f back' vs in
-    let b : weight f (words_at back ws) ≡ weight f back + weight f ws = weight_at f back ws in
-    let c : weight f ws ≡ weight f front + weight f vs = ap (weight f) split ∙ weight-append f front vs in
-    let d : weight f (words_at back' vs) ≡ weight f (words_at back ws) = ap (weight f) same in
-    omega (arith, a, b, c, d)
-
 pub count_of_weight : (k : TokenKind) (back : List Word) → count_of k back ≡ weight (ones k) back
 count_of_weight k [] = refl
 count_of_weight k (w ∷ back) =
