@@ -1,5 +1,6 @@
 -- The rows that words give which begin an item of the grammar: those of the item, and never more.
 use Rattle.std.proofs.Common.{◌≡◌, ℕ, ◌≤◌, Bool, false, ◌&&◌, ◌||◌, List, [], ◌∷◌, ◌++◌, Some, None, inl, inr, refl, sym, ap, ◌∙◌, arith, append_assoc}
+use Rattle.std.proofs.Math.Bool.{and-false}
 use Rattle.ps_token.specs.declared.token_kind.TokenKind.{TokenKind}
 use Rattle.ps_token.specs.declared.token_kind.TokenKind.TheVariants as kind
 use Rattle.ps_tree.specs.declared.relation.Sign.{Sign}
@@ -13,7 +14,6 @@ use Rattle.ps_parse.specs.Causes.{last_of, last_product, is_alone, relation_goes
 use Rattle.ps_parse.specs.Kinds.{begins_with}
 use Rattle.ps_parse.specs.Reads.{HasInitSigns}
 use Rattle.ps_parse.proofs.Steps.{kind_of, Takes, takes_pieces, begins_piece, begins_pieces}
-use Rattle.ps_parse.proofs.SumGuards.{no_both}
 use Rattle.ps_parse.specs.Inner.Passed.{ones, row_weight}
 use Rattle.ps_parse.proofs.Weights.{weigh, body_pieces, body_ended, rows_of_item, body_rows, no_end}
 
@@ -92,7 +92,7 @@ ended r words rest e =
     ap (λ (b : Bool). b || begins_with kind.Minus words || (is_alone (last_product r.right) && begins_with kind.Star words)) (begins_pieces kind.Plus words ∙ ap (begins_piece kind.Plus) e)
     ∙ ap (λ (b : Bool). b || (is_alone (last_product r.right) && begins_with kind.Star words)) (begins_pieces kind.Minus words ∙ ap (begins_piece kind.Minus) e)
     ∙ ap (λ (b : Bool). is_alone (last_product r.right) && b) (begins_pieces kind.Star words ∙ ap (begins_piece kind.Star) e)
-    ∙ no_both (is_alone (last_product r.right))
+    ∙ and-false (is_alone (last_product r.right))
 
 pub own_rows : (i : ItemText) (words : List Word) (rest : List Piece) → HasInitSigns i → 1 ≤ rows_of_item i → pieces words ≡ item_pieces i ++ rest → GivesRows words (rows_of_item i)
 own_rows i words rest signs some e = by_item i signs some (cut words (body_pieces i) (Mark kind.Semicolon ∷ rest) (e ∙ ap (λ (ps : List Piece). ps ++ rest) (body_ended i) ∙ append_assoc (body_pieces i) (Mark kind.Semicolon ∷ []) rest))
