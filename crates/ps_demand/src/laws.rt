@@ -1,6 +1,7 @@
 //! Facts about demands: each function does no work, and its clause is the fact.
 ghost use Rattle.std.specs.Prelude.{◌≡◌, ◌↔◌, ℕ, List, Contains};
 ghost use Rattle.ps_atom.specs.declared.atom.Atom.{Atom};
+ghost use Rattle.ps_demand.specs.Candidates.{candidates, demanded_of};
 ghost use Rattle.ps_demand.specs.Demands.{AreTied, demands};
 ghost use Rattle.ps_triple.specs.Entries.{GivesAtom};
 ghost use Rattle.ps_triple.specs.declared.entry.Entry.{Entry};
@@ -11,4 +12,11 @@ pub fn demands_are_what_gives()
     ensures { (entries : List Entry) (atoms : List Atom) (thread command : ℕ) (before : List Atom)
         → AreTied entries → Contains (demands entries atoms thread command) before
         ↔ ((q : Atom) × Contains atoms q × GivesAtom entries thread command before q) }
+{}
+
+/// The triples that may demand something for atoms tell all demands of a step, by any thread.
+pub fn candidates_tell_the_demands()
+    ensures { (entries : List Entry) (atoms : List Atom) (thread command : ℕ)
+        → demanded_of thread command (candidates entries atoms command)
+        ≡ demands entries atoms thread command }
 {}
