@@ -1,17 +1,19 @@
 -- What candidates demand, one after another and in two parts.
-use Rattle.std.proofs.Common.{◌≡◌, ◌≢◌, ◌<◌, ◌≤◌, ◌+◌, ℕ, Bool, true, false, ◌&&◌, ◌==◌, List, [], ◌∷◌, ◌++◌, map, take, length, get_or, refl, sym, ap, ◌∙◌, Option, Some, None, if◌then◌else◌}
+use Rattle.std.proofs.Common.{◌≡◌, ◌≢◌, ◌<◌, ◌≤◌, ◌+◌, ℕ, Bool, true, false, ◌&&◌, ◌==◌, List, [], ◌∷◌, ◌++◌, ◌⊎◌, inl, inr, map, take, length, get_or, refl, sym, ap, ◌∙◌, subst, Contains, Option, Some, None, if◌then◌else◌}
 use Rattle.std.specs.List.{filter, filter_map, flat_map, cons_option}
 use Rattle.std.specs.Option.{option_to_list}
 use Rattle.std.proofs.lemmas.Bool.{true≢false}
 use Rattle.std.proofs.lemmas.List.{map_push, take_more}
 use Rattle.std.proofs.lemmas.List.Elements.{filter-append, filter_map-append}
 use Rattle.ps_atom.specs.declared.atom.Atom.{Atom}
-use Rattle.ps_demand.specs.Candidates.{candidate, candidates, demanded_of, pairs_of}
+use Rattle.ps_demand.specs.Candidates.{candidate, candidates, demanded_of, has_no_only, only_atom, pairs_of}
 use Rattle.ps_demand.specs.declared.candidate.Candidate.{Candidate}
 use Rattle.ps_demand.specs.Demands.{demand, demands, is_renaming}
 use Rattle.ps_triple.specs.declared.entry.Entry.{Entry}
 use Rattle.ps_triple.specs.declared.entry.Entry.TheVariants.{Triple as OfTriple, Initial as OfInitial}
 use Rattle.ps_triple.specs.declared.triple.Triple.{Triple}
+use Rattle.ps_list.proofs.Mapped.{from_kept, kept}
+use Rattle.ps_demand.proofs.Picked.{from_picked, picked}
 use Rattle.ps_demand.proofs.Scanning.{not_chosen}
 
 abbrev Pair : Type 0
@@ -70,3 +72,32 @@ pair_at list i c inside is =
 
 pub pair_pushed : (list new : List Candidate) (c : Candidate) → new ≡ list ++ c ∷ [] → pairs_of new ≡ pairs_of list ++ (c.atom.now, c.entry.now) ∷ []
 pair_pushed list new c added = ap pairs_of added ∙ map_push (λ (x : Candidate). (x.atom.now, x.entry.now)) list c
+
+-- ---- two parts of all
+
+only_is : (set : List Atom) (q : Atom) → only_atom set ≡ Some q → set ≡ q ∷ []
+only_is [] q e = absurd cc
+only_is (x ∷ []) q e = ap (λ (y : Atom). y ∷ []) (some_is x q e)
+  where
+    some_is : (x y : Atom) → Some x ≡ Some y → x ≡ y
+    some_is x y e = cc
+only_is (x ∷ y ∷ ys) q e = absurd cc
+
+-- an atom of the one part is alone in a demand
+pub is_alone : (demands : List (List Atom)) (q : Atom) → Contains (filter_map only_atom demands) q → Contains demands (q ∷ [])
+is_alone demands q h = let w = from_picked only_atom demands q h in subst (λ (set : List Atom). Contains demands set) (only_is w.0 q w.2) w.1
+
+pub alone_is : (demands : List (List Atom)) (q : Atom) → Contains demands (q ∷ []) → Contains (filter_map only_atom demands) q
+alone_is demands q h = picked only_atom demands (q ∷ []) q h refl
+
+-- a demand is of one atom, or one of the other part
+pub either_part : (demands : List (List Atom)) (set : List Atom) → Contains demands set → ((q : Atom) × (set ≡ q ∷ [])) ⊎ Contains (filter has_no_only demands) set
+either_part demands [] h = inr (kept has_no_only demands [] h refl)
+either_part demands (q ∷ []) h = inl (q, refl)
+either_part demands (q ∷ r ∷ rs) h = inr (kept has_no_only demands (q ∷ r ∷ rs) h refl)
+
+pub is_other : (demands : List (List Atom)) (set : List Atom) → Contains (filter has_no_only demands) set → Contains demands set × ((q : Atom) → set ≢ q ∷ [])
+is_other demands set h = let k = from_kept has_no_only demands set h in (k.0, λ q e. true≢false (sym (sym (ap has_no_only e) ∙ k.1)))
+
+pub other_is : (demands : List (List Atom)) (set : List Atom) → Contains demands set → ((q : Atom) → set ≢ q ∷ []) → Contains (filter has_no_only demands) set
+other_is demands set h none = elim (either_part demands set h) [ inl w ↦ absurd (none w.0 w.1) | inr k ↦ k ]
