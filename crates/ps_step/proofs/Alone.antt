@@ -39,10 +39,10 @@ only_of demands others alone ordered one other up same hits = record {
   alone = λ q h. is_alone demands q (subst (λ (qs : List Atom). Contains qs q) one ((same q).0 h));
   hits = λ set h. elim (either_part demands set h) [
     | inl w ↦ (
-        w.0,
-        (same w.0).1 (subst (λ (qs : List Atom). Contains qs w.0) (sym one) (alone_is demands w.0 (subst (λ (xs : List Atom). Contains demands xs) w.1 h))),
-        subst (λ (xs : List Atom). Contains xs w.0) (sym w.1) (here w.0 [])
-      )
+      w.0,
+      (same w.0).1 (subst (λ (qs : List Atom). Contains qs w.0) (sym one) (alone_is demands w.0 (subst (λ (xs : List Atom). Contains demands xs) w.1 h))),
+      subst (λ (xs : List Atom). Contains xs w.0) (sym w.1) (here w.0 []),
+    )
     | inr k ↦ hits set (subst (λ (sets : List (List Atom)). Contains sets set) (sym other) k)
   ];
 }
@@ -54,11 +54,11 @@ all_of demands others sets alone ordered one other same are set = (
   λ h. elim (Contains-append_cases others (map (λ (q : Atom). q ∷ []) ordered) set (subst (λ (ss : List (List Atom)). Contains ss set) are h)) [
     | inl k ↦ (from_kept has_no_only demands set (subst (λ (ss : List (List Atom)). Contains ss set) other k)).0
     | inr k ↦ (let w = from_mapped (λ (q : Atom). q ∷ []) ordered set k in
-      subst (λ (xs : List Atom). Contains demands xs) w.2 (is_alone demands w.0 (subst (λ (qs : List Atom). Contains qs w.0) one ((same w.0).0 w.1))))
+        subst (λ (xs : List Atom). Contains demands xs) w.2 (is_alone demands w.0 (subst (λ (qs : List Atom). Contains qs w.0) one ((same w.0).0 w.1))))
   ],
   λ h. subst (λ (ss : List (List Atom)). Contains ss set) (sym are) (elim (either_part demands set h) [
     | inl w ↦ Contains-append_right others (map (λ (q : Atom). q ∷ []) ordered) set (subst (λ (xs : List Atom). Contains (map (λ (q : Atom). q ∷ []) ordered) xs) (sym w.1)
-      (mapped (λ (q : Atom). q ∷ []) ordered w.0 ((same w.0).1 (subst (λ (qs : List Atom). Contains qs w.0) (sym one) (alone_is demands w.0 (subst (λ (xs : List Atom). Contains demands xs) w.1 h))))))
+        (mapped (λ (q : Atom). q ∷ []) ordered w.0 ((same w.0).1 (subst (λ (qs : List Atom). Contains qs w.0) (sym one) (alone_is demands w.0 (subst (λ (xs : List Atom). Contains demands xs) w.1 h))))))
     | inr k ↦ Contains-append_left others (map (λ (q : Atom). q ∷ []) ordered) set (subst (λ (ss : List (List Atom)). Contains ss set) (sym other) k)
   ]),
 )
@@ -144,19 +144,19 @@ one_list set = (tt, tt)
 
 pub found_only : (wanted : List (List Atom)) (set : List Atom) (most : ℕ) → 1 ≤ most → IsOnlySet wanted set → AreLeast wanted (set ∷ []) × AreAllLeast wanted (set ∷ []) × (length (set ∷ []) ≤ most)
 found_only wanted set most some only = (
-      record {
-        least = λ atoms h. subst (λ (xs : List Atom). IsLeastHit wanted xs) (this atoms h) (least_only wanted set only);
-        ascend = λ atoms h. subst (λ (xs : List Atom). IsStrictlySortedBy atom_cmp xs) (this atoms h) only.ascends;
-        ordered = one_list set;
-      },
-      (λ atoms least.
-          let below : (q : Atom) → Contains set q → Contains atoms q = λ q h. (let met = least.hits (q ∷ []) (only.alone q h) in elim (cons_cases q [] met.0 met.2) [
-            | inl is ↦ subst (λ (r : Atom). Contains atoms r) (sym is) met.1
-            | inr none ↦ absurd (nothing met.0 none)
-          ]) in
-          (set, here set [], least.least set below only.hits, below)),
-      omega (arith, some),
-    )
+  record {
+    least = λ atoms h. subst (λ (xs : List Atom). IsLeastHit wanted xs) (this atoms h) (least_only wanted set only);
+    ascend = λ atoms h. subst (λ (xs : List Atom). IsStrictlySortedBy atom_cmp xs) (this atoms h) only.ascends;
+    ordered = one_list set;
+  },
+  (λ atoms least.
+      let below : (q : Atom) → Contains set q → Contains atoms q = λ q h. (let met = least.hits (q ∷ []) (only.alone q h) in elim (cons_cases q [] met.0 met.2) [
+        | inl is ↦ subst (λ (r : Atom). Contains atoms r) (sym is) met.1
+        | inr none ↦ absurd (nothing met.0 none)
+      ]) in
+      (set, here set [], least.least set below only.hits, below)),
+  omega (arith, some),
+)
   where
     this : (atoms : List Atom) → Contains (set ∷ []) atoms → set ≡ atoms
     this atoms h = elim (cons_cases set [] atoms h) [ inl is ↦ is | inr none ↦ absurd (nothing atoms none) ]
@@ -180,5 +180,5 @@ are_same a b same list h = record { least = λ atoms c. least_same a b same atom
 
 -- what is found of sets is found of any with the same ones
 pub found_same : (a b : List (List Atom)) (most : ℕ) → ((set : List Atom) → Contains a set ↔ Contains b set) → (found : Found) → IsFound a most found → IsFound b most found
-found_same a b most same (All sets) h = (are_same a b same (lists_of sets.items) h.0, (λ atoms least. h.1 atoms (least_same b a (turned a b same) atoms least), h.2))
-found_same a b most same TooMany h = (h.0, (are_same a b same h.0 h.1, h.2))
+found_same a b most same (All sets) h = (are_same a b same (lists_of sets.items) h.0, λ atoms least. h.1 atoms (least_same b a (turned a b same) atoms least), h.2)
+found_same a b most same TooMany h = (h.0, are_same a b same h.0 h.1, h.2)

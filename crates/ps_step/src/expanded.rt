@@ -147,8 +147,10 @@ fn add_edge<B: Shown>(
         (StepEndsBy (IsFirstWideAt graph.now (B.entries basis.now) config.now fresh number)) }
 {
     let command = graph.edges.as_slice()[number as usize].command;
-    let candidates =
-        candidates_of(alloc, basis, config.atoms(), command).map_err(ExpandEnd::Memory)?;
+    let candidates = match candidates_of(alloc, basis, config.atoms(), command) {
+        Ok(candidates) => candidates,
+        Err(end) => return Err(ExpandEnd::Memory(end)),
+    };
     let found = candidates.as_slice();
     let mut from: u64 = 0;
     while let Some(thread) = next_number(threads, from) {
