@@ -1,6 +1,6 @@
 -- What candidates demand, one after another and in two parts.
-use Rattle.std.proofs.Common.{◌≡◌, ◌≢◌, ◌<◌, ◌≤◌, ◌+◌, ℕ, Bool, true, false, ◌&&◌, ◌==◌, List, [], ◌∷◌, ◌++◌, ◌⊎◌, inl, inr, map, take, length, get_or, refl, sym, ap, ◌∙◌, subst, Contains, Option, Some, None, if◌then◌else◌}
-use Rattle.std.specs.List.{filter, filter_map, flat_map, cons_option}
+use Rattle.std.proofs.Common.{◌≡◌, ◌≢◌, ◌<◌, ◌+◌, ℕ, Bool, true, false, ◌&&◌, ◌==◌, List, [], ◌∷◌, ◌++◌, ◌⊎◌, inl, inr, take, length, get_or, refl, sym, ap, ◌∙◌, subst, Contains, Option, Some, None, if◌then◌else◌}
+use Rattle.std.specs.List.{filter, filter_map, cons_option}
 use Rattle.std.specs.Option.{option_to_list}
 use Rattle.std.proofs.lemmas.Bool.{true≢false}
 use Rattle.std.proofs.lemmas.List.{map_push, take_more}
