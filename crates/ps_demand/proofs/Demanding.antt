@@ -1,6 +1,5 @@
 -- The list of demands says what the definition demands.
 use Rattle.std.proofs.Common.{◌≡◌, ℕ, Bool, true, false, ◌&&◌, ◌==◌, List, [], ◌∷◌, ◌++◌, map, refl, sym, ap, ap₂, ◌∙◌, subst, inl, inr, ◌⊎◌, Contains, Some, None, if◌then◌else◌}
-use Rattle.std.specs.List.{filter_map}
 use Rattle.std.proofs.lemmas.Bool.{false≢true, eqb-true, eq-eqb, and_parts, and_from}
 use Rattle.std.proofs.lemmas.List.Elements.{All-contains, Contains-append_left, Contains-append_right, Contains-append_cases}
 use Rattle.ps_atom.specs.Atoms.{renamed, IsInjectiveOn, threads_of}
@@ -12,10 +11,9 @@ use Rattle.ps_config.proofs.Occurring.{renamed_same}
 use Rattle.ps_config.proofs.Sent.{sent_image}
 use Rattle.ps_triple.specs.declared.triple.Triple.{Triple}
 use Rattle.ps_triple.specs.declared.entry.Entry.{Entry}
-use Rattle.ps_triple.specs.declared.entry.Entry.TheVariants.{Triple as OfTriple, Initial as OfInitial}
+use Rattle.ps_triple.specs.declared.entry.Entry.TheVariants.{Triple as OfTriple}
 use Rattle.ps_triple.specs.Entries.{GivesAtom, threads_in}
 use Rattle.ps_triple.specs.Tests.{IsTied, IsTiedTo}
-use Rattle.ps_demand.specs.Demands.{AreTied}
 use Rattle.ps_demand.specs.Demands.{is_renaming, demand}
 use Rattle.ps_demand.proofs.Sent.{image_is_renaming, sent_all, sent_apart}
 

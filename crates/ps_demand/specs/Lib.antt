@@ -1,3 +1,4 @@
+pub mod Candidates
 pub mod Demands
 pub mod Hitting
 pub mod Numbered

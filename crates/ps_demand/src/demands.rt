@@ -1,9 +1,11 @@
 //! The demands of a step.
-ghost use Rattle.std.specs.Prelude.{◌≡◌, ◌++◌, IfOk, OnOk};
-ghost use Rattle.std.specs.List.{filter_map};
-ghost use Rattle.ps_demand.specs.Demands.{demand, demands};
+ghost use Rattle.std.specs.Prelude.{◌≡◌, IfOk};
+ghost use Rattle.ps_demand.specs.Candidates.{demanded_of, pairs_of};
+ghost use Rattle.ps_demand.specs.Demands.{demands};
 ghost use Rattle.ps_demand.specs.Pools.{lists_of};
 
+use crate::candidate::Candidate;
+use crate::candidates::candidates_of;
 use crate::renaming::add_demand;
 use ps_atom::Atom;
 use ps_basis::Shown;
@@ -21,31 +23,24 @@ pub fn demands_of<B: Shown>(
     ensures { IfOk result (λ sets.
         lists_of sets.items ≡ demands (B.entries basis.now) atoms.now thread command) }
 {
-    let mut sets = Vec::with_capacity(alloc, atoms.len())?;
-    for atom in atoms {
-        add_demands(alloc, basis, atom, thread, command, &mut sets)?;
-    }
+    let candidates = candidates_of(alloc, basis, atoms, command)?;
+    let sets = demands_by(alloc, candidates.as_slice(), thread, command)?;
     Ok(sets)
 }
 
-fn add_demands<B: Shown>(
+/// What the candidates demand where the thread runs the command.
+fn demands_by<'a>(
     alloc: Global,
-    basis: &B,
-    atom: &Atom,
+    candidates: &[Candidate<'a>],
     thread: u32,
     command: u32,
-    sets: &mut Vec<Vec<Atom>>,
-) -> Result<(), AllocError>
-    ensures { OnOk result (lists_of sets.new.items
-        ≡ lists_of sets.old.items
-        ++ filter_map (demand thread command atom.now) (B.entries basis.now)) }
+) -> Result<Vec<Vec<Atom>>, AllocError>
+    ensures { IfOk result (λ sets.
+        lists_of sets.items ≡ demanded_of thread command (pairs_of candidates.now)) }
 {
-    // The count bounds the numbers of entries.
-    let _count = basis.count();
-    let mut from: u32 = 0;
-    while let Some(n) = basis.next_for(atom.predicate, command, from) {
-        add_demand(alloc, basis.entry(n), atom, thread, command, sets)?;
-        from = n + 1;
+    let mut sets = Vec::with_capacity(alloc, candidates.len())?;
+    for candidate in candidates {
+        add_demand(alloc, *candidate, thread, command, &mut sets)?;
     }
-    Ok(())
+    Ok(sets)
 }

@@ -1,11 +1,15 @@
 //! The renaming that takes a triple's post to an atom, and its thread 0 to a thread.
 ghost use Rattle.std.specs.Prelude.{◌≡◌, ◌∷◌, ◌++◌, IfOk, OnOk, length, map};
+ghost use Rattle.std.specs.List.{filter, filter_map};
 ghost use Rattle.std.specs.Option.{option_to_list};
 ghost use Rattle.ps_atom.specs.Atoms.{renamed};
 ghost use Rattle.ps_config.specs.Sent.{sent};
+ghost use Rattle.ps_demand.specs.Candidates.{has_no_only, only_atom};
 ghost use Rattle.ps_demand.specs.Demands.{agrees, is_renaming, demand};
 ghost use Rattle.ps_demand.specs.Pools.{lists_of};
 
+use crate::candidate::Candidate;
+use crate::parted::Parted;
 use ps_atom::{Atom, Threads};
 use ps_triple::Entry;
 use std::alloc::{AllocError, Global};
@@ -102,27 +106,66 @@ fn renamed_atoms(
     Ok(new)
 }
 
-/// Adds what an entry demands for an atom, if it demands anything.
-pub(crate) fn add_demand(
+/// Adds what the candidate demands where the thread runs the command, if it demands anything.
+pub(crate) fn add_demand<'a>(
     alloc: Global,
-    entry: &Entry,
-    atom: &Atom,
+    candidate: Candidate<'a>,
     thread: u32,
     command: u32,
     sets: &mut Vec<Vec<Atom>>,
 ) -> Result<(), AllocError>
-    ensures { OnOk result (lists_of sets.new.items
-        ≡ lists_of sets.old.items ++ option_to_list (demand thread command atom.now entry.now)) }
+    ensures { OnOk result (lists_of sets.new.items ≡ lists_of sets.old.items
+        ++ option_to_list (demand thread command candidate.entry.atom.now candidate.entry.entry.now)) }
 {
-    match entry {
+    match candidate.entry {
         Entry::Triple(triple) => {
             let numbers = triple.post.threads.as_slice();
-            let images = atom.threads.as_slice();
+            let images = candidate.atom.threads.as_slice();
             if triple.command == command
-                && triple.post.predicate == atom.predicate
+                && triple.post.predicate == candidate.atom.predicate
                 && renames(thread, numbers, images)
             {
                 sets.push(renamed_atoms(alloc, thread, numbers, images, triple.pre.as_slice())?)?;
+            }
+            Ok(())
+        }
+        Entry::Initial(_) => Ok(()),
+    }
+}
+
+/// Adds what the candidate demands where the thread runs the command, if it demands anything: an atom that is demanded alone,
+/// or another set.
+pub(crate) fn add_parted<'a>(
+    alloc: Global,
+    candidate: Candidate<'a>,
+    thread: u32,
+    command: u32,
+    parted: &mut Parted,
+) -> Result<(), AllocError>
+    ensures alone { OnOk result (parted.new.alone.items ≡ parted.old.alone.items
+        ++ filter_map only_atom (option_to_list (demand thread command candidate.entry.atom.now candidate.entry.entry.now))) }
+    ensures others { OnOk result (lists_of parted.new.others.items ≡ lists_of parted.old.others.items
+        ++ filter has_no_only (option_to_list (demand thread command candidate.entry.atom.now candidate.entry.entry.now))) }
+{
+    match candidate.entry {
+        Entry::Triple(triple) => {
+            let numbers = triple.post.threads.as_slice();
+            let images = candidate.atom.threads.as_slice();
+            if triple.command != command
+                || triple.post.predicate != candidate.atom.predicate
+                || !renames(thread, numbers, images)
+            {
+                return Ok(());
+            }
+            let pre = triple.pre.as_slice();
+            if pre.len() == 1 {
+                parted
+                    .alone
+                    .push(renamed_atom(alloc, thread, numbers, images, &pre[0])?)?;
+            } else {
+                parted
+                    .others
+                    .push(renamed_atoms(alloc, thread, numbers, images, pre)?)?;
             }
             Ok(())
         }

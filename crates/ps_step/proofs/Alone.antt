@@ -1,9 +1,9 @@
--- Atoms that are alone in sets, and the only least set where they meet all sets.
-use Rattle.std.proofs.Common.{◌≡◌, ◌≢◌, ◌<◌, ◌≤◌, ◌+◌, ℕ, Bool, true, false, List, [], ◌∷◌, ◌++◌, length, take, get_or, refl, sym, ap, ◌∙◌, subst, inl, inr, ◌⊎◌, Contains, arith}
+-- Atoms that are demanded alone, the only least set where they meet all demands, and the same demands listed otherwise.
+use Rattle.std.proofs.Common.{◌≡◌, ◌<◌, ◌≤◌, ◌+◌, ℕ, Bool, true, false, List, [], ◌∷◌, ◌++◌, map, length, take, get_or, refl, sym, ap, ◌∙◌, subst, inl, inr, Contains, arith}
 use Rattle.std.specs.Prelude.{◌↔◌}
 use Rattle.std.specs.Cmp.{IsStrictWeakOrder}
 use Rattle.std.specs.Cmp.Lexicographic.{slice_cmp}
-use Rattle.std.specs.List.{dedup}
+use Rattle.std.specs.List.{dedup, filter, filter_map}
 use Rattle.std.specs.List.Sorted.{IsStrictlySortedBy, IsSorted, IsPermutation, IsPartitionPoint}
 use Rattle.std.specs.Ordering.{eq_by_cmp, is_eq, is_lt}
 use Rattle.std.specs.declared.cmp.Ordering.{Ordering}
@@ -12,73 +12,56 @@ use Rattle.std.specs.declared.vec.Vec.{Vec}
 use Rattle.std.proofs.lemmas.Bool.{both_ways, false≢true}
 use Rattle.std.proofs.lemmas.Cmp.{eq_by_cmp_equiv, tied_itself}
 use Rattle.std.proofs.lemmas.List.{take_more, take_all, map_push, get_or_default}
-use Rattle.std.proofs.lemmas.List.Elements.{Contains-get_or, Contains-push, Contains-push_cases, Contains-append_left}
+use Rattle.std.proofs.lemmas.List.Elements.{Contains-append_cases, Contains-append_left, Contains-append_right, Contains-get_or, Contains-push_cases}
 use Rattle.std.proofs.lemmas.List.Kept.{Contains-dedup, Contains-from_dedup, IsStrictlySortedBy-dedup}
 use Rattle.std.proofs.lemmas.List.Sorted.{Contains-permutation, IsPermutation-sym, ranks_by}
 use Rattle.ps_atom.specs.Atoms.{atom_cmp}
 use Rattle.ps_atom.specs.declared.atom.Atom.{Atom}
 use Rattle.ps_demand.proofs.Atoms.{atoms_exact, atoms_total}
 use Rattle.ps_demand.proofs.Pooling.{found_at}
+use Rattle.ps_demand.proofs.PartedDemands.{alone_is, either_part, is_alone}
+use Rattle.ps_demand.specs.Candidates.{has_no_only, only_atom}
 use Rattle.ps_demand.specs.Hitting.{HitsAll, IsLeastHit, MeetsSet}
 use Rattle.ps_demand.specs.Pools.{lists_of}
-use Rattle.ps_list.proofs.Mapped.{mapped}
+use Rattle.ps_list.proofs.Mapped.{from_kept, from_mapped, mapped}
 use Rattle.ps_list.proofs.Members.{nothing, cons_cases, here}
-use Rattle.ps_step.specs.inner.Found.{AreLeast, AreAllLeast}
-use Rattle.ps_step.specs.inner.Only.{IsAlone, IsOnlySet}
+use Rattle.ps_step.specs.declared.found.Found.{Found}
+use Rattle.ps_step.specs.declared.found.Found.TheVariants.{All, TooMany}
+use Rattle.ps_step.specs.inner.Found.{AreLeast, AreAllLeast, IsFound}
+use Rattle.ps_step.specs.inner.Only.{IsOnlySet}
 
--- ---- the atoms that are alone in the first sets
+-- ---- demands in two parts
 
-abbrev pub HasAlone : List (List Atom) → List Atom → Type 0
-HasAlone sets alone = (q : Atom) → Contains alone q ↔ IsAlone sets q
-
-pub none_alone : HasAlone [] []
-none_alone q = (λ h. absurd (nothing q h), λ h. absurd (nothing (q ∷ []) h))
-
-push_alone : (sets : List (List Atom)) (set alone new : List Atom) → HasAlone sets alone → ((q : Atom) → Contains new q ↔ (Contains alone q ⊎ (set ≡ q ∷ []))) → HasAlone (sets ++ set ∷ []) new
-push_alone sets set alone new are more q = (
-  λ h. elim ((more q).0 h) [
-    | inl old ↦ Contains-append_left sets (set ∷ []) (q ∷ []) ((are q).0 old)
-    | inr is ↦ subst (λ (xs : List Atom). Contains (sets ++ set ∷ []) xs) is (Contains-push sets set)
-  ],
-  λ h. (more q).1 (elim (Contains-push_cases sets set (q ∷ []) h) [ inl old ↦ inl ((are q).1 old) | inr is ↦ inr is ]),
-)
-
-pub alone_more : {A : Type 0} (sets : List (Vec Atom A)) (i : ℕ) (set : Vec Atom A) (alone new : List Atom) → i < length sets → set ≡ get_or sets i set → ((q : Atom) → Contains new q ↔ (Contains alone q ⊎ (set.items ≡ q ∷ [])))
-    → HasAlone (lists_of (take i sets)) alone → HasAlone (lists_of (take (i + 1) sets)) new
-alone_more {A = A} sets i set alone new inside is more so_far =
-    subst (λ (ss : List (List Atom)). HasAlone ss new) (sym (ap lists_of (take_more sets i set inside ∙ ap (λ (x : Vec Atom A). take i sets ++ x ∷ []) (sym is)) ∙ map_push (λ (x : Vec Atom A). x.items) (take i sets) set))
-    (push_alone (lists_of (take i sets)) set.items alone new so_far more)
-
-pub all_alone : {A : Type 0} (sets : List (Vec Atom A)) (i : ℕ) (alone : List Atom) → length sets ≤ i → HasAlone (lists_of (take i sets)) alone → HasAlone (lists_of sets) alone
-all_alone {A = A} sets i alone past h = subst (λ (ss : List (Vec Atom A)). HasAlone (lists_of ss) alone) (take_all i sets past) h
-
-pub alone_in_order : (sets : List (List Atom)) (alone new : List Atom) → HasAlone sets alone → ((q : Atom) → Contains new q ↔ Contains alone q) → HasAlone sets new
-alone_in_order sets alone new are same q = (λ h. (are q).0 ((same q).0 h), λ h. (same q).1 ((are q).1 h))
-
--- one atom more, or none
-pub none_more : (alone set : List Atom) → length set ≢ 1 → (q : Atom) → Contains alone q ↔ (Contains alone q ⊎ (set ≡ q ∷ []))
-none_more alone set other q = (λ h. inl h, λ h. elim h [ inl old ↦ old | inr is ↦ absurd (other (ap length is)) ])
-
-one_of : (set : List Atom) (atom : Atom) → length set ≡ 1 → atom ≡ get_or set 0 atom → set ≡ atom ∷ []
-one_of [] atom one is = absurd (omega (arith, one))
-one_of (x ∷ []) atom one is = ap (λ (y : Atom). y ∷ []) (sym is)
-one_of (x ∷ y ∷ ys) atom one is = absurd (omega (arith, one))
-
-head_of : (q r : Atom) (qs rs : List Atom) → q ∷ qs ≡ r ∷ rs → q ≡ r
-head_of q r qs rs e = cc
-
-pub one_more : (alone new set : List Atom) (atom copy : Atom) → length set ≡ 1 → atom ≡ get_or set 0 atom → copy ≡ atom → new ≡ alone ++ copy ∷ [] → (q : Atom) → Contains new q ↔ (Contains alone q ⊎ (set ≡ q ∷ []))
-one_more alone new set atom copy one is same added q =
-    let only : set ≡ copy ∷ [] = one_of set atom one is ∙ ap (λ (y : Atom). y ∷ []) (sym same) in (
-      λ h. elim (Contains-push_cases alone copy q (subst (λ (xs : List Atom). Contains xs q) added h)) [
-        | inl old ↦ inl old
-        | inr this ↦ inr (only ∙ ap (λ (y : Atom). y ∷ []) this)
-      ],
-      λ h. subst (λ (xs : List Atom). Contains xs q) (sym added) (elim h [
-        | inl old ↦ Contains-append_left alone (copy ∷ []) q old
-        | inr this ↦ subst (λ (y : Atom). Contains (alone ++ copy ∷ []) y) (head_of copy q [] [] (sym only ∙ this)) (Contains-push alone copy)
-      ]),
+-- those that are alone, in order, meet all where they meet the others
+pub only_of : (demands others : List (List Atom)) (alone ordered : List Atom) → alone ≡ filter_map only_atom demands → others ≡ filter has_no_only demands → IsStrictlySortedBy atom_cmp ordered → ((q : Atom) → Contains ordered q ↔ Contains alone q) → HitsAll others ordered → IsOnlySet demands ordered
+only_of demands others alone ordered one other up same hits = record {
+  ascends = up;
+  alone = λ q h. is_alone demands q (subst (λ (qs : List Atom). Contains qs q) one ((same q).0 h));
+  hits = λ set h. elim (either_part demands set h) [
+    | inl w ↦ (
+      w.0,
+      (same w.0).1 (subst (λ (qs : List Atom). Contains qs w.0) (sym one) (alone_is demands w.0 (subst (λ (xs : List Atom). Contains demands xs) w.1 h))),
+      subst (λ (xs : List Atom). Contains xs w.0) (sym w.1) (here w.0 []),
     )
+    | inr k ↦ hits set (subst (λ (sets : List (List Atom)). Contains sets set) (sym other) k)
+  ];
+}
+
+-- the other demands, and a set for each atom that is alone, are the demands
+pub all_of : (demands others sets : List (List Atom)) (alone ordered : List Atom) → alone ≡ filter_map only_atom demands → others ≡ filter has_no_only demands → ((q : Atom) → Contains ordered q ↔ Contains alone q) → sets ≡ others ++ map (λ (q : Atom). q ∷ []) ordered
+    → (set : List Atom) → Contains sets set ↔ Contains demands set
+all_of demands others sets alone ordered one other same are set = (
+  λ h. elim (Contains-append_cases others (map (λ (q : Atom). q ∷ []) ordered) set (subst (λ (ss : List (List Atom)). Contains ss set) are h)) [
+    | inl k ↦ (from_kept has_no_only demands set (subst (λ (ss : List (List Atom)). Contains ss set) other k)).0
+    | inr k ↦ (let w = from_mapped (λ (q : Atom). q ∷ []) ordered set k in
+        subst (λ (xs : List Atom). Contains demands xs) w.2 (is_alone demands w.0 (subst (λ (qs : List Atom). Contains qs w.0) one ((same w.0).0 w.1))))
+  ],
+  λ h. subst (λ (ss : List (List Atom)). Contains ss set) (sym are) (elim (either_part demands set h) [
+    | inl w ↦ Contains-append_right others (map (λ (q : Atom). q ∷ []) ordered) set (subst (λ (xs : List Atom). Contains (map (λ (q : Atom). q ∷ []) ordered) xs) (sym w.1)
+        (mapped (λ (q : Atom). q ∷ []) ordered w.0 ((same w.0).1 (subst (λ (qs : List Atom). Contains qs w.0) (sym one) (alone_is demands w.0 (subst (λ (xs : List Atom). Contains demands xs) w.1 h))))))
+    | inr k ↦ Contains-append_left others (map (λ (q : Atom). q ∷ []) ordered) set (subst (λ (ss : List (List Atom)). Contains ss set) (sym other) k)
+  ]),
+)
 
 -- ---- in order, each once
 
@@ -141,18 +124,6 @@ hits_push {A = A} sets i set alone inside is met so_far =
     subst (λ (ss : List (List Atom)). HitsAll ss alone) (sym (ap lists_of (take_more sets i set inside ∙ ap (λ (x : Vec Atom A). take i sets ++ x ∷ []) (sym is)) ∙ map_push (λ (x : Vec Atom A). x.items) (take i sets) set))
     (λ other h. elim (Contains-push_cases (lists_of (take i sets)) set.items other h) [ inl old ↦ so_far other old | inr this ↦ subst (λ (xs : List Atom). MeetsSet alone xs) this met ])
 
--- the atom of a set that has no other is alone in it
-pub one_met : {A : Type 0} (sets : List (Vec Atom A)) (i : ℕ) (set : Vec Atom A) (alone : List Atom) → i < length sets → set ≡ get_or sets i set → length set.items ≡ 1 → HasAlone (lists_of sets) alone → MeetsSet alone set.items
-one_met {A = A} sets i set alone inside is one are = at set.items refl
-  where
-    listed : Contains (lists_of sets) set.items
-    listed = mapped (λ (x : Vec Atom A). x.items) sets set (subst (λ (x : Vec Atom A). Contains sets x) (sym is) (Contains-get_or sets i set inside))
-
-    at : (xs : List Atom) → set.items ≡ xs → MeetsSet alone set.items
-    at [] e = absurd (omega (arith, one, ap length e))
-    at (x ∷ []) e = (x, (are x).1 (subst (λ (ys : List Atom). Contains (lists_of sets) ys) e listed), subst (λ (ys : List Atom). Contains ys x) (sym e) (here x []))
-    at (x ∷ y ∷ ys) e = absurd (omega (arith, one, ap length e))
-
 pub hits_all : {A : Type 0} (sets : List (Vec Atom A)) (i : ℕ) (alone : List Atom) → length sets ≤ i → HitsAll (lists_of (take i sets)) alone → HitsAll (lists_of sets) alone
 hits_all {A = A} sets i alone past h = subst (λ (ss : List (Vec Atom A)). HitsAll (lists_of ss) alone) (take_all i sets past) h
 
@@ -171,23 +142,43 @@ one_list : (set : List Atom) → IsStrictlySortedBy (slice_cmp atom_cmp) (set �
 unfolding IsStrictlySortedBy
 one_list set = (tt, tt)
 
-pub found_only : {A : Type 0} (wanted : List (List Atom)) (sets : List (Vec Atom A)) (set : List Atom) (most : ℕ) → lists_of sets ≡ wanted → 1 ≤ most → IsOnlySet (lists_of sets) set
-    → AreLeast wanted (set ∷ []) × AreAllLeast wanted (set ∷ []) × (length (set ∷ []) ≤ most)
-found_only wanted sets set most same some only' =
-    let only : IsOnlySet wanted set = subst (λ (ss : List (List Atom)). IsOnlySet ss set) same only' in (
-      record {
-        least = λ atoms h. subst (λ (xs : List Atom). IsLeastHit wanted xs) (this atoms h) (least_only wanted set only);
-        ascend = λ atoms h. subst (λ (xs : List Atom). IsStrictlySortedBy atom_cmp xs) (this atoms h) only.ascends;
-        ordered = one_list set;
-      },
-      (λ atoms least.
-          let below : (q : Atom) → Contains set q → Contains atoms q = λ q h. (let met = least.hits (q ∷ []) (only.alone q h) in elim (cons_cases q [] met.0 met.2) [
-            | inl is ↦ subst (λ (r : Atom). Contains atoms r) (sym is) met.1
-            | inr none ↦ absurd (nothing met.0 none)
-          ]) in
-          (set, here set [], least.least set below only.hits, below)),
-      omega (arith, some),
-    )
+pub found_only : (wanted : List (List Atom)) (set : List Atom) (most : ℕ) → 1 ≤ most → IsOnlySet wanted set → AreLeast wanted (set ∷ []) × AreAllLeast wanted (set ∷ []) × (length (set ∷ []) ≤ most)
+found_only wanted set most some only = (
+  record {
+    least = λ atoms h. subst (λ (xs : List Atom). IsLeastHit wanted xs) (this atoms h) (least_only wanted set only);
+    ascend = λ atoms h. subst (λ (xs : List Atom). IsStrictlySortedBy atom_cmp xs) (this atoms h) only.ascends;
+    ordered = one_list set;
+  },
+  (λ atoms least.
+      let below : (q : Atom) → Contains set q → Contains atoms q = λ q h. (let met = least.hits (q ∷ []) (only.alone q h) in elim (cons_cases q [] met.0 met.2) [
+        | inl is ↦ subst (λ (r : Atom). Contains atoms r) (sym is) met.1
+        | inr none ↦ absurd (nothing met.0 none)
+      ]) in
+      (set, here set [], least.least set below only.hits, below)),
+  omega (arith, some),
+)
   where
     this : (atoms : List Atom) → Contains (set ∷ []) atoms → set ≡ atoms
     this atoms h = elim (cons_cases set [] atoms h) [ inl is ↦ is | inr none ↦ absurd (nothing atoms none) ]
+
+-- ---- the same sets
+
+hits_same : (a b : List (List Atom)) → ((set : List Atom) → Contains b set → Contains a set) → (hit : List Atom) → HitsAll a hit → HitsAll b hit
+hits_same a b back hit h set c = h set (back set c)
+
+least_same : (a b : List (List Atom)) → ((set : List Atom) → Contains a set ↔ Contains b set) → (hit : List Atom) → IsLeastHit a hit → IsLeastHit b hit
+least_same a b same hit h = record {
+  hits = hits_same a b (λ set c. (same set).1 c) hit h.hits;
+  least = λ part inside hits. h.least part inside (hits_same b a (λ set c. (same set).0 c) part hits);
+}
+
+turned : (a b : List (List Atom)) → ((set : List Atom) → Contains a set ↔ Contains b set) → (set : List Atom) → Contains b set ↔ Contains a set
+turned a b same set = (λ c. (same set).1 c, λ c. (same set).0 c)
+
+are_same : (a b : List (List Atom)) → ((set : List Atom) → Contains a set ↔ Contains b set) → (list : List (List Atom)) → AreLeast a list → AreLeast b list
+are_same a b same list h = record { least = λ atoms c. least_same a b same atoms (h.least atoms c); ascend = h.ascend; ordered = h.ordered }
+
+-- what is found of sets is found of any with the same ones
+pub found_same : (a b : List (List Atom)) (most : ℕ) → ((set : List Atom) → Contains a set ↔ Contains b set) → (found : Found) → IsFound a most found → IsFound b most found
+found_same a b most same (All sets) h = (are_same a b same (lists_of sets.items) h.0, λ atoms least. h.1 atoms (least_same b a (turned a b same) atoms least), h.2)
+found_same a b most same TooMany h = (h.0, are_same a b same h.0 h.1, h.2)

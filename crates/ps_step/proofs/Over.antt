@@ -105,6 +105,6 @@ pub ok_weaker : {T E P Q : Type 0} → (P → Q) → (r : Result T E) → OnOk r
 ok_weaker f (Ok x) h = f h
 ok_weaker f (Err e) h = tt
 
-pub err_weaker : {T : Type 0} (P Q : WideStep → Type 0) → ((w : WideStep) → P w → Q w) → (r : Result T ExpandEnd) → IfErr r (StepEndsBy P) → IfErr r (StepEndsBy Q)
-err_weaker P Q f (Ok x) h = tt
-err_weaker P Q f (Err e) h = ends_weaker P Q f e h
+pub err_so : {T E : Type 0} (P Q : E → Type 0) → ((e : E) → P e → Q e) → (r : Result T E) → IfErr r P → IfErr r Q
+err_so P Q f (Ok x) h = tt
+err_so P Q f (Err e) h = f e h

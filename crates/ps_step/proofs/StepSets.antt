@@ -1,5 +1,5 @@
 -- The least sets of a step are its smallest configurations.
-use Rattle.std.proofs.Common.{◌≡◌, ◌<◌, ◌≤◌, ℕ, List, [], ◌∷◌, ◌++◌, length, get_or, map, refl, sym, ◌∙◌, subst, inl, inr, Contains, Some, None, arith}
+use Rattle.std.proofs.Common.{◌≡◌, ◌<◌, ◌≤◌, ℕ, List, [], ◌∷◌, ◌++◌, length, get_or, map, refl, sym, ap, ◌∙◌, subst, inl, inr, Contains, Some, None, arith}
 use Rattle.std.specs.Prelude.{◌↔◌, slice_get}
 use Rattle.std.specs.Cmp.{IsTotalOrder}
 use Rattle.std.specs.Cmp.Lexicographic.{slice_cmp, lists_total}
@@ -26,14 +26,17 @@ use Rattle.ps_graph.specs.declared.edge.Edge.{Edge}
 use Rattle.ps_graph.specs.declared.graph.Graph.{Graph}
 use Rattle.ps_list.proofs.Members.{nothing, cons_cases, here}
 use Rattle.ps_step.specs.Steps.{GoesBack, IsSmallest}
+use Rattle.ps_demand.proofs.PartedDemands.{all_demanded}
+use Rattle.ps_demand.specs.Candidates.{candidates, demanded_of, pairs_of}
 use Rattle.ps_demand.specs.Demands.{AreTied}
+use Rattle.ps_demand.specs.declared.candidate.Candidate.{Candidate}
 use Rattle.ps_step.specs.Wide.{HasMoreThan, IsNarrow, IsWideBy, IsWrittenStep}
 use Rattle.ps_step.specs.declared.expand_end.TheConstants.{MOST_SETS}
 use Rattle.ps_step.specs.declared.expansion.Successor.{Successor}
 use Rattle.ps_demand.specs.Demands.{demands}
 use Rattle.ps_demand.specs.Hitting.{IsLeastHit}
 use Rattle.ps_step.specs.Places.{IsStepTo, located}
-use Rattle.ps_step.specs.inner.Parts.{AddsStep, IsStep, IsWideAt}
+use Rattle.ps_step.specs.inner.Parts.{AddsStep, AreCandidatesOf, IsStep, IsWideAt}
 use Rattle.ps_step.specs.inner.Sets.{AddsSets, AreAllOf, HasLength, HasThreadsWith, IsFirstOver, IsNamed, IsWideOf, IsWithin, successor_of}
 use Rattle.ps_step.proofs.Going.{located_up, thread_cmp}
 use Rattle.ps_step.proofs.Moved.{goes_same}
@@ -230,19 +233,34 @@ pub no_step : (graph : Graph) (entries : List Entry) (from : Configuration) (edg
     IsStepTo graph from edge thread None → AddsStep graph entries from number thread old old
 no_step graph entries from edge number thread old tied is never = adds_none graph entries from edge number thread tied is old never
 
-pub step_adds : (graph : Graph) (entries : List Entry) (from : Configuration) (edge : Edge) (number thread : ℕ) (old new : List Successor) (at slice : List (ℕ × ℕ)) (atoms : List Atom) → AreTied entries → slice_get graph.edges number ≡ Some edge →
-    IsStepTo graph from edge thread (Some at) → slice ≡ at → atoms ≡ from.atoms → AddsSets (demands entries atoms thread edge.command) slice number thread old new → AddsStep graph entries from number thread old new
-step_adds graph entries from edge number thread old new at slice atoms tied is to viewed same a =
+-- the candidates of an edge demand what its step does
+demanded_is : (entries : List Entry) (atoms : List Atom) (thread command : ℕ) (pairs : List (Atom × Entry)) → pairs ≡ candidates entries atoms command → demanded_of thread command pairs ≡ demands entries atoms thread command
+demanded_is entries atoms thread command pairs same = ap (demanded_of thread command) same ∙ all_demanded thread command entries atoms
+
+pub step_adds : (graph : Graph) (entries : List Entry) (from : Configuration) (edge : Edge) (number thread : ℕ) (old new : List Successor) (at slice : List (ℕ × ℕ)) (pairs : List (Atom × Entry)) → AreTied entries → slice_get graph.edges number ≡ Some edge →
+    IsStepTo graph from edge thread (Some at) → slice ≡ at → pairs ≡ candidates entries from.atoms edge.command → AddsSets (demanded_of thread edge.command pairs) slice number thread old new → AddsStep graph entries from number thread old new
+step_adds graph entries from edge number thread old new at slice pairs tied is to viewed same a =
     adds_sets graph entries from edge number thread tied is at to.0 to.1 old new
     (subst (λ (ps : List (ℕ × ℕ)). AddsSets (demands entries from.atoms thread edge.command) ps number thread old new) viewed
-    (subst (λ (qs : List Atom). AddsSets (demands entries qs thread edge.command) slice number thread old new) same a))
+    (subst (λ (ds : List (List Atom)). AddsSets ds slice number thread old new) (demanded_is entries from.atoms thread edge.command pairs same) a))
 
-pub step_wide : (graph : Graph) (entries : List Entry) (from : Configuration) (edge : Edge) (number thread : ℕ) (at slice : List (ℕ × ℕ)) (atoms : List Atom) → AreTied entries → slice_get graph.edges number ≡ Some edge →
-    IsStepTo graph from edge thread (Some at) → slice ≡ at → atoms ≡ from.atoms → (w : WideStep) → IsNamed number thread (IsWideOf (demands entries atoms thread edge.command) slice) w → IsWideAt graph entries from number thread w
-step_wide graph entries from edge number thread at slice atoms tied is to viewed same w named = (
+pub step_wide : (graph : Graph) (entries : List Entry) (from : Configuration) (edge : Edge) (number thread : ℕ) (at slice : List (ℕ × ℕ)) (pairs : List (Atom × Entry)) → AreTied entries → slice_get graph.edges number ≡ Some edge →
+    IsStepTo graph from edge thread (Some at) → slice ≡ at → pairs ≡ candidates entries from.atoms edge.command → (w : WideStep) → IsNamed number thread (IsWideOf (demanded_of thread edge.command pairs) slice) w → IsWideAt graph entries from number thread w
+step_wide graph entries from edge number thread at slice pairs tied is to viewed same w named = (
   named.0,
   named.1,
   wide_of graph entries from edge number thread tied is at to.0 to.1 w.what w.count
       (subst (λ (ps : List (ℕ × ℕ)). IsWideOf (demands entries from.atoms thread edge.command) ps w.what w.count) viewed
-      (subst (λ (qs : List Atom). IsWideOf (demands entries qs thread edge.command) slice w.what w.count) same named.2)),
+      (subst (λ (ds : List (List Atom)). IsWideOf ds slice w.what w.count) (demanded_is entries from.atoms thread edge.command pairs same) named.2)),
 )
+
+-- ---- the candidates of an edge
+
+pub candidates_are : (graph : Graph) (entries : List Entry) (from : Configuration) (edge : Edge) (number : ℕ) (list slice : List Candidate) (atoms : List Atom) → slice_get graph.edges number ≡ Some edge → atoms ≡ from.atoms → slice ≡ list → pairs_of list ≡ candidates entries atoms edge.command
+    → AreCandidatesOf graph entries from number (pairs_of slice)
+candidates_are graph entries from edge number list slice atoms is same viewed are other other_is =
+    let one : edge ≡ other = some_is edge other (sym is ∙ other_is) in
+    ap pairs_of viewed ∙ are ∙ ap (λ (qs : List Atom). candidates entries qs edge.command) same ∙ ap (λ (e : Edge). candidates entries from.atoms e.command) one
+  where
+    some_is : (x y : Edge) → Some x ≡ Some y → x ≡ y
+    some_is x y e = cc

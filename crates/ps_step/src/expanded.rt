@@ -11,6 +11,7 @@ use crate::expansion::{Expansion, Successor};
 use crate::step::add_step;
 use ps_basis::Shown;
 use ps_config::{Config, next_number};
+use ps_demand::candidates_of;
 use ps_graph::Graph;
 use ps_list::Sequence;
 use ps_triple::Entry;
@@ -26,8 +27,9 @@ use std::alloc::{AllocError, Global};
 /// order. Of minimal sets one more than the most is counted; of atoms and threads those of the first
 /// configuration that is too great.
 ///
-/// In time and memory of a copy of the entries, and for each step of its demands: each atom takes a look-up
-/// by `next_for`, and one for each triple that it finds. The fresh thread steps along all edges that don't
+/// In time and memory of a copy of the entries, and for each edge of what may demand something under its command: each atom
+/// takes a look-up by `next_for`, and one for each triple that it finds, once for all threads. A step then goes over those, and
+/// over the atoms that they demand. The fresh thread steps along all edges that don't
 /// enter the error, so each edge is looked at. A step takes the time of `minimal_hits` of its demands, which
 /// isn't bounded by its answer.
 pub fn expand<B: Shown>(
@@ -144,14 +146,20 @@ fn add_edge<B: Shown>(
     ensures wide { IfErr result
         (StepEndsBy (IsFirstWideAt graph.now (B.entries basis.now) config.now fresh number)) }
 {
+    let command = graph.edges.as_slice()[number as usize].command;
+    let candidates = match candidates_of(alloc, basis, config.atoms(), command) {
+        Ok(candidates) => candidates,
+        Err(end) => return Err(ExpandEnd::Memory(end)),
+    };
+    let found = candidates.as_slice();
     let mut from: u64 = 0;
     while let Some(thread) = next_number(threads, from) {
-        if let Err(end) = add_step(alloc, graph, basis, config, number, thread, successors) {
+        if let Err(end) = add_step(alloc, graph, found, config, number, thread, successors) {
             return Err(end);
         }
         from = u64::from(thread) + 1;
     }
-    add_step(alloc, graph, basis, config, number, fresh, successors)
+    add_step(alloc, graph, found, config, number, fresh, successors)
 }
 
 fn expansion_of<B: Shown>(

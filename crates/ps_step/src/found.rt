@@ -1,16 +1,15 @@
 //! The least hitting sets of demands.
-ghost use Rattle.std.specs.Prelude.{◌≡◌, ◌<◌, ◌∷◌, [], ℕ, List, IfOk, Contains, map, length};
-ghost use Rattle.ps_demand.specs.Demands.{demands};
+ghost use Rattle.std.specs.Prelude.{◌≡◌, ◌<◌, ◌++◌, ◌∷◌, [], ℕ, List, IfOk, Contains, map, length};
+ghost use Rattle.ps_demand.specs.Candidates.{demanded_of, pairs_of};
 ghost use Rattle.ps_demand.specs.Numbered.{named};
 ghost use Rattle.ps_step.specs.declared.expand_end.TheConstants.{MOST_SETS as most_sets};
 ghost use Rattle.ps_step.specs.inner.Found.{IsFound};
 ghost use Rattle.ps_demand.specs.Pools.{lists_of, AreOfPool};
 
 use crate::expand_end::MOST_SETS;
-use crate::only::only_set;
+use crate::only::{meet_all, put_in_order};
 use ps_atom::Atom;
-use ps_basis::Shown;
-use ps_demand::{demands_of, numbered, pool_of};
+use ps_demand::{Candidate, Parted, numbered, parted_demands, pool_of};
 use ps_hit::{Hits, minimal_hits};
 use ps_list::Sequence;
 use std::alloc::{AllocError, Global};
@@ -22,34 +21,51 @@ pub(crate) enum Found {
     TooMany,
 }
 
-/// The least sets of atoms with one of each demand of a step by this thread over an edge with this
-/// command: each in ascending order, in lexicographic order.
-pub(crate) fn least_sets<B: Shown>(
+/// The least sets of atoms with one of each demand of the candidates where the thread runs the command: each in ascending
+/// order, in lexicographic order. Mostly it is one, of the atoms that are demanded alone, and no search is made.
+pub(crate) fn least_sets<'a>(
     alloc: Global,
-    basis: &B,
-    atoms: &[Atom],
+    candidates: &[Candidate<'a>],
     thread: u32,
     command: u32,
 ) -> Result<Found, AllocError>
     ensures { IfOk result
-        (IsFound (demands (B.entries basis.now) atoms.now thread command) most_sets) }
+        (IsFound (demanded_of thread command (pairs_of candidates.now)) most_sets) }
 {
-    let sets = demands_of(alloc, basis, atoms, thread, command)?;
-    let found = sets_found(alloc, sets.as_slice())?;
+    let Parted { mut alone, others } = parted_demands(alloc, candidates, thread, command)?;
+    put_in_order(&mut alone);
+    if meet_all(alone.as_slice(), others.as_slice()) {
+        let sets = one_set(alloc, alone)?;
+        return Ok(Found::All(sets));
+    }
+    let sets = all_sets(alloc, alone, others)?;
+    let found = searched(alloc, sets.as_slice())?;
     Ok(found)
 }
 
-/// The same for these demands. Mostly one set is least, of atoms that are demanded alone.
-fn sets_found(alloc: Global, sets: &[Vec<Atom>]) -> Result<Found, AllocError>
-    ensures { IfOk result (IsFound (lists_of sets.now) most_sets) }
+/// The sets, and one for each atom.
+fn all_sets(
+    alloc: Global,
+    alone: Vec<Atom>,
+    others: Vec<Vec<Atom>>,
+) -> Result<Vec<Vec<Atom>>, AllocError>
+    ensures { IfOk result (λ sets.
+        lists_of sets.items ≡ lists_of others.items ++ map (λ q. q ∷ []) alone.items) }
 {
-    match only_set(alloc, sets)? {
-        Some(set) => Ok(Found::All(one_set(alloc, set)?)),
-        None => {
-            let found = searched(alloc, sets)?;
-            Ok(found)
-        }
+    let mut sets = others;
+    sets.reserve(alone.len())?;
+    for atom in alone {
+        sets.push(one_atom(alloc, atom)?)?;
     }
+    Ok(sets)
+}
+
+fn one_atom(alloc: Global, atom: Atom) -> Result<Vec<Atom>, AllocError>
+    ensures { IfOk result (λ set. set.items ≡ atom ∷ []) }
+{
+    let mut set = Vec::with_capacity(alloc, 1)?;
+    set.push(atom)?;
+    Ok(set)
 }
 
 fn one_set(alloc: Global, set: Vec<Atom>) -> Result<Vec<Vec<Atom>>, AllocError>

@@ -6,8 +6,9 @@ ghost use Rattle.ps_atom.specs.declared.atom.Atom.{Atom as AnAtom};
 ghost use Rattle.ps_config.specs.Forms.{IsConfig};
 ghost use Rattle.ps_demand.specs.Demands.{AreTied};
 ghost use Rattle.ps_step.specs.Wide.{StepEndsBy};
-ghost use Rattle.ps_demand.specs.Demands.{demands};
-ghost use Rattle.ps_step.specs.inner.Parts.{AddsStep, IsWideAt};
+ghost use Rattle.ps_demand.specs.Candidates.{demanded_of, pairs_of};
+ghost use Rattle.ps_triple.specs.declared.entry.Entry.{Entry};
+ghost use Rattle.ps_step.specs.inner.Parts.{AddsStep, AreCandidatesOf, IsWideAt};
 ghost use Rattle.ps_demand.specs.Pools.{lists_of};
 ghost use Rattle.ps_step.specs.inner.Sets.{AddsSets, IsNamed, IsPastBy, IsWideOf, IsWithin, successor_of};
 
@@ -17,35 +18,37 @@ use crate::expansion::Successor;
 use crate::found::{Found, least_sets};
 use crate::sizes::{first_atoms_over, first_threads_over};
 use ps_atom::Atom;
-use ps_basis::Shown;
 use ps_config::{Config, WideName, WideStep};
+use ps_demand::Candidate;
 use ps_graph::Graph;
 use std::alloc::{AllocError, Global};
 
-/// Adds the smallest configurations that are steps back along the edge of this number by the thread.
-pub(crate) fn add_step<B: Shown>(
+/// Adds the smallest configurations that are steps back along the edge of this number by the thread, under any entries that
+/// have these candidates.
+pub(crate) fn add_step<'a>(
     alloc: Global,
     graph: &Graph,
-    basis: &B,
+    candidates: &[Candidate<'a>],
     config: &Config,
     number: u32,
     thread: u32,
     successors: &mut Vec<Successor>,
 ) -> Result<(), ExpandEnd>
-    requires tied { AreTied (B.entries basis.now) }
-    requires exists { number < length graph.now.edges }
-    ensures adds { OnOk result (AddsStep graph.now (B.entries basis.now) config.now number thread
+    requires { number < length graph.now.edges }
+    ensures adds { OnOk result ((entries : List Entry) → AreTied entries
+        → AreCandidatesOf graph.now entries config.now number (pairs_of candidates.now)
+        → AddsStep graph.now entries config.now number thread
         successors.old.items successors.new.items) }
-    ensures wide { IfErr result
-        (StepEndsBy (IsWideAt graph.now (B.entries basis.now) config.now number thread)) }
+    ensures wide { IfErr result (λ end. (entries : List Entry) → AreTied entries
+        → AreCandidatesOf graph.now entries config.now number (pairs_of candidates.now)
+        → StepEndsBy (IsWideAt graph.now entries config.now number thread) end) }
 {
     let edge = &graph.edges.as_slice()[number as usize];
     match step_to(alloc, graph, config, edge, thread) {
         Ok(None) => Ok(()),
         Ok(Some(at)) => add_least(
             alloc,
-            basis,
-            config.atoms(),
+            candidates,
             edge.command,
             number,
             thread,
@@ -57,10 +60,9 @@ pub(crate) fn add_step<B: Shown>(
 }
 
 /// Adds the least sets that meet the demands of a step, at these locations.
-fn add_least<B: Shown>(
+fn add_least<'a>(
     alloc: Global,
-    basis: &B,
-    atoms: &[Atom],
+    candidates: &[Candidate<'a>],
     command: u32,
     number: u32,
     thread: u32,
@@ -68,12 +70,12 @@ fn add_least<B: Shown>(
     successors: &mut Vec<Successor>,
 ) -> Result<(), ExpandEnd>
     requires { IsStrictlyIncreasing (map (λ p. p.0) at.now) }
-    ensures adds { OnOk result (AddsSets (demands (B.entries basis.now) atoms.now thread command)
+    ensures adds { OnOk result (AddsSets (demanded_of thread command (pairs_of candidates.now))
         at.now number thread successors.old.items successors.new.items) }
     ensures wide { IfErr result (StepEndsBy (IsNamed number thread
-        (IsWideOf (demands (B.entries basis.now) atoms.now thread command) at.now))) }
+        (IsWideOf (demanded_of thread command (pairs_of candidates.now)) at.now))) }
 {
-    match least_sets(alloc, basis, atoms, thread, command).map_err(ExpandEnd::Memory)? {
+    match least_sets(alloc, candidates, thread, command).map_err(ExpandEnd::Memory)? {
         Found::TooMany => Err(ExpandEnd::Wide(WideStep {
             edge: number,
             thread,

@@ -1,11 +1,14 @@
 -- Lists of successors that grow.
-use Rattle.std.specs.Prelude.{◌≡◌, ◌<◌, ℕ, List, ◌++◌, Contains}
+use Rattle.std.specs.Prelude.{◌≡◌, ◌<◌, ℕ, List, ◌++◌, Contains, Some, slice_get}
 use Rattle.std.specs.Cmp.Lexicographic.{slice_cmp}
 use Rattle.std.specs.List.Sorted.{IsStrictlySortedBy}
 use Rattle.std.specs.declared.cmp.Ordering.TheVariants.{Less}
 use Rattle.ps_atom.specs.Atoms.{atom_cmp}
+use Rattle.ps_atom.specs.declared.atom.Atom.{Atom}
 use Rattle.ps_config.specs.Configurations.{Configuration, threads_at}
 use Rattle.ps_config.specs.declared.wide.WideStep.{WideStep}
+use Rattle.ps_demand.specs.Candidates.{candidates}
+use Rattle.ps_graph.specs.declared.edge.Edge.{Edge}
 use Rattle.ps_graph.specs.declared.graph.Graph.{Graph}
 use Rattle.ps_step.specs.Steps.{IsSmallest}
 use Rattle.ps_step.specs.Successors.{IsSame, IsTried, step_cmp, successor_cmp}
@@ -19,6 +22,10 @@ pub record AreSmallestOf (graph : Graph) (entries : List Entry) (from : Configur
   pub are : (s : Successor) → Contains list s → Step s.edge s.thread × IsSmallest graph entries from s.edge s.thread s.config
   pub every : (number thread : ℕ) (to : Configuration) → Step number thread → IsSmallest graph entries from number thread to →
       (s : Successor) × Contains list s × (s.edge ≡ number) × (s.thread ≡ thread) × IsSame s.config to
+
+-- the pairs are the candidates of the edge of this number
+abbrev pub AreCandidatesOf : Graph → List Entry → Configuration → ℕ → List (Atom × Entry) → Type 0
+AreCandidatesOf graph entries from number pairs = (edge : Edge) → slice_get graph.edges number ≡ Some edge → pairs ≡ candidates entries from.atoms edge.command
 
 -- this step alone
 abbrev pub IsStep : ℕ → ℕ → ℕ → ℕ → Type 0
