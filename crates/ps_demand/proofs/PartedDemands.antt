@@ -1,12 +1,14 @@
 -- What candidates demand, one after another and in two parts.
-use Rattle.std.proofs.Common.{◌≡◌, ◌≢◌, ◌<◌, ◌+◌, ℕ, Bool, true, false, ◌&&◌, ◌==◌, List, [], ◌∷◌, ◌++◌, ◌⊎◌, inl, inr, take, length, get_or, refl, sym, ap, ◌∙◌, subst, Contains, Option, Some, None, if◌then◌else◌}
+use Rattle.std.proofs.Common.{◌≡◌, ◌≢◌, ◌<◌, ◌+◌, ℕ, Bool, true, false, ◌&&◌, ◌==◌, List, [], ◌∷◌, ◌++◌, ◌⊎◌, inl, inr, map, take, length, get_or, refl, sym, ap, ap₂, ◌∙◌, subst, Contains, Option, Some, None, IfSome, if◌then◌else◌}
+use Rattle.std.proofs.Math.Bool.{not}
+use Rattle.std.proofs.Math.Dec.{eqb}
 use Rattle.std.specs.List.{filter, filter_map, cons_option}
-use Rattle.std.specs.Option.{option_to_list}
-use Rattle.std.proofs.lemmas.Bool.{true≢false}
-use Rattle.std.proofs.lemmas.List.{map_push, take_more}
+use Rattle.std.specs.Option.{option_eq, option_to_list}
+use Rattle.std.proofs.lemmas.Bool.{eqb-true, false≢true, true≢false}
+use Rattle.std.proofs.lemmas.List.{flat_map_more, map_push, take_more}
 use Rattle.std.proofs.lemmas.List.Elements.{filter-append, filter_map-append}
 use Rattle.ps_atom.specs.declared.atom.Atom.{Atom}
-use Rattle.ps_demand.specs.Candidates.{candidate, candidates, demanded_of, has_no_only, only_atom, pairs_of}
+use Rattle.ps_demand.specs.Candidates.{candidates, demanded_of, has_no_only, is_for, only_atom, pairs_of}
 use Rattle.ps_demand.specs.declared.candidate.Candidate.{Candidate}
 use Rattle.ps_demand.specs.Demands.{demand, demands, is_renaming}
 use Rattle.ps_triple.specs.declared.entry.Entry.{Entry}
@@ -24,20 +26,23 @@ Pair = Atom × Entry
 none_demanded : (thread command : ℕ) (q : Atom) (t : Triple) → ((t.command == command) && (t.post.predicate == q.predicate)) ≡ false → demand thread command q (OfTriple t) ≡ None
 none_demanded thread command q t e = not_chosen ((t.command == command) && (t.post.predicate == q.predicate)) (is_renaming (0 ∷ t.post.threads) (thread ∷ q.threads)) _ (λ h. true≢false (sym h ∙ e))
 
-of_atom : (thread command : ℕ) (q : Atom) (entries : List Entry) → demanded_of thread command (filter_map (candidate command q) entries) ≡ filter_map (demand thread command q) entries
+of_atom : (thread command : ℕ) (q : Atom) (entries : List Entry) → demanded_of thread command (map (λ (e : Entry). (q, e)) (filter (is_for command q.predicate) entries)) ≡ filter_map (demand thread command q) entries
 of_atom thread command q [] = refl
 of_atom thread command q (OfInitial i ∷ entries) = of_atom thread command q entries
 of_atom thread command q (OfTriple t ∷ entries) = by_test ((t.command == command) && (t.post.predicate == q.predicate)) refl (of_atom thread command q entries)
   where
-    by_test : (b : Bool) → ((t.command == command) && (t.post.predicate == q.predicate)) ≡ b → demanded_of thread command (filter_map (candidate command q) entries) ≡ filter_map (demand thread command q) entries
-        → demanded_of thread command (cons_option (if b then Some (q, OfTriple t) else None) (filter_map (candidate command q) entries)) ≡ cons_option (demand thread command q (OfTriple t)) (filter_map (demand thread command q) entries)
+    rest : List Entry
+    rest = filter (is_for command q.predicate) entries
+
+    by_test : (b : Bool) → ((t.command == command) && (t.post.predicate == q.predicate)) ≡ b → demanded_of thread command (map (λ (e : Entry). (q, e)) rest) ≡ filter_map (demand thread command q) entries
+        → demanded_of thread command (map (λ (e : Entry). (q, e)) (if b then OfTriple t ∷ rest else rest)) ≡ cons_option (demand thread command q (OfTriple t)) (filter_map (demand thread command q) entries)
     by_test true e h = ap (cons_option (demand thread command q (OfTriple t))) h
     by_test false e h = h ∙ ap (λ (o : Option (List Atom)). cons_option o (filter_map (demand thread command q) entries)) (sym (none_demanded thread command q t e))
 
 pub all_demanded : (thread command : ℕ) (entries : List Entry) (atoms : List Atom) → demanded_of thread command (candidates entries atoms command) ≡ demands entries atoms thread command
 all_demanded thread command entries [] = refl
 all_demanded thread command entries (q ∷ atoms) =
-    filter_map-append (λ (p : Pair). demand thread command p.0 p.1) (filter_map (candidate command q) entries) (candidates entries atoms command)
+    filter_map-append (λ (p : Pair). demand thread command p.0 p.1) (map (λ (e : Entry). (q, e)) (filter (is_for command q.predicate) entries)) (candidates entries atoms command)
     ∙ ap (λ (sets : List (List Atom)). sets ++ demanded_of thread command (candidates entries atoms command)) (of_atom thread command q entries)
     ∙ ap (λ (sets : List (List Atom)). filter_map (demand thread command q) entries ++ sets) (all_demanded thread command entries atoms)
 
@@ -72,6 +77,28 @@ pair_at list i c inside is =
 
 pub pair_pushed : (list new : List Candidate) (c : Candidate) → new ≡ list ++ c ∷ [] → pairs_of new ≡ pairs_of list ++ (c.atom.now, c.entry.now) ∷ []
 pair_pushed list new c added = ap pairs_of added ∙ map_push (λ (x : Candidate). (x.atom.now, x.entry.now)) list c
+
+-- ---- one atom more
+
+pub candidates_more : (entries : List Entry) (atoms : List Atom) (command i : ℕ) (q : Atom) (known : List Entry) (was later : List Pair) → i < length atoms → q ≡ get_or atoms i q
+    → known ≡ filter (is_for command q.predicate) entries → was ≡ candidates entries (take i atoms) command → later ≡ was ++ map (λ (e : Entry). (q, e)) known
+    → later ≡ candidates entries (take (i + 1) atoms) command
+candidates_more entries atoms command i q known was later inside is known_is was_is added =
+    let of : Atom → List Pair = λ (atom : Atom). map (λ (e : Entry). (atom, e)) (filter (is_for command atom.predicate) entries) in
+    added ∙ (ap₂ (λ (pairs : List Pair) (es : List Entry). pairs ++ map (λ (e : Entry). (q, e)) es) was_is known_is ∙ (flat_map_more of [] (take i atoms) q
+    ∙ ap (λ (qs : List Atom). candidates entries qs command) (sym (take_more atoms i q inside ∙ ap (λ (x : Atom). take i atoms ++ x ∷ []) (sym is)))))
+
+-- what is known for the last predicate is known for the atom's, if that is the last
+pub known_for : (P : ℕ → Type 0) (last : Option ℕ) (p : ℕ) → last ≡ Some p → IfSome last P → P p
+known_for P last p is known = subst (λ (o : Option ℕ). IfSome o P) is known
+
+pub last_is : (last : Option ℕ) (p : ℕ) → false ≡ not (option_eq eqb last (Some p)) → last ≡ Some p
+last_is None p e = absurd (false≢true e)
+last_is (Some x) p e = ap Some (eqb-true x p (unturned (eqb x p) e))
+  where
+    unturned : (b : Bool) → false ≡ not b → b ≡ true
+    unturned true h = refl
+    unturned false h = h
 
 -- ---- two parts of all
 
